@@ -1,5 +1,6 @@
 -- Modules, wires and states that were made one by one are an assembled network.
-use Rattle.std.specs.Prelude.{◌≡◌, ℕ, ◌+◌, ◌<◌, ◌≤◌, List, [], ◌∷◌, ◌++◌, All, length, map, replicate, Option, Some, slice_get, refl}
+use Rattle.std.specs.Prelude.{◌≡◌, ℕ, ◌+◌, ◌<◌, ◌≤◌, List, [], ◌∷◌, ◌++◌, All, length, map, replicate, Option, Some}
+use Rattle.std.specs.Prelude.{slice_get, refl}
 use Rattle.std.proofs.Common.{zero, suc, arith, sym, ap, subst, ◌∙◌, length-append}
 use Rattle.std.proofs.lemmas.List.{map-append}
 use Rattle.std.proofs.lemmas.List.Elements.{All-head, All-tail}
@@ -40,7 +41,8 @@ get_right [] ys i j e = let same : j ≡ i = omega arith in ap (slice_get ys) sa
 get_right (x ∷ xs) ys i zero e = absurd (omega arith)
 get_right (x ∷ xs) ys i (suc j) e = get_right xs ys i j (omega arith)
 
-row_tables : (z n : ℕ) (row : List Module) → length row ≡ n → All (IsCellFor z) row → map module_table row ≡ replicate n (cell_table z)
+row_tables : (z n : ℕ) (row : List Module) → length row ≡ n → All (IsCellFor z) row
+    → map module_table row ≡ replicate n (cell_table z)
 row_tables z zero [] count cells = refl
 row_tables z (suc n) [] count cells = absurd (omega arith)
 row_tables z zero (x ∷ row) count cells = absurd (omega arith)
@@ -76,20 +78,25 @@ module _ (m : Quadruples) (l : Limits) (v : Controlled) (items : List Module) (a
 
   -- how long the lists are
   one_count : length are.one ≡ 1 + cells_in l 1
-  one_count = let count = are.first.count in ap (λ (xs : List Module). length xs) one_is ∙ (let e = length-append (Control v ∷ []) are.first.row in omega arith)
+  one_count = let count = are.first.count in ap (λ (xs : List Module). length xs) one_is
+      ∙ (let e = length-append (Control v ∷ []) are.first.row in omega arith)
 
   two_count : length are.two ≡ 1 + cells_in l 1 + cells_in l 2
-  two_count = let count = are.second.count in let before = one_count in ap (λ (xs : List Module). length xs) two_is ∙ (let e = length-append are.one are.second.row in omega arith)
+  two_count = let count = are.second.count in let before = one_count in ap (λ (xs : List Module). length xs) two_is
+      ∙ (let e = length-append are.one are.second.row in omega arith)
 
   pub whole_count : length items ≡ 1 + cells_in l 1 + cells_in l 2 + cells_in l 3
-  whole_count = let count = are.third.count in let before = two_count in ap (λ (xs : List Module). length xs) are.third.is ∙ (let e = length-append are.two are.third.row in omega arith)
+  whole_count = let count = are.third.count in let before = two_count in ap (λ (xs : List Module). length xs)
+      are.third.is ∙ (let e = length-append are.two are.third.row in omega arith)
 
   -- the tables of all modules
   pub tables_are : map module_table items ≡ module_tables m l (machine_table v.machine)
   tables_are =
       ap (map module_table) are.third.is ∙ map-append module_table are.two are.third.row
-      ∙ ap (λ ts. ts ++ map module_table are.third.row) (ap (map module_table) two_is ∙ map-append module_table are.one are.second.row)
-      ∙ ap (λ ts. ts ++ map module_table are.second.row ++ map module_table are.third.row) (ap (map module_table) one_is ∙ map-append module_table (Control v ∷ []) are.first.row)
+      ∙ ap (λ ts. ts ++ map module_table are.third.row) (ap (map module_table) two_is
+      ∙ map-append module_table are.one are.second.row)
+      ∙ ap (λ ts. ts ++ map module_table are.second.row ++ map module_table are.third.row)
+      (ap (map module_table) one_is ∙ map-append module_table (Control v ∷ []) are.first.row)
       ∙ (λ i. machine_table v.machine ∷ first i ++ second i ++ third i)
     where
       first : map module_table are.first.row ≡ replicate (cells_in l 1) (cell_table (symbol_count m 1))
@@ -109,28 +116,36 @@ module _ (m : Quadruples) (l : Limits) (v : Controlled) (items : List Module) (a
       ∙ ap (λ xs. slice_get xs 0) two_is ∙ get_left are.one are.second.row 0 (omega arith)
       ∙ ap (λ xs. slice_get xs 0) one_is
 
-  found : (t : ℕ) (o : Option Module) (p : Option Module) → o ≡ p → IsCellAt (symbol_count m t) p → (c : CellTable) × (o ≡ Some (Cell c)) × (c.symbols ≡ symbol_count m t)
+  found : (t : ℕ) (o : Option Module) (p : Option Module) → o ≡ p → IsCellAt (symbol_count m t) p
+      → (c : CellTable) × (o ≡ Some (Cell c)) × (c.symbols ≡ symbol_count m t)
   found t o p same at = (at.cell, same ∙ at.is, at.symbols)
 
-  pub cells_are : (t p : ℕ) → IsTape t → p < cells_in l t → (c : CellTable) × (slice_get items (first_cell l t + p) ≡ Some (Cell c)) × (c.symbols ≡ symbol_count m t)
+  pub cells_are : (t p : ℕ) → IsTape t → p < cells_in l t → (c : CellTable)
+      × (slice_get items (first_cell l t + p) ≡ Some (Cell c)) × (c.symbols ≡ symbol_count m t)
   cells_are zero p tape low = absurd (let some = tape.low in omega arith)
   cells_are (suc zero) p tape low =
       let a = one_count in let b = two_count in let n = are.first.count in
       found 1 (slice_get items (first_cell l 1 + p)) (slice_get are.first.row p)
-      (ap (λ xs. slice_get xs (first_cell l 1 + p)) are.third.is ∙ get_left are.two are.third.row (first_cell l 1 + p) (omega arith)
-      ∙ ap (λ xs. slice_get xs (first_cell l 1 + p)) two_is ∙ get_left are.one are.second.row (first_cell l 1 + p) (omega arith)
-      ∙ ap (λ xs. slice_get xs (first_cell l 1 + p)) one_is ∙ get_right (Control v ∷ []) are.first.row p (first_cell l 1 + p) (omega arith))
+      (ap (λ xs. slice_get xs (first_cell l 1 + p)) are.third.is
+      ∙ get_left are.two are.third.row (first_cell l 1 + p) (omega arith)
+      ∙ ap (λ xs. slice_get xs (first_cell l 1 + p)) two_is ∙ get_left are.one are.second.row (first_cell l 1 + p)
+      (omega arith)
+      ∙ ap (λ xs. slice_get xs (first_cell l 1 + p)) one_is ∙ get_right (Control v ∷ []) are.first.row p
+      (first_cell l 1 + p) (omega arith))
       (row_cell (symbol_count m 1) are.first.row p (omega arith) are.first.cells)
   cells_are (suc (suc zero)) p tape low =
       let a = one_count in let b = two_count in let n = are.second.count in
       found 2 (slice_get items (first_cell l 2 + p)) (slice_get are.second.row p)
-      (ap (λ xs. slice_get xs (first_cell l 2 + p)) are.third.is ∙ get_left are.two are.third.row (first_cell l 2 + p) (omega arith)
-      ∙ ap (λ xs. slice_get xs (first_cell l 2 + p)) two_is ∙ get_right are.one are.second.row p (first_cell l 2 + p) (omega arith))
+      (ap (λ xs. slice_get xs (first_cell l 2 + p)) are.third.is
+      ∙ get_left are.two are.third.row (first_cell l 2 + p) (omega arith)
+      ∙ ap (λ xs. slice_get xs (first_cell l 2 + p)) two_is ∙ get_right are.one are.second.row p (first_cell l 2 + p)
+      (omega arith))
       (row_cell (symbol_count m 2) are.second.row p (omega arith) are.second.cells)
   cells_are (suc (suc (suc zero))) p tape low =
       let b = two_count in let n = are.third.count in
       found 3 (slice_get items (first_cell l 3 + p)) (slice_get are.third.row p)
-      (ap (λ xs. slice_get xs (first_cell l 3 + p)) are.third.is ∙ get_right are.two are.third.row p (first_cell l 3 + p) (omega arith))
+      (ap (λ xs. slice_get xs (first_cell l 3 + p)) are.third.is
+      ∙ get_right are.two are.third.row p (first_cell l 3 + p) (omega arith))
       (row_cell (symbol_count m 3) are.third.row p (omega arith) are.third.cells)
   cells_are (suc (suc (suc (suc t)))) p tape low = absurd (let high = tape.high in omega arith)
 
@@ -153,7 +168,10 @@ module _ (m : Quadruples) (l : Limits) (c : Configuration ℕ) (names : List Con
       control = machine_table v.machine;
       is_control = is.table;
       tables = tables_are m l v net.elements are;
-      wires = λ from to. ((λ h. wires.sound from to (sym (targets from) ∙ h)), (λ h. targets from ∙ wires.complete from to h));
+      wires = λ from to. (
+        (λ h. wires.sound from to (sym (targets from) ∙ h)),
+        (λ h. targets from ∙ wires.complete from to h),
+      );
     };
     few = few;
     config = λ i. record { states = states i; place = place i; steps = steps i };

@@ -1,5 +1,6 @@
 -- The states in which the cells of a tape start.
-use Rattle.std.specs.Prelude.{◌≡◌, ◌≢◌, ℕ, ◌+◌, ◌-◌, ◌<◌, ◌≤◌, ℤ, pos, negsuc, ◌-ℤ◌, List, [], ◌∷◌, ◌++◌, length, map, slice_index}
+use Rattle.std.specs.Prelude.{◌≡◌, ◌≢◌, ℕ, ◌+◌, ◌-◌, ◌<◌, ◌≤◌, ℤ, pos, negsuc, ◌-ℤ◌, List, [], ◌∷◌, ◌++◌, length, map}
+use Rattle.std.specs.Prelude.{slice_index}
 use Rattle.std.specs.List.{range_with_len}
 use Rattle.std.specs.Ordering.{int_eq}
 use Rattle.std.proofs.Common.{suc, arith, sym, ap, ◌∙◌, append_assoc, inl, inr}
@@ -36,14 +37,16 @@ letter_state z left j k word e =
     beside z word (pos j -ℤ pos left) (λ h. omega (arith, ints)) ∙ ap (letter_at word) place
 
 -- a cell right of the head
-pub right_state : (z left j : ℕ) (word : List ℕ) → left ≤ j → (j ≡ left → ⊥) → start_state z left word j ≡ slice_index word (j - left - 1)
+pub right_state : (z left j : ℕ) (word : List ℕ) → left ≤ j → (j ≡ left → ⊥)
+    → start_state z left word j ≡ slice_index word (j - left - 1)
 right_state z left j word low other = elim (cases_lt left j) [
   | inl past ↦ letter_state z left j (j - left - 1) word (omega arith)
   | inr none ↦ absurd (other (omega arith))
 ]
 
 -- beyond the word
-pub blank_state : (z left j : ℕ) (word : List ℕ) → left ≤ j → (j ≡ left → ⊥) → length word ≤ j - left - 1 → start_state z left word j ≡ 0
+pub blank_state : (z left j : ℕ) (word : List ℕ) → left ≤ j → (j ≡ left → ⊥) → length word ≤ j - left - 1
+    → start_state z left word j ≡ 0
 blank_state z left j word low other past = right_state z left j word low other ∙ get_or_past word (j - left - 1) 0 past
 
 -- a cell left of the head
@@ -53,9 +56,11 @@ left_state z left j word low =
     beside z word (pos j -ℤ pos left) (λ h. omega (arith, ints)) ∙ ap (letter_at word) place
 
 -- one cell more
-pub cells_pushed : (old now new : List ℕ) (z left n : ℕ) (word : List ℕ) → now ≡ old ++ map (start_state z left word) (range_with_len 0 n) → new ≡ now ++ (start_state z left word n ∷ [])
+pub cells_pushed : (old now new : List ℕ) (z left n : ℕ) (word : List ℕ)
+    → now ≡ old ++ map (start_state z left word) (range_with_len 0 n) → new ≡ now ++ (start_state z left word n ∷ [])
     → new ≡ old ++ map (start_state z left word) (range_with_len 0 (n + 1))
 cells_pushed old now new z left n word before more =
     let count : 0 + n ≡ n = omega arith in
-    more ∙ ap (λ xs. xs ++ (start_state z left word n ∷ [])) before ∙ append_assoc old (map (start_state z left word) (range_with_len 0 n)) (start_state z left word n ∷ [])
+    more ∙ ap (λ xs. xs ++ (start_state z left word n ∷ [])) before
+    ∙ append_assoc old (map (start_state z left word) (range_with_len 0 n)) (start_state z left word n ∷ [])
     ∙ ap (λ xs. old ++ xs) (sym (map-range_with_len_more (start_state z left word) 0 n n count))

@@ -14,7 +14,8 @@ use Rattle.bn_assembly.specs.Assembled.{Assembled, IsAssembledFrom}
 use Rattle.bn_assembly.specs.declared.module.Module.TheVariants.{Control, Cell}
 
 -- the first cell of a tape has the tape's symbols
-pub first_symbols : (a : Assembled) (t e : ℕ) (c : CellTable) → IsTape t → e ≡ first_cell a.limits t → slice_get a.net.elements e ≡ Some (Cell c)
+pub first_symbols : (a : Assembled) (t e : ℕ) (c : CellTable) → IsTape t → e ≡ first_cell a.limits t
+    → slice_get a.net.elements e ≡ Some (Cell c)
     → (m : Quadruples) (start : Configuration ℕ) (names : List ControlState)
     → IsAssembledFrom m a.limits start names a → c.symbols ≡ symbol_count m t
 first_symbols a t e c tape first there m start names is =
@@ -34,7 +35,8 @@ module _ (a : Assembled) (t e : ℕ) where
       slice_get_within a.net.elements e (Cell cell.0) (ap (slice_get a.net.elements) place ∙ cell.1)
 
   -- and it is no control
-  pub no_control : (v : Controlled) → IsTape t → e ≡ first_cell a.limits t → slice_get a.net.elements e ≡ Some (Control v)
+  pub no_control : (v : Controlled) → IsTape t → e ≡ first_cell a.limits t
+      → slice_get a.net.elements e ≡ Some (Control v)
       → (m : Quadruples) (start : Configuration ℕ) (names : List ControlState)
       → IsAssembledFrom m a.limits start names a → ⊥
   no_control v tape first there m start names is =
@@ -60,6 +62,8 @@ letters_size m (suc t) z within at = record {
 }
 
 -- each tape has a symbol
-pub some_letters : (m : Quadruples) → length m.symbols ≡ 3 → IsWithinLimits m → (t : ℕ) → IsTape t → 1 ≤ symbol_count m t
+pub some_letters : (m : Quadruples) → length m.symbols ≡ 3 → IsWithinLimits m → (t : ℕ) → IsTape t
+    → 1 ≤ symbol_count m t
 some_letters m three within zero tape = absurd (let low = tape.low in omega arith)
-some_letters m three within (suc t) tape = let high = tape.high in let low : t < length m.symbols = omega arith in within.some_symbols t 0 low
+some_letters m three within (suc t) tape = let high = tape.high in let low : t < length m.symbols =
+    omega arith in within.some_symbols t 0 low

@@ -26,8 +26,8 @@ use bn_quad::{QuadMachine, Uniform};
 use std::alloc::Global;
 
 /// The network of a uniform machine for these windows, at the start with this word on tape 1. `WordOutside` comes
-/// exactly where the word is longer than the right side of tape 1; else `Elements` comes only where the flat board would
-/// have more than `MOST_ELEMENTS` elements, and `Ok` only where it wouldn't.
+/// exactly where the word is longer than the right side of tape 1; else `Elements` comes only where the flat board
+/// would have more than `MOST_ELEMENTS` elements, and `Ok` only where it wouldn't.
 pub fn assemble(
     alloc: Global,
     machine: &Uniform,

@@ -23,9 +23,21 @@ line_or_none (b ∷ bytes) = by_byte (cases_eq b 10) (line_or_none bytes)
     with_byte line apart all (suc i) d inside = all i d (omega (arith, inside))
 
     by_byte : (b ≡ 10) ⊎ (b ≢ 10) → HasLine bytes ⊎ IsInLine bytes → HasLine (b ∷ bytes) ⊎ IsInLine (b ∷ bytes)
-    by_byte (inl ends) rest = inl (record { line = []; behind = bytes; begins = λ i. ends i ∷ bytes; in_line = λ i d inside. absurd (omega (arith, inside)) })
+    by_byte (inl ends) rest = inl (record {
+      line = [];
+      behind = bytes;
+      begins = λ i. ends i
+          ∷ bytes;
+      in_line = λ i d inside. absurd (omega (arith, inside));
+    })
     by_byte (inr apart) (inl h) =
-        inl (record { line = b ∷ h.line; behind = h.behind; begins = λ i. b ∷ h.begins i; in_line = with_byte h.line apart h.in_line })
+        inl (record {
+          line = b ∷ h.line;
+          behind = h.behind;
+          begins = λ i. b
+              ∷ h.begins i;
+          in_line = with_byte h.line apart h.in_line;
+        })
     by_byte (inr apart) (inr none) = inr (with_byte bytes apart none)
 
 -- what is left begins with the mark, or it doesn't
@@ -34,7 +46,8 @@ mark_or_none [] = inr (λ rest e. cc e)
 mark_or_none (a ∷ []) = inr (λ rest e. cc e)
 mark_or_none (a ∷ b ∷ script) = by_bytes (cases_eq a 37) (cases_eq b 10)
   where
-    by_bytes : (a ≡ 37) ⊎ (a ≢ 37) → (b ≡ 10) ⊎ (b ≢ 10) → ((rest : List ℕ) × (a ∷ b ∷ script ≡ 37 ∷ 10 ∷ rest)) ⊎ IsNoMark (a ∷ b ∷ script)
+    by_bytes : (a ≡ 37) ⊎ (a ≢ 37) → (b ≡ 10) ⊎ (b ≢ 10) → ((rest : List ℕ) × (a ∷ b ∷ script ≡ 37 ∷ 10 ∷ rest))
+        ⊎ IsNoMark (a ∷ b ∷ script)
     by_bytes (inl first) (inl second) = inl (script, λ i. first i ∷ second i ∷ script)
     by_bytes (inr apart) _ = inr (λ rest e. apart (let same : a ≡ 37 = cc in same))
     by_bytes (inl first) (inr apart) = inr (λ rest e. apart (let same : b ≡ 10 = cc in same))
@@ -59,7 +72,8 @@ from_here (suc n) bytes front left few looked = elim (mark_or_none left) [
     | inr none ↦ inr (all_looked bytes front left looked none)
     | inl h ↦
         let long : length left ≡ length (h.line ++ 10 ∷ h.behind) = (λ i. length (h.begins i)) in
-        from_here n bytes (front ++ (h.line ++ 10 ∷ [])) h.behind (omega (arith, few, long, length-append h.line (10 ∷ h.behind)))
+        from_here n bytes (front ++ (h.line ++ 10 ∷ [])) h.behind
+        (omega (arith, few, long, length-append h.line (10 ∷ h.behind)))
         (line_looked bytes front left h.line h.behind looked h.begins h.in_line no_mark)
   ]
 ]

@@ -98,16 +98,17 @@ fn number(digits: &[u8]) -> Result<u64, Digits>
     Ok(value)
 }
 
-// The value of a run of digits, or the last value of the type where it is above that.
+// The value of a run of digits, or some number above 2^62 where the value is above that.
 fn capped_value(digits: &[u8]) -> u64
     requires { AreDigits digits.now }
-    ensures { result ≡ min (digits_value 10 digits.now) (2 ^ 64 - 1) }
+    ensures { min result (greatest + 1) ≡ min (digits_value 10 digits.now) (greatest + 1) }
 {
     let mut value: u64 = 0;
     for digit in digits {
-        value = value
-            .saturating_mul(10)
-            .saturating_add(u64::from(*digit - b'0'));
+        if value > GREATEST / 8 {
+            return GREATEST + 1;
+        }
+        value = 10 * value + u64::from(*digit - b'0');
     }
     value
 }

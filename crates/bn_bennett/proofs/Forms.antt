@@ -1,5 +1,6 @@
 -- The printed names are in their forms.
-use Rattle.std.proofs.Common.{◌≡◌, ◌≤◌, ◌<◌, ◌+◌, ◌∷◌, ◌++◌, ◌∙◌, ◌&&◌, ℕ, suc, zero, Bool, true, false, List, [], length, Some, slice_get, refl, sym, ap, subst, arith, map, length-append, decimal}
+use Rattle.std.proofs.Common.{◌≡◌, ◌≤◌, ◌<◌, ◌+◌, ◌∷◌, ◌++◌, ◌∙◌, ◌&&◌, ℕ, suc, zero, Bool, true, false, List, []}
+use Rattle.std.proofs.Common.{length, Some, slice_get, refl, sym, ap, subst, arith, map, length-append, decimal}
 use Rattle.std.specs.Prelude.{nat_le}
 use Rattle.std.specs.List.{list_all, range_with_len}
 use Rattle.std.proofs.lemmas.Bool.Decides.{nat_tests}
@@ -16,7 +17,8 @@ use Rattle.bn_lists.specs.Lists.{nth}
 use Rattle.bn_qtable.specs.Named.{AreNamed, HasNames}
 use Rattle.bn_bennett_laws.specs.Laws.{ListHasNames}
 use Rattle.bn_bennett_laws.specs.declared.name.Name.{Name}
-use Rattle.bn_bennett_laws.specs.declared.name.Name.TheVariants.{Compute, ComputeWithin, GoRight, CopyLetter, GoLeft, PassLetter, Retrace, RetraceWithin}
+use Rattle.bn_bennett_laws.specs.declared.name.Name.TheVariants.{Compute, ComputeWithin, GoRight, CopyLetter, GoLeft}
+use Rattle.bn_bennett_laws.specs.declared.name.Name.TheVariants.{PassLetter, Retrace, RetraceWithin}
 use Rattle.bn_table.specs.Rows.{FitsTable, IsTable, Named}
 use Rattle.bn_bennett.specs.Printed.{mark, translation_names, number_names, one_byte, print_of, bennett_state_text}
 use Rattle.bn_bennett.specs.Translation.{IsTranslation, Translation}
@@ -67,9 +69,16 @@ state_form name low =
     let p = (print_of name).primed in
     let short : length (decimal n) ≤ 5 = length-decimal-le 5 n (omega arith) (omega arith) (omega arith) in
     let m : length (mark p) ≤ 1 = (name_mark p).1 in
-    let long : length (decimal n ++ mark p) ≡ length (decimal n) + length (mark p) = length-append (decimal n) (mark p) in
+    let long : length (decimal n ++ mark p) ≡ length (decimal n) + length (mark p) =
+    length-append (decimal n) (mark p) in
     let bytes : list_all is_name_byte (bennett_state_text name) ≡ true =
-    rw (letter_byte name, list_all-append is_name_byte (decimal n) (mark p), name_digits (decimal n) (decimal_digits n (omega arith)), (name_mark p).0) refl
+    rw (
+      letter_byte name,
+      list_all-append is_name_byte (decimal n) (mark p),
+      name_digits (decimal n)
+          (decimal_digits n (omega arith)),
+      (name_mark p).0,
+    ) refl
     in
     let least : nat_le 1 (length (bennett_state_text name)) ≡ true = grind (arith, nat_tests) in
     let most : nat_le (length (bennett_state_text name)) 32 ≡ true = grind (arith, nat_tests) in
@@ -85,11 +94,13 @@ number_form n low =
 
 -- ---- all names of a kind
 
-pub states_form : (names : List Name) → ((n : ℕ) (q : Name) → slice_get names n ≡ Some q → (print_of q).number ≤ 12002) → list_all is_state_name (map bennett_state_text names) ≡ true
+pub states_form : (names : List Name) → ((n : ℕ) (q : Name) → slice_get names n ≡ Some q → (print_of q).number ≤ 12002)
+    → list_all is_state_name (map bennett_state_text names) ≡ true
 states_form [] all = refl
 states_form (q ∷ qs) all = rw (state_form q (all 0 q refl)) (states_form qs (λ n r at. all (suc n) r at))
 
-pub letters_form : (letters : List ℕ) → list_all is_symbol_byte letters ≡ true → list_all is_symbol (map one_byte letters) ≡ true
+pub letters_form : (letters : List ℕ) → list_all is_symbol_byte letters ≡ true
+    → list_all is_symbol (map one_byte letters) ≡ true
 letters_form [] e = refl
 letters_form (b ∷ bs) e =
     let both = both_true (is_symbol_byte b) (list_all is_symbol_byte bs) e in
@@ -104,15 +115,24 @@ numbers_form count h = range_form 1 count (omega arith)
 
 -- ---- so each has its name
 
-named_all : (form : List ℕ → Bool) (names : List (List ℕ)) (count : ℕ) → count ≡ length names → list_all form names ≡ true → AreNamed form names count
+named_all : (form : List ℕ → Bool) (names : List (List ℕ)) (count : ℕ) → count ≡ length names
+    → list_all form names ≡ true → AreNamed form names count
 named_all form names count e all =
     let P : ℕ → Type 0 = AreNamed form names in
-    subst P (sym e) (record { each = λ n h. (_, slice_get-get_or names n [] h, all-at form names n _ all (slice_get-get_or names n [] h)) })
+    subst P (sym e) (record {
+      each = λ n h. (
+        _,
+        slice_get-get_or names n [] h,
+        all-at form names n _ all
+            (slice_get-get_or names n [] h),
+      );
+    })
 
 some_once : {m n : ℕ} → Some m ≡ Some n → m ≡ n
 some_once e = cc
 
-module _ (t : Named) (s : Translation) (machine : IsMachine t.machine) (table : IsTable t) (fits : FitsTable t.machine) (listed : ListHasNames) (h : IsTranslation t.machine s) where
+module _ (t : Named) (s : Translation) (machine : IsMachine t.machine) (table : IsTable t) (fits : FitsTable t.machine)
+    (listed : ListHasNames) (h : IsTranslation t.machine s) where
   pub all_states_form : list_all is_state_name (translation_names t s).states ≡ true
   all_states_form = states_form s.names (λ n q at. name_bound t.machine s n q machine fits listed h at)
 
@@ -127,8 +147,13 @@ module _ (t : Named) (s : Translation) (machine : IsMachine t.machine) (table : 
 
   pub has_names : HasNames s.machine (translation_names t s)
   has_names = record {
-    states = named_all is_state_name (translation_names t s).states s.machine.states (h.states ∙ sym (length-map s.names bennett_state_text)) all_states_form;
-    one = λ z at. named_all is_symbol (translation_names t s).one z (some_once (sym at ∙ ap (λ (zs : List ℕ). nth zs 1) h.symbols) ∙ count_letters) all_letters_form;
-    two = λ z at. named_all is_symbol (translation_names t s).two z (some_once (sym at ∙ ap (λ (zs : List ℕ). nth zs 2) h.symbols) ∙ sym (length-number_names (length t.machine.quints))) all_numbers_form;
-    three = λ z at. named_all is_symbol (translation_names t s).three z (some_once (sym at ∙ ap (λ (zs : List ℕ). nth zs 3) h.symbols) ∙ count_letters) all_letters_form;
+    states = named_all is_state_name (translation_names t s).states s.machine.states
+        (h.states ∙ sym (length-map s.names bennett_state_text)) all_states_form;
+    one = λ z at. named_all is_symbol (translation_names t s).one z
+        (some_once (sym at ∙ ap (λ (zs : List ℕ). nth zs 1) h.symbols) ∙ count_letters) all_letters_form;
+    two = λ z at. named_all is_symbol (translation_names t s).two z
+        (some_once (sym at ∙ ap (λ (zs : List ℕ). nth zs 2) h.symbols)
+        ∙ sym (length-number_names (length t.machine.quints))) all_numbers_form;
+    three = λ z at. named_all is_symbol (translation_names t s).three z
+        (some_once (sym at ∙ ap (λ (zs : List ℕ). nth zs 3) h.symbols) ∙ count_letters) all_letters_form;
   }

@@ -3,7 +3,8 @@ use Rattle.std.proofs.Common.{◌≡◌, refl, List, [], ◌∷◌, ◌||◌}
 use Rattle.std.specs.List.{list_any}
 use Rattle.bn_bennett_laws.specs.contracts.name.NamePartialEq.TheImpl.{eq-value}
 use Rattle.bn_bennett_laws.specs.declared.name.Name.{Name}
-use Rattle.bn_bennett_laws.specs.declared.name.Name.TheVariants.{Compute, ComputeWithin, GoRight, CopyLetter, GoLeft, PassLetter, Retrace, RetraceWithin}
+use Rattle.bn_bennett_laws.specs.declared.name.Name.TheVariants.{Compute, ComputeWithin, GoRight, CopyLetter, GoLeft}
+use Rattle.bn_bennett_laws.specs.declared.name.Name.TheVariants.{PassLetter, Retrace, RetraceWithin}
 use Rattle.bn_bennett.specs.Translation.{is_same}
 
 derived_same : (a b : Name) → eq-value.it a b ≡ is_same a b

@@ -43,7 +43,8 @@ in_any y xs h = by_place h.place h.stands
     by_place (suc i) e = any-at is_same is_same-Decides y xs i e
 
 some_symbols : (p : Program) → IsMachine p → 0 < p.symbols
-some_symbols p h = let first = h.in_range 0 (record { state = 0; read = 0; write = 0; shift = Stay; next = 0 }) h.some in omega (arith, first.read)
+some_symbols p h = let first = h.in_range 0 (record { state = 0; read = 0; write = 0; shift = Stay; next = 0 }) h.some
+    in omega (arith, first.read)
 
 module _ (order : List Name) where
   abbrev code : Name → ℕ
@@ -55,7 +56,9 @@ module _ (order : List Name) where
   returns_to : (x : Name) → list_any (is_same x) order ≡ true → back (code x) ≡ x
   returns_to x h = get_or_from_slice_get order (code x) x GoRight (numbered order x h)
 
-  renamed_twice : (rs : List (Rule Name)) → ((r : Rule Name) → IsIn rs r → (list_any (is_same r.from) order ≡ true) × (list_any (is_same r.to) order ≡ true)) → rename back (rename code rs) ≡ rs
+  renamed_twice : (rs : List (Rule Name)) → ((r : Rule Name) → IsIn rs r
+      → (list_any (is_same r.from) order ≡ true) × (list_any (is_same r.to) order ≡ true))
+      → rename back (rename code rs) ≡ rs
   renamed_twice [] h = refl
   renamed_twice (r ∷ rs) h =
       let here = h r (in_head r rs) in
@@ -64,11 +67,15 @@ module _ (order : List Name) where
       let rest = renamed_twice rs (λ s i. h s (in_tail r s rs i)) in
       λ i. record { from = from i; one = r.one; two = r.two; three = r.three; to = to i } ∷ rest i
 
-  ranged : (p : Program) (rs : List (Rule Name)) → ((r : Rule Name) → IsIn rs r → IsRuleInRange (length order) (symbols_of p) (renamed code r)) → All (IsRuleInRange (length order) (symbols_of p)) (rename code rs)
+  ranged : (p : Program) (rs : List (Rule Name)) → ((r : Rule Name) → IsIn rs r
+      → IsRuleInRange (length order) (symbols_of p) (renamed code r))
+      → All (IsRuleInRange (length order) (symbols_of p)) (rename code rs)
   ranged p [] h = λ k e inside. absurd (omega (arith, inside))
   ranged p (r ∷ rs) h = by_place (ranged p rs (λ s i. h s (in_tail r s rs i)))
     where
-      by_place : All (IsRuleInRange (length order) (symbols_of p)) (rename code rs) → (k : ℕ) (e : Rule ℕ) → k < length (rename code (r ∷ rs)) → IsRuleInRange (length order) (symbols_of p) (get_or (rename code (r ∷ rs)) k e)
+      by_place : All (IsRuleInRange (length order) (symbols_of p)) (rename code rs) → (k : ℕ) (e : Rule ℕ)
+          → k < length (rename code (r ∷ rs)) → IsRuleInRange (length order) (symbols_of p)
+          (get_or (rename code (r ∷ rs)) k e)
       by_place rest zero e inside = h r (in_head r rs)
       by_place rest (suc k) e inside = rest k e (omega (arith, inside))
 
@@ -77,8 +84,17 @@ there ranges lengths p standard fits = (
   record { names = order; final_state = final_of p.quints; machine = machine },
   record {
     names = refl;
-    rules = renamed_twice order (bennett p) (λ r i. (known r.from (from_in (bennett p) r i), known r.to (to_in (bennett p) r i)));
-    machine = record { some = rw count (omega arith); few = rw count (omega (arith, fits.quints, fits.symbols)); tapes = refl; in_range = in_range };
+    rules = renamed_twice order (bennett p) (λ r i. (
+      known r.from (from_in (bennett p) r i),
+      known r.to
+          (to_in (bennett p) r i),
+    ));
+    machine = record {
+      some = rw count (omega arith);
+      few = rw count (omega (arith, fits.quints, fits.symbols));
+      tapes = refl;
+      in_range = in_range;
+    };
     states = refl;
     symbols = refl;
     final_state = refl;
@@ -101,4 +117,9 @@ there ranges lengths p standard fits = (
     count = length-map (bennett p) (renamed (code order)) ∙ lengths p (some_symbols p standard.machine)
 
     in_range : All (IsRuleInRange (length order) (symbols_of p)) (rename (code order) (bennett p))
-    in_range = ranged order p (bennett p) (λ r i. record { from = below r.from (from_in (bennett p) r i); deeds = ranges p standard.machine r i; to = below r.to (to_in (bennett p) r i) })
+    in_range = ranged order p (bennett p) (λ r i. record {
+      from = below r.from (from_in (bennett p) r i);
+      deeds = ranges
+          p standard.machine r i;
+      to = below r.to (to_in (bennett p) r i);
+    })

@@ -35,14 +35,24 @@ module _ {X : Type 0} where
 
   -- what holds of one entry, or of two, holds of each entry of their list
   pub each_of_one : (P : X → Type 0) (a : X) → P a → (x : X) → IsIn (a ∷ []) x → P x
-  each_of_one P a one x h = elim (in_cases a x [] h) [ inl same ↦ subst P same one | inr none ↦ absurd (not_in_empty x none) ]
+  each_of_one P a one x h = elim (in_cases a x [] h) [
+    | inl same ↦ subst P same one
+    | inr none
+        ↦ absurd (not_in_empty x none)
+  ]
 
   pub each_of_two : (P : X → Type 0) (a b : X) → P a → P b → (x : X) → IsIn (a ∷ b ∷ []) x → P x
-  each_of_two P a b one two x h = elim (in_cases a x (b ∷ []) h) [ inl same ↦ subst P same one | inr further ↦ each_of_one P b two x further ]
+  each_of_two P a b one two x h = elim (in_cases a x (b ∷ []) h)
+      [ inl same ↦ subst P same one | inr further ↦ each_of_one P b two x further ]
 
   pub in_left : (xs ys : List X) (x : X) → IsIn xs x → IsIn (xs ++ ys) x
   in_left [] ys x h = absurd (not_in_empty x h)
-  in_left (y ∷ xs) ys x h = elim (in_cases y x xs h) [ inl same ↦ subst (IsIn (y ∷ (xs ++ ys))) same (in_head y (xs ++ ys)) | inr further ↦ in_tail y x (xs ++ ys) (in_left xs ys x further) ]
+  in_left (y ∷ xs) ys x h = elim (in_cases y x xs h) [
+    | inl same
+        ↦ subst (IsIn (y ∷ (xs ++ ys))) same (in_head y (xs ++ ys))
+    | inr further
+        ↦ in_tail y x (xs ++ ys) (in_left xs ys x further)
+  ]
 
   pub in_right : (xs ys : List X) (x : X) → IsIn ys x → IsIn (xs ++ ys) x
   in_right [] ys x h = h
@@ -54,7 +64,11 @@ module _ {X : Type 0} where
   in_append (y ∷ xs) ys x h =
       elim (in_cases y x (xs ++ ys) h) [
         | inl same ↦ inl (subst (IsIn (y ∷ xs)) same (in_head y xs))
-        | inr further ↦ elim (in_append xs ys x further) [ inl left ↦ inl (in_tail y x xs left) | inr right ↦ inr right ]
+        | inr further ↦ elim (in_append xs ys x further) [
+          | inl left ↦ inl (in_tail y x xs left)
+          | inr right
+              ↦ inr right
+        ]
       ]
 
   pub in_reverse : (xs : List X) (x : X) → IsIn xs x → IsIn (reverse xs) x
@@ -72,12 +86,21 @@ module _ {X : Type 0} where
           let low_reversed : j < length (reverse xs) = omega (arith, length-reverse xs) in
           let mirrored : length xs - 1 - j ≡ k = omega arith in
           let found : get_or xs k x ≡ x = some_once (sym (slice_get-get_or xs k x inside) ∙ e) in
-          record { place = suc j; stands = slice_get-get_or (reverse xs) j x low_reversed ∙ ap Some (get_or-reverse xs j x low ∙ ap (λ i. get_or xs i x) mirrored ∙ found) }
+          record {
+            place = suc j;
+            stands = slice_get-get_or (reverse xs) j x low_reversed
+                ∙ ap Some (get_or-reverse xs j x low ∙ ap (λ i. get_or xs i x) mirrored ∙ found);
+          }
 
 module _ {X Y : Type 0} where
   pub in_map : (f : X → Y) (xs : List X) (x : X) → IsIn xs x → IsIn (map f xs) (f x)
   in_map f [] x h = absurd (not_in_empty x h)
-  in_map f (y ∷ xs) x h = elim (in_cases y x xs h) [ inl same ↦ subst (λ z. IsIn (f y ∷ map f xs) (f z)) same (in_head (f y) (map f xs)) | inr further ↦ in_tail (f y) (f x) (map f xs) (in_map f xs x further) ]
+  in_map f (y ∷ xs) x h = elim (in_cases y x xs h) [
+    | inl same
+        ↦ subst (λ z. IsIn (f y ∷ map f xs) (f z)) same (in_head (f y) (map f xs))
+    | inr further
+        ↦ in_tail (f y) (f x) (map f xs) (in_map f xs x further)
+  ]
 
   pub from_map : (f : X → Y) (xs : List X) (y : Y) → IsIn (map f xs) y → (x : X) × IsIn xs x × (f x ≡ y)
   from_map f [] y h = absurd (not_in_empty y h)
@@ -95,7 +118,8 @@ module _ {X Y : Type 0} where
         | inr further ↦ in_right (f w) (flat_map f xs) y (in_flat_map f xs x y further k)
       ]
 
-  pub from_flat_map : (f : X → List Y) (xs : List X) (y : Y) → IsIn (flat_map f xs) y → (x : X) × IsIn xs x × IsIn (f x) y
+  pub from_flat_map : (f : X → List Y) (xs : List X) (y : Y) → IsIn (flat_map f xs) y
+      → (x : X) × IsIn xs x × IsIn (f x) y
   from_flat_map f [] y h = absurd (not_in_empty y h)
   from_flat_map f (x ∷ xs) y h =
       elim (in_append (f x) (flat_map f xs) y h) [

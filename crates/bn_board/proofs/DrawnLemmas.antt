@@ -1,5 +1,6 @@
 -- A board's wires as they are drawn, in the words of this crate.
-use Rattle.std.specs.Prelude.{◌≡◌, ℕ, ◌+◌, ◌<◌, ◌≤◌, slice_index_or, List, [], ◌∷◌, ◌++◌, length, Some, None, slice_get, refl}
+use Rattle.std.specs.Prelude.{◌≡◌, ℕ, ◌+◌, ◌<◌, ◌≤◌, slice_index_or, List, [], ◌∷◌, ◌++◌, length, Some, None, slice_get}
+use Rattle.std.specs.Prelude.{refl}
 use Rattle.std.proofs.Common.{zero, suc, sym, subst}
 use Rattle.bn_circuits.specs.Circuits.{line_at, target}
 use Rattle.bn_circuits.specs.declared.line.Line.{Line}
@@ -15,7 +16,8 @@ use Rattle.bn_board_spec.proofs.ListedLemmas.{within}
 use Rattle.bn_assembly.specs.Modules.{module_table}
 use Rattle.bn_assembly.specs.declared.module.Module.{Module}
 use Rattle.bn_board.specs.BoardWires.{AreBases, IsBetween, IsDrawn, IsOwnWire, IsWireBefore, module_circuit}
-use Rattle.bn_board.proofs.WireLemmas.{all_wired, base_of, line_added, line_skipped, module_at, module_ended, no_own, own_added, owned}
+use Rattle.bn_board.proofs.WireLemmas.{all_wired, base_of, line_added, line_skipped, module_at, module_ended, no_own}
+use Rattle.bn_board.proofs.WireLemmas.{own_added, owned}
 
 -- what is drawn of a list is drawn of it behind others, from which it stays apart
 abbrev pub IsAdded : EndList → List Wire → EndList → Type 0
@@ -44,17 +46,20 @@ fitting-drawn : (Leads : Line → Line → Type 0) (count : ℕ) (old : EndList)
     → AreFitting count vs → AreFitting old.elements vs
 fitting-drawn Leads count old vs d fitting = subst (λ n. AreFitting n vs) (sym d.drawn.ends.elements) fitting
 
-module _ (net : Parts Module) (bases : List ℕ) (most : ℕ) (modules : AreModules (module_circuit net)) (few : size (module_circuit net).tables ≤ most)
+module _ (net : Parts Module) (bases : List ℕ) (most : ℕ) (modules : AreModules (module_circuit net))
+    (few : size (module_circuit net).tables ≤ most)
     (are : AreBases (module_circuit net).tables bases) where
   -- a board's wire leads from one of its lines to one
   board_fitting : (w : Wire) → IsBoardWire (module_circuit net) w.from w.to
-      → (w.from.element < size (module_circuit net).tables) × (w.from.line < 4) × (w.to.element < size (module_circuit net).tables) × (w.to.line < 4)
+      → (w.from.element < size (module_circuit net).tables) × (w.from.line < 4)
+      × (w.to.element < size (module_circuit net).tables) × (w.to.line < 4)
   board_fitting w is =
       let lines = within (module_circuit net) modules w.from w.to is in
       (lines.from_element, lines.from_line, lines.to_element, lines.to_line)
 
   bank_fitting : (m : ℕ) (x : Module) (bs : List Wire) → slice_get net.elements m ≡ Some x
-      → AreWiresOf (IsBankWire (slice_index_or bases m 0) (module_table x)) bs → AreFitting (size (module_circuit net).tables) bs
+      → AreWiresOf (IsBankWire (slice_index_or bases m 0) (module_table x)) bs
+      → AreFitting (size (module_circuit net).tables) bs
   bank_fitting m x bs is bank = record {
     fits = λ i w h.
         let wire : IsBankWire (base (module_circuit net).tables m) (module_table x) w.from w.to =
@@ -63,7 +68,8 @@ module _ (net : Parts Module) (bases : List ℕ) (most : ℕ) (modules : AreModu
         board_fitting w (own m (module_table x) (module_at net m most x modules few is).has wire);
   }
 
-  between_fitting : (m o : ℕ) (x : Module) (to : Line) (w : Wire) → slice_get net.elements m ≡ Some x → target net.wires (line_at m o) ≡ Some to
+  between_fitting : (m o : ℕ) (x : Module) (to : Line) (w : Wire) → slice_get net.elements m ≡ Some x
+      → target net.wires (line_at m o) ≡ Some to
       → IsBetween (module_circuit net) m o to w → AreFitting (size (module_circuit net).tables) (w ∷ [])
   between_fitting m o x to w is leads wire =
       let has = (module_at net m most x modules few is).has in
@@ -73,10 +79,12 @@ module _ (net : Parts Module) (bases : List ℕ) (most : ℕ) (modules : AreModu
       record { fits = each on_board }
     where
       each : IsBoardWire (module_circuit net) w.from w.to → (i : ℕ) (v : Wire) → slice_get (w ∷ []) i ≡ Some v
-          → (v.from.element < size (module_circuit net).tables) × (v.from.line < 4) × (v.to.element < size (module_circuit net).tables) × (v.to.line < 4)
+          → (v.from.element < size (module_circuit net).tables) × (v.from.line < 4)
+          × (v.to.element < size (module_circuit net).tables) × (v.to.line < 4)
       each on_board zero v h =
           let same : w ≡ v = cc in
-          subst (λ (u : Wire). (u.from.element < size (module_circuit net).tables) × (u.from.line < 4) × (u.to.element < size (module_circuit
+          subst (λ (u : Wire). (u.from.element < size (module_circuit net).tables) × (u.from.line < 4)
+          × (u.to.element < size (module_circuit
           net).tables) × (u.to.line < 4)) same (board_fitting w on_board)
       each on_board (suc i) v h = absurd (cc)
 
@@ -94,14 +102,16 @@ module _ (net : Parts Module) (bases : List ℕ) (most : ℕ) (modules : AreModu
       → IsDrawn (IsOwnWire (module_circuit net) m) (size (module_circuit net).tables) old
       → AreWiresOf (IsBankWire (slice_index_or bases m 0) (module_table x)) bs → AreFitting old.elements bs
   bank-AreFitting m x old bs is before bank =
-      fitting-drawn (IsOwnWire (module_circuit net) m) (size (module_circuit net).tables) old bs before (bank_fitting m x bs is bank)
+      fitting-drawn (IsOwnWire (module_circuit net) m) (size (module_circuit net).tables) old bs before
+      (bank_fitting m x bs is bank)
 
   pub bank_drawn : (m : ℕ) (x : Module) (old new : EndList) (bs : List Wire) → slice_get net.elements m ≡ Some x
       → IsDrawn (IsOwnWire (module_circuit net) m) (size (module_circuit net).tables) old
       → AreWiresOf (IsBankWire (slice_index_or bases m 0) (module_table x)) bs → IsAdded old bs new
       → IsDrawn (IsOwnWire (module_circuit net) (m + 1)) (size (module_circuit net).tables) new
   bank_drawn m x old new bs is before bank added =
-      drawn_more (IsOwnWire (module_circuit net) m) (IsOwnWire (module_circuit net) (m + 1)) (size (module_circuit net).tables) old new bs before
+      drawn_more (IsOwnWire (module_circuit net) m) (IsOwnWire (module_circuit net) (m + 1))
+      (size (module_circuit net).tables) old new bs before
       (own_added net bases most modules few are m x before.wires bs is before.are bank) added
 
   -- all of them are the first wires of the board
@@ -109,7 +119,8 @@ module _ (net : Parts Module) (bases : List ℕ) (most : ℕ) (modules : AreModu
       → IsDrawn (IsOwnWire (module_circuit net) m) (size (module_circuit net).tables) draft
       → IsDrawn (IsWireBefore (module_circuit net) 0 0) (size (module_circuit net).tables) draft
   all_banks_drawn m draft all so =
-      drawn_as (IsOwnWire (module_circuit net) m) (IsWireBefore (module_circuit net) 0 0) (size (module_circuit net).tables) draft so
+      drawn_as (IsOwnWire (module_circuit net) m) (IsWireBefore (module_circuit net) 0 0)
+      (size (module_circuit net).tables) draft so
       (owned net bases most modules few are m so.wires all so.are)
 
   -- after a line that no wire leaves, and after one that a wire leaves
@@ -117,34 +128,44 @@ module _ (net : Parts Module) (bases : List ℕ) (most : ℕ) (modules : AreModu
       → IsDrawn (IsWireBefore (module_circuit net) m o) (size (module_circuit net).tables) draft
       → IsDrawn (IsWireBefore (module_circuit net) m (o + 1)) (size (module_circuit net).tables) draft
   skip_drawn m o draft none so =
-      drawn_as (IsWireBefore (module_circuit net) m o) (IsWireBefore (module_circuit net) m (o + 1)) (size (module_circuit net).tables) draft so
+      drawn_as (IsWireBefore (module_circuit net) m o) (IsWireBefore (module_circuit net) m (o + 1))
+      (size (module_circuit net).tables) draft so
       (line_skipped net bases most modules few are m o so.wires none so.are)
 
-  pub between-AreFitting : (m o : ℕ) (x : Module) (to : Line) (w : Wire) (old : EndList) → slice_get net.elements m ≡ Some x
+  pub between-AreFitting : (m o : ℕ) (x : Module) (to : Line) (w : Wire) (old : EndList)
+      → slice_get net.elements m ≡ Some x
       → target net.wires (line_at m o) ≡ Some to → IsBetween (module_circuit net) m o to w
-      → IsDrawn (IsWireBefore (module_circuit net) m o) (size (module_circuit net).tables) old → AreFitting old.elements (w ∷ [])
+      → IsDrawn (IsWireBefore (module_circuit net) m o) (size (module_circuit net).tables) old
+      → AreFitting old.elements (w ∷ [])
   between-AreFitting m o x to w old is leads wire so =
-      fitting-drawn (IsWireBefore (module_circuit net) m o) (size (module_circuit net).tables) old (w ∷ []) so (between_fitting m o x to w is leads wire)
+      fitting-drawn (IsWireBefore (module_circuit net) m o) (size (module_circuit net).tables) old (w ∷ []) so
+      (between_fitting m o x to w is leads wire)
 
-  pub between_drawn : (m o : ℕ) (x : Module) (to : Line) (w : Wire) (old new : EndList) → slice_get net.elements m ≡ Some x
+  pub between_drawn : (m o : ℕ) (x : Module) (to : Line) (w : Wire) (old new : EndList)
+      → slice_get net.elements m ≡ Some x
       → target net.wires (line_at m o) ≡ Some to → IsBetween (module_circuit net) m o to w
-      → IsDrawn (IsWireBefore (module_circuit net) m o) (size (module_circuit net).tables) old → IsAdded old (w ∷ []) new
+      → IsDrawn (IsWireBefore (module_circuit net) m o) (size (module_circuit net).tables) old
+      → IsAdded old (w ∷ []) new
       → IsDrawn (IsWireBefore (module_circuit net) m (o + 1)) (size (module_circuit net).tables) new
   between_drawn m o x to w old new is leads wire so added =
-      drawn_more (IsWireBefore (module_circuit net) m o) (IsWireBefore (module_circuit net) m (o + 1)) (size (module_circuit net).tables) old new
+      drawn_more (IsWireBefore (module_circuit net) m o) (IsWireBefore (module_circuit net) m (o + 1))
+      (size (module_circuit net).tables) old new
       (w ∷ []) so (line_added net bases most modules few are m o x to w so.wires is leads wire so.are) added
 
   -- after a module's last line, and after the last module
-  pub module_drawn : (m o : ℕ) (x : Module) (draft : EndList) → slice_get net.elements m ≡ Some x → (module_table x).outputs ≤ o
+  pub module_drawn : (m o : ℕ) (x : Module) (draft : EndList) → slice_get net.elements m ≡ Some x
+      → (module_table x).outputs ≤ o
       → IsDrawn (IsWireBefore (module_circuit net) m o) (size (module_circuit net).tables) draft
       → IsDrawn (IsWireBefore (module_circuit net) (m + 1) 0) (size (module_circuit net).tables) draft
   module_drawn m o x draft is past so =
-      drawn_as (IsWireBefore (module_circuit net) m o) (IsWireBefore (module_circuit net) (m + 1) 0) (size (module_circuit net).tables) draft so
+      drawn_as (IsWireBefore (module_circuit net) m o) (IsWireBefore (module_circuit net) (m + 1) 0)
+      (size (module_circuit net).tables) draft so
       (module_ended net bases most modules few are m o x so.wires is past so.are)
 
   pub board_drawn : (m : ℕ) (draft : EndList) → m ≡ length net.elements
       → IsDrawn (IsWireBefore (module_circuit net) m 0) (size (module_circuit net).tables) draft
       → IsDrawn (IsBoardWire (module_circuit net)) (size (module_circuit net).tables) draft
   board_drawn m draft all so =
-      drawn_as (IsWireBefore (module_circuit net) m 0) (IsBoardWire (module_circuit net)) (size (module_circuit net).tables) draft so
+      drawn_as (IsWireBefore (module_circuit net) m 0) (IsBoardWire (module_circuit net))
+      (size (module_circuit net).tables) draft so
       (all_wired net bases most modules few are m so.wires all so.are)

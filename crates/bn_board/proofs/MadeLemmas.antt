@@ -22,14 +22,17 @@ module _ (a : Assembled) (kept : IsKept a) (layout : Layout) (is : IsLayoutOf a 
   pub count-size : elements_of layout ≡ size (network_of a).tables
   count-size = layout-size a layout kept is ∙ sym (kept-size a kept)
 
-  module _ (net : Parts Rotary) (config : Config) (start end : Line) (count : ℕ) (board : IsBoard (network_of a) (rotary_circuit net))
-      (at_start : config ≡ start_by (network_of a).tables a.config.states) (elements : length net.elements ≡ count) (count_is : count ≡ elements_of
+  module _ (net : Parts Rotary) (config : Config) (start end : Line) (count : ℕ)
+      (board : IsBoard (network_of a) (rotary_circuit net))
+      (at_start : config ≡ start_by (network_of a).tables a.config.states) (elements : length net.elements ≡ count)
+      (count_is : count ≡ elements_of
       layout) (order : AreInOrder net.wires) where
     abbrev made : Flattened
     made = record { net = net; config = config; start = start; end = end; layout = layout }
 
     good : IsConfig (rotary_circuit net) config
-    good = subst (IsConfig (rotary_circuit net)) (sym at_start) (start-IsConfig net (network_of a).tables a.config.states (elements ∙ count_is ∙
+    good = subst (IsConfig (rotary_circuit net)) (sym at_start)
+        (start-IsConfig net (network_of a).tables a.config.states (elements ∙ count_is ∙
         count-size) (states-counted a kept) (kept-some a kept))
 
     pub made-kept : IsBoardKept made

@@ -1,5 +1,6 @@
 -- At which places a moment can be, and the search for its state.
-use Rattle.std.specs.Prelude.{◌≡◌, ◌≢◌, ◌↔◌, ◌==◌, ◌&&◌, ℕ, ◌+◌, ◌-◌, ◌*◌, ◌<◌, ◌≤◌, Bool, true, false, List, [], ◌∷◌, length, position, is_none, Option, Some, None, slice_get, refl}
+use Rattle.std.specs.Prelude.{◌≡◌, ◌≢◌, ◌↔◌, ◌==◌, ◌&&◌, ℕ, ◌+◌, ◌-◌, ◌*◌, ◌<◌, ◌≤◌, Bool, true, false, List, [], ◌∷◌}
+use Rattle.std.specs.Prelude.{length, position, is_none, Option, Some, None, slice_get, refl}
 use Rattle.std.specs.List.{slice_index_or}
 use Rattle.std.proofs.Common.{zero, suc, arith, sym, ap, subst, ◌∙◌, inl, inr}
 use Rattle.std.proofs.lemmas.Bool.{cases_lt}
@@ -15,14 +16,16 @@ use Rattle.bn_element.specs.Rotary.{west}
 use Rattle.bn_machine.specs.Outcome.{Limits}
 use Rattle.bn_network.specs.Controls.{lines_before}
 use Rattle.bn_network.specs.Networks.{cell_size, cells_in}
-use Rattle.bn_board_spec.specs.Layouts.{Layout, symbol_count_at, lines_at, first_element, elements_of, command_place, end_place, is_sent, moment_at, same_place}
+use Rattle.bn_board_spec.specs.Layouts.{Layout, symbol_count_at, lines_at, first_element, elements_of, command_place}
+use Rattle.bn_board_spec.specs.Layouts.{end_place, is_sent, moment_at, same_place}
 use Rattle.bn_board_spec.proofs.PlaceLemmas.{later_tape}
 use Rattle.bn_board_spec.proofs.FirstLemmas.{position_at, below, not_below}
 use Rattle.bn_board.specs.Flattened.{IsLayoutKept, IsFirstWithin}
 use Rattle.bn_board.specs.Moments.{IsCommandTo}
 
 -- the lines up to a tape's
-lines_next : (zs : List ℕ) (t : ℕ) → t < length zs → lines_before zs (suc t) ≡ lines_before zs t + slice_index_or zs t 0 + 3
+lines_next : (zs : List ℕ) (t : ℕ) → t < length zs → lines_before zs (suc t)
+    ≡ lines_before zs t + slice_index_or zs t 0 + 3
 lines_next [] t low = absurd (omega arith)
 lines_next (z ∷ zs) zero low = omega arith
 lines_next (z ∷ zs) (suc t) low = let h = lines_next zs t (omega arith) in omega arith
@@ -56,7 +59,8 @@ module _ (b : Layout) (kept : IsLayoutKept b) where
   next t low = lines_next b.symbols t (let h = kept.tapes in omega arith)
 
   -- where a command leads
-  place_of : (t m o : ℕ) → 1 ≤ t → t ≤ 3 → m < symbol_count_at b t + 3 → o ≡ before (t - 1) + m → command_place b o ≡ Enter (first_element b t + m) west
+  place_of : (t m o : ℕ) → 1 ≤ t → t ≤ 3 → m < symbol_count_at b t + 3 → o ≡ before (t - 1) + m
+      → command_place b o ≡ Enter (first_element b t + m) west
   place_of zero m o low high within is = absurd (omega arith)
   place_of (suc zero) m o low high within is =
       let one = next 0 (omega arith) in
@@ -94,16 +98,41 @@ module _ (b : Layout) (kept : IsLayoutKept b) where
       let two = next 1 (omega arith) in
       let three = next 2 (omega arith) in
       elim (cases_lt o (before 1)) [
-        | inl less ↦ record { tape = 1; low = omega arith; high = omega arith; line = o - before 0; within = omega arith; number = omega arith }
+        | inl less ↦ record {
+          tape = 1;
+          low = omega arith;
+          high = omega arith;
+          line = o
+              - before 0;
+          within = omega arith;
+          number = omega arith;
+        }
         | inr more ↦
             (elim (cases_lt o (before 2)) [
-              | inl less ↦ record { tape = 2; low = omega arith; high = omega arith; line = o - before 1; within = omega arith; number = omega arith }
-              | inr again ↦ record { tape = 3; low = omega arith; high = omega arith; line = o - before 2; within = omega arith; number = omega arith }
+              | inl less ↦ record {
+                tape = 2;
+                low = omega arith;
+                high = omega arith;
+                line = o
+                    - before 1;
+                within = omega arith;
+                number = omega arith;
+              }
+              | inr again ↦ record {
+                tape = 3;
+                low = omega arith;
+                high = omega arith;
+                line = o
+                    - before 2;
+                within = omega arith;
+                number = omega arith;
+              }
             ])
       ]
 
   -- a tape's line is one of the control's to tapes
-  line_within : (t m : ℕ) → 1 ≤ t → t ≤ 3 → m < symbol_count_at b t + 3 → (1 ≤ before (t - 1) + m) × (before (t - 1) + m < lines_at b)
+  line_within : (t m : ℕ) → 1 ≤ t → t ≤ 3 → m < symbol_count_at b t + 3
+      → (1 ≤ before (t - 1) + m) × (before (t - 1) + m < lines_at b)
   line_within zero m low high within = absurd (omega arith)
   line_within (suc zero) m low high within =
       let one = next 0 (omega arith) in
@@ -130,26 +159,41 @@ module _ (b : Layout) (kept : IsLayoutKept b) where
           let to = line_to o leads.0 leads.1 in
           let same = sym (place_of to.tape to.line o to.low to.high to.within to.number) ∙ leads.2 in
           let element : first_element b to.tape + to.line ≡ e = (enters _ _ _ _ same).0 in
-          record { tape = to.tape; low = to.low; high = to.high; line = to.line; within = to.within; number = to.number; element = sym element }
+          record {
+            tape = to.tape;
+            low = to.low;
+            high = to.high;
+            line = to.line;
+            within = to.within;
+            number = to.number;
+            element = sym element;
+          }
 
       back : IsCommandOf b e o → (1 ≤ o) × (o < lines_at b) × (command_place b o ≡ Enter e west)
       back by =
           let lines = line_within by.tape by.line by.low by.high by.within in
-          let number = by.number in
-          (omega arith, omega arith, place_of by.tape by.line o by.low by.high by.within by.number ∙ ap (λ n. Enter n west) (sym by.element))
+          let number = by.number in (
+            omega arith,
+            omega arith,
+            place_of by.tape by.line o by.low by.high by.within by.number
+                ∙ ap (λ n. Enter n west) (sym by.element),
+          )
 
   -- tapes lie one after another
   first_rises : (t u : ℕ) → 1 ≤ t → t ≤ u → first_element b t ≤ first_element b u
   first_rises zero u low less = absurd (omega arith)
   first_rises (suc t) u low less =
       elim (cases_lt (suc t) u) [
-        | inl below ↦ (let h = later_tape b (suc t) u (omega arith) below in let e : first_element b (suc (suc t)) ≡ first_element b (suc t) + cells_in
+        | inl below ↦ (let h = later_tape b (suc t) u (omega arith) below in let e : first_element b (suc (suc t))
+            ≡ first_element b (suc t) + cells_in
             b.limits (suc t) * cell_size (symbol_count_at b (suc t)) = refl in omega arith)
-        | inr above ↦ (let same : suc t ≡ u = omega arith in subst (λ n. first_element b (suc t) ≤ first_element b n) same (omega arith))
+        | inr above ↦ (let same : suc t ≡ u = omega arith in subst (λ n. first_element b (suc t) ≤ first_element b n)
+            same (omega arith))
       ]
 
   -- no command leads to an element before the tapes that are left
-  pub no_command : (e t : ℕ) → 1 ≤ t → ((o : ℕ) → (by : IsCommandOf b e o) → t ≤ by.tape) → e < first_element b t → IsCommandTo b e None
+  pub no_command : (e t : ℕ) → 1 ≤ t → ((o : ℕ) → (by : IsCommandOf b e o) → t ≤ by.tape) → e < first_element b t
+      → IsCommandTo b e None
   no_command e t low later less o = (
     λ h. absurd (let g : ◌≡◌ {A = Option ℕ} None (Some o) = h in cc),
     λ leads. absurd (
@@ -171,22 +215,28 @@ module _ (b : Layout) (kept : IsLayoutKept b) where
   )
 
   -- a tape's bank is longer than its commands
-  row_long : (t : ℕ) → 1 ≤ t → t ≤ 3 → 1 ≤ symbol_count_at b t → symbol_count_at b t + 3 ≤ cells_in b.limits t * cell_size (symbol_count_at b t)
+  row_long : (t : ℕ) → 1 ≤ t → t ≤ 3 → 1 ≤ symbol_count_at b t
+      → symbol_count_at b t + 3 ≤ cells_in b.limits t * cell_size (symbol_count_at b t)
   row_long t low high some =
       let cells : 1 ≤ cells_in b.limits t = some_cells b.limits t low high in
-      let one : 1 * cell_size (symbol_count_at b t) ≤ cells_in b.limits t * cell_size (symbol_count_at b t) = mul-le-mul_right (cell_size (symbol_count_at b t)) cells in
-      let two : (2 * 1) * (2 * symbol_count_at b t + 8 + 1) ≤ (2 * symbol_count_at b t) * (2 * symbol_count_at b t + 8 + 1) = mul-le-mul_right (2 * symbol_count_at b t + 8 +
+      let one : 1 * cell_size (symbol_count_at b t) ≤ cells_in b.limits t * cell_size (symbol_count_at b t) =
+      mul-le-mul_right (cell_size (symbol_count_at b t)) cells in
+      let two : (2 * 1) * (2 * symbol_count_at b t + 8 + 1) ≤ (2 * symbol_count_at b t)
+      * (2 * symbol_count_at b t + 8 + 1) = mul-le-mul_right (2 * symbol_count_at b t + 8 +
       1) (omega arith) in
       omega arith
 
   -- where the next tape begins
-  first_next : (t : ℕ) → 1 ≤ t → first_element b (suc t) ≡ first_element b t + cells_in b.limits t * cell_size (symbol_count_at b t)
+  first_next : (t : ℕ) → 1 ≤ t → first_element b (suc t) ≡ first_element b t
+      + cells_in b.limits t * cell_size (symbol_count_at b t)
   first_next zero low = absurd (omega arith)
   first_next (suc t) low = refl
 
   -- this tape's command leads there
-  pub one_command : (e t first lines : ℕ) → 1 ≤ t → t ≤ 3 → 1 ≤ symbol_count_at b t → first ≡ first_element b t → lines ≡ before (t - 1)
-      → ((o : ℕ) → (by : IsCommandOf b e o) → t ≤ by.tape) → first ≤ e → e - first < symbol_count_at b t + 3 → IsCommandTo b e (Some (lines + (e - first)))
+  pub one_command : (e t first lines : ℕ) → 1 ≤ t → t ≤ 3 → 1 ≤ symbol_count_at b t → first ≡ first_element b t
+      → lines ≡ before (t - 1)
+      → ((o : ℕ) → (by : IsCommandOf b e o) → t ≤ by.tape) → first ≤ e → e - first < symbol_count_at b t + 3
+      → IsCommandTo b e (Some (lines + (e - first)))
   one_command e t first lines low high some first_is lines_is later least most o = (
     λ h. (
         let number : lines + (e - first) ≡ o = same_Some (lines + (e - first)) o h in
@@ -212,29 +262,34 @@ module _ (b : Layout) (kept : IsLayoutKept b) where
                 let h = first_rises (suc t) by.tape (omega arith) above in
                 let long = row_long t low high some in
                 let is = by.element in
-                let up : first_element b (suc t) ≡ first_element b t + cells_in b.limits t * cell_size (symbol_count_at b t) = first_next t low in
+                let up : first_element b (suc t) ≡ first_element b t
+                + cells_in b.limits t * cell_size (symbol_count_at b t) = first_next t low in
                 omega arith)
             | inr below ↦ (
                 let same : by.tape ≡ t = (let h = later o by in omega arith) in
-                let element : e ≡ first_element b t + by.line = subst (λ n. e ≡ first_element b n + by.line) same by.element in
+                let element : e ≡ first_element b t + by.line = subst (λ n. e ≡ first_element b n + by.line) same
+                by.element in
                 let number : o ≡ before (t - 1) + by.line = subst (λ n. o ≡ before (n - 1) + by.line) same by.number in
                 omega arith)
           ]
 
   pub bottom_within : (q : ℕ) → q < b.states → q * (lines_at b + 1) + lines_at b < elements_of b
   bottom_within q low =
-      let h : (q + 1) * (lines_at b + 1) ≤ b.states * (lines_at b + 1) = mul-le-mul_right (lines_at b + 1) (omega arith) in
+      let h : (q + 1) * (lines_at b + 1) ≤ b.states * (lines_at b + 1) =
+      mul-le-mul_right (lines_at b + 1) (omega arith) in
       omega arith
 
 -- ---- the search
 
 -- a test that fails at each element
-pub position_never : {X : Type 0} (p : X → Bool) (xs : List X) → ((k : ℕ) (x : X) → k < length xs → slice_get xs k ≡ Some x → p x ≡ false) → position p
+pub position_never : {X : Type 0} (p : X → Bool) (xs : List X)
+    → ((k : ℕ) (x : X) → k < length xs → slice_get xs k ≡ Some x → p x ≡ false) → position p
     xs ≡ None
 position_never p [] never = refl
 position_never p (x ∷ xs) never =
     let n : ℕ = length (x ∷ xs) in
-    let is = position_or_len_is p (x ∷ xs) n x (omega arith) (λ k low. never k _ low (slice_get-get_or (x ∷ xs) k x low)) (λ low. absurd (omega arith)) in
+    let is = position_or_len_is p (x ∷ xs) n x (omega arith) (λ k low. never k _ low
+    (slice_get-get_or (x ∷ xs) k x low)) (λ low. absurd (omega arith)) in
     let test = not_below n n (omega arith) in
     rw (is, test) refl
 
@@ -265,10 +320,13 @@ module _ (b : Layout) (c : Config) (xs : List (Option (ℕ × ℕ))) (xs_are : x
   has k d low = subst (λ ys. slice_get ys k ≡ Some (slice_index_or xs k d)) xs_are (slice_get-get_or xs k d low)
 
   -- the state of the machine is the first whose first command is sent
-  pub first_sent : (k : ℕ) (d : Option (ℕ × ℕ)) → k < length xs → is_sent b c (slice_index_or xs k d) ≡ true → AreUnsent k → Some k ≡ moment_at b c
-  first_sent k d low holds never = sym (position_at (is_sent b c) b.firsts k (slice_index_or xs k d) (has k d low) holds never)
+  pub first_sent : (k : ℕ) (d : Option (ℕ × ℕ)) → k < length xs → is_sent b c (slice_index_or xs k d) ≡ true
+      → AreUnsent k → Some k ≡ moment_at b c
+  first_sent k d low holds never = sym (position_at (is_sent b c) b.firsts k (slice_index_or xs k d) (has k d low) holds
+      never)
 
-  pub next_unsent : (k : ℕ) (d : Option (ℕ × ℕ)) → k < length xs → is_sent b c (slice_index_or xs k d) ≡ false → AreUnsent k → AreUnsent (k + 1)
+  pub next_unsent : (k : ℕ) (d : Option (ℕ × ℕ)) → k < length xs → is_sent b c (slice_index_or xs k d) ≡ false
+      → AreUnsent k → AreUnsent (k + 1)
   next_unsent k d low fails never j g less here =
       elim (cases_lt j k) [
         | inl before ↦ never j g before here
@@ -280,15 +338,20 @@ module _ (b : Layout) (c : Config) (xs : List (Option (ℕ × ℕ))) (xs_are : x
       ]
 
   pub none_left : (k : ℕ) → length xs ≤ k → AreUnsent k → None ≡ moment_at b c
-  none_left k over never = sym (position_never (is_sent b c) b.firsts (λ j g low here. never j g (let e : length xs ≡ length b.firsts = ap length xs_are
+  none_left k over never = sym (position_never (is_sent b c) b.firsts
+      (λ j g low here. never j g (let e : length xs ≡ length b.firsts = ap length xs_are
       in omega arith) here))
 
   -- an element is what each keeps
-  pub first_within : IsLayoutKept b → (k : ℕ) (d : Option (ℕ × ℕ)) → k < length xs → IsFirstWithin b.states (lines_at b) (slice_index_or xs k d)
-  first_within kept k d low = subst (λ ys. IsFirstWithin b.states (lines_at b) (slice_index_or ys k d)) (sym xs_are) (AllWithin-from_all (IsFirstWithin
-      b.states (lines_at b)) b.firsts kept.firsts_within k d (omega arith) (let e : length xs ≡ length b.firsts = ap length xs_are in omega arith))
+  pub first_within : IsLayoutKept b → (k : ℕ) (d : Option (ℕ × ℕ)) → k < length xs
+      → IsFirstWithin b.states (lines_at b) (slice_index_or xs k d)
+  first_within kept k d low = subst (λ ys. IsFirstWithin b.states (lines_at b) (slice_index_or ys k d)) (sym xs_are)
+      (AllWithin-from_all (IsFirstWithin
+      b.states (lines_at b)) b.firsts kept.firsts_within k d (omega arith) (let e : length xs ≡ length b.firsts =
+      ap length xs_are in omega arith))
 
-none_sent : (b : Layout) (c : Config) → ((j : ℕ) (g : Option (ℕ × ℕ)) → j < length b.firsts → slice_get b.firsts j ≡ Some g → is_sent b c g ≡ false)
+none_sent : (b : Layout) (c : Config) → ((j : ℕ) (g : Option (ℕ × ℕ)) → j < length b.firsts
+    → slice_get b.firsts j ≡ Some g → is_sent b c g ≡ false)
     → None ≡ moment_at b c
 none_sent b c never = sym (position_never (is_sent b c) b.firsts never)
 
@@ -297,11 +360,19 @@ module _ (b : Layout) (c : Config) where
   command_west : (o : ℕ) → (x : ℕ) × (command_place b o ≡ Enter x west)
   command_west o =
       elim (cases_lt o (lines_before b.symbols 1)) [
-        | inl less ↦ (first_element b 1 + (o - lines_before b.symbols 0), let test = below o (lines_before b.symbols 1) less in rw test refl)
+        | inl less ↦ (
+          first_element b 1 + (o - lines_before b.symbols 0),
+          let test = below o (lines_before b.symbols 1)
+              less in rw test refl,
+        )
         | inr more ↦
             (let first = not_below o (lines_before b.symbols 1) more in
             elim (cases_lt o (lines_before b.symbols 2)) [
-              | inl less ↦ (first_element b 2 + (o - lines_before b.symbols 1), let test = below o (lines_before b.symbols 2) less in rw (first, test) refl)
+              | inl less ↦ (
+                first_element b 2 + (o - lines_before b.symbols 1),
+                let test = below o
+                    (lines_before b.symbols 2) less in rw (first, test) refl,
+              )
               | inr again ↦ (
                 first_element b 3 + (o - lines_before b.symbols 2),
                 let test = not_below o (lines_before b.symbols 2) again in rw (
@@ -318,27 +389,32 @@ module _ (b : Layout) (c : Config) where
 
   -- a signal that has left is at no command
   left_command : (e l : ℕ) → c.place ≡ Left e l → (f : ℕ × ℕ) → is_sent b c (Some f) ≡ false
-  left_command e l at f = off_place f (λ here. let to = command_west f.1 in let h : Left e l ≡ Enter to.0 west = sym at ∙ here ∙ to.1 in absurd (cc))
+  left_command e l at f = off_place f (λ here. let to = command_west f.1 in let h : Left e l ≡ Enter to.0 west = sym at
+      ∙ here ∙ to.1 in absurd (cc))
 
   -- a signal that has not left is not at the end
   enters_not : (e l : ℕ) → c.place ≡ Enter e l → is_sent b c None ≡ false
-  enters_not e l at = differs c.place (end_place b) (λ here. let h : Enter e l ≡ end_place b = sym at ∙ here in absurd (cc))
+  enters_not e l at = differs c.place (end_place b) (λ here. let h : Enter e l ≡ end_place b = sym at
+      ∙ here in absurd (cc))
 
   pub off_west : (e l : ℕ) → c.place ≡ Enter e l → l ≢ west → None ≡ moment_at b c
   off_west e l at other = none_sent b c (λ j g low has. by g)
     where
       by : (g : Option (ℕ × ℕ)) → is_sent b c g ≡ false
       by None = enters_not e l at
-      by (Some f) = off_place f (λ here. let to = command_west f.1 in other (enters e to.0 l west (sym at ∙ here ∙ to.1)).1)
+      by (Some f) = off_place f (λ here. let to = command_west f.1 in other
+          (enters e to.0 l west (sym at ∙ here ∙ to.1)).1)
 
   pub off_commands : (e : ℕ) → c.place ≡ Enter e west → IsLayoutKept b → IsCommandTo b e None → None ≡ moment_at b c
   off_commands e at kept none = none_sent b c (λ j g low has. by g (
-      let within = AllWithin-from_all (IsFirstWithin b.states (lines_at b)) b.firsts kept.firsts_within j g (omega arith) low in
+      let within = AllWithin-from_all (IsFirstWithin b.states (lines_at b)) b.firsts kept.firsts_within j g
+      (omega arith) low in
       subst (IsFirstWithin b.states (lines_at b)) (get_or_from_slice_get b.firsts j g g has) within))
     where
       by : (g : Option (ℕ × ℕ)) → IsFirstWithin b.states (lines_at b) g → is_sent b c g ≡ false
       by None within = enters_not e west at
-      by (Some f) within = off_place f (λ here. absurd (let h : ◌≡◌ {A = Option ℕ} None (Some f.1) = (none f.1).1 (within.1, within.2, sym here ∙ at) in cc))
+      by (Some f) within = off_place f (λ here. absurd (let h : ◌≡◌ {A = Option ℕ} None (Some f.1) = (none f.1).1
+          (within.1, within.2, sym here ∙ at) in cc))
 
   pub off_end : (e l : ℕ) → c.place ≡ Left e l → (Left e l ≡ end_place b → ⊥) → None ≡ moment_at b c
   off_end e l at other = none_sent b c (λ j g low has. by g)

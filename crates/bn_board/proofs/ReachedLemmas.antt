@@ -36,7 +36,10 @@ module _ (k : Circuit) (circuit : IsCircuit k) where
       let count = steps_of_run k n c d run in
       let same = origin_same n c d run in
       let whole = runs_join (Goes k) d.steps c.steps n (origin_by k c) c d count r.reaches run in
-      record { reached = record { good = good; reaches = subst (λ x. Reaches (Goes k) d.steps x d) (sym same) whole }; origin_is = same }
+      record {
+        reached = record { good = good; reaches = subst (λ x. Reaches (Goes k) d.steps x d) (sym same) whole };
+        origin_is = same;
+      }
 
   pub kept_back : (n : ℕ) (c d : Config) → IsReached k c → IsConfig k d → Reaches (Goes k) n d c → IsKeptOn c d
   kept_back n c d r good run =
@@ -44,19 +47,33 @@ module _ (k : Circuit) (circuit : IsCircuit k) where
       let same = origin_same n d c run in
       let parts = runs_split (Goes k) d.steps n c.steps (origin_by k c) c count r.reaches in
       let middle : parts.0 ≡ d = sym (Reaches-back k circuit n parts.0 c parts.2) ∙ Reaches-back k circuit n d c run in
-      let here : Reaches (Goes k) d.steps (origin_by k c) d = subst (λ x. Reaches (Goes k) d.steps (origin_by k c) x) middle parts.1 in
-      record { reached = record { good = good; reaches = subst (λ x. Reaches (Goes k) d.steps x d) same here }; origin_is = sym same }
+      let here : Reaches (Goes k) d.steps (origin_by k c) d = subst (λ x. Reaches (Goes k) d.steps (origin_by k c) x)
+      middle parts.1 in
+      record {
+        reached = record { good = good; reaches = subst (λ x. Reaches (Goes k) d.steps x d) same here };
+        origin_is = sym same;
+      }
 
   one : (c d : Config) → Goes k c d → Reaches (Goes k) 1 c d
   one c d goes = (d, goes, refl)
 
-  pub kept_step : (made : Bool) (c d : Config) → IsReached k c → IsConfig k d → OnTrue made (Goes k c d) → OnFalse made (d ≡ c) → IsKeptOn c d
+  pub kept_step : (made : Bool) (c d : Config) → IsReached k c → IsConfig k d → OnTrue made (Goes k c d)
+      → OnFalse made (d ≡ c) → IsKeptOn c d
   kept_step true c d r good goes kept = kept_on 1 c d r good (one c d goes)
-  kept_step false c d r good goes kept = record { reached = subst (IsReached k) (sym kept) r; origin_is = ap (origin_by k) kept }
+  kept_step false c d r good goes kept = record {
+    reached = subst (IsReached k) (sym kept) r;
+    origin_is = ap
+        (origin_by k) kept;
+  }
 
-  pub kept_step_back : (made : Bool) (c d : Config) → IsReached k c → IsConfig k d → OnTrue made (Goes k d c) → OnFalse made (d ≡ c) → IsKeptOn c d
+  pub kept_step_back : (made : Bool) (c d : Config) → IsReached k c → IsConfig k d → OnTrue made (Goes k d c)
+      → OnFalse made (d ≡ c) → IsKeptOn c d
   kept_step_back true c d r good goes kept = kept_back 1 c d r good (one d c goes)
-  kept_step_back false c d r good goes kept = record { reached = subst (IsReached k) (sym kept) r; origin_is = ap (origin_by k) kept }
+  kept_step_back false c d r good goes kept = record {
+    reached = subst (IsReached k) (sym kept) r;
+    origin_is = ap
+        (origin_by k) kept;
+  }
 
 -- ---- boards
 
@@ -72,23 +89,38 @@ pub record IsMoved (a b : Flattened) : Type 0 where
   pub kept : IsBoardKept b
   pub same : IsSameBoard a b
 
-module _ (b : Flattened) (net : Parts Rotary) (d : Config) (kept : IsBoardKept b) (net_is : net ≡ b.net) (good : IsConfig (rotary_circuit b.net) d) where
+module _ (b : Flattened) (net : Parts Rotary) (d : Config) (kept : IsBoardKept b) (net_is : net ≡ b.net)
+    (good : IsConfig (rotary_circuit b.net) d) where
   board_kept : IsKeptOn (rotary_circuit b.net) kept.circuit b.config d → IsMoved b (with_config b net d)
   board_kept on =
       let at_net : IsMoved b (with_config b b.net d) = record {
-        kept = record { circuit = kept.circuit; order = kept.order; reached = on.reached; layout = kept.layout; elements = kept.elements; network = subst (λ o. IsOnNetwork b.net o b.layout) (sym on.origin_is) kept.network };
+        kept = record {
+          circuit = kept.circuit;
+          order = kept.order;
+          reached = on.reached;
+          layout = kept.layout;
+          elements = kept.elements;
+          network = subst (λ o. IsOnNetwork b.net o b.layout) (sym on.origin_is)
+              kept.network;
+        };
         same = record { net = refl; start = refl; end = refl; layout = refl; origin_is = on.origin_is };
       } in
       subst (λ n. IsMoved b (with_config b n d)) (sym net_is) at_net
 
   -- after steps in this direction
-  pub board_ran : (way : Direction) (n : ℕ) → LeadsTo way (rotary_circuit b.net) n b.config d → IsMoved b (with_config b net d)
+  pub board_ran : (way : Direction) (n : ℕ) → LeadsTo way (rotary_circuit b.net) n b.config d
+      → IsMoved b (with_config b net d)
   board_ran Forward n run = board_kept (kept_on (rotary_circuit b.net) kept.circuit n b.config d kept.reached good run)
-  board_ran Backward n run = board_kept (kept_back (rotary_circuit b.net) kept.circuit n b.config d kept.reached good run)
+  board_ran Backward n run = board_kept (kept_back (rotary_circuit b.net) kept.circuit n b.config d kept.reached good
+      run)
 
-  pub board_stepped : (made : Bool) → OnTrue made (Goes (rotary_circuit b.net) b.config d) → OnFalse made (d ≡ b.config) → IsMoved b (with_config b net d)
-  board_stepped made goes stays = board_kept (kept_step (rotary_circuit b.net) kept.circuit made b.config d kept.reached good goes stays)
+  pub board_stepped : (made : Bool) → OnTrue made (Goes (rotary_circuit b.net) b.config d) → OnFalse made (d ≡ b.config)
+      → IsMoved b (with_config b net d)
+  board_stepped made goes stays = board_kept (kept_step (rotary_circuit b.net) kept.circuit made b.config d kept.reached
+      good goes stays)
 
-  pub board_stepped_back : (made : Bool) → OnTrue made (Goes (rotary_circuit b.net) d b.config) → OnFalse made (d ≡ b.config) → IsMoved b (with_config b
+  pub board_stepped_back : (made : Bool) → OnTrue made (Goes (rotary_circuit b.net) d b.config)
+      → OnFalse made (d ≡ b.config) → IsMoved b (with_config b
       net d)
-  board_stepped_back made goes stays = board_kept (kept_step_back (rotary_circuit b.net) kept.circuit made b.config d kept.reached good goes stays)
+  board_stepped_back made goes stays = board_kept (kept_step_back (rotary_circuit b.net) kept.circuit made b.config d
+      kept.reached good goes stays)

@@ -1,4 +1,5 @@
--- What an assembled network gives its board: modules that can be banks, the number of elements, and a start in which each module is in one of its states.
+-- What an assembled network gives its board: modules that can be banks, the number of elements, and a start in which
+-- each module is in one of its states.
 use Rattle.std.specs.Prelude.{◌≡◌, ℕ, ◌+◌, ◌-◌, ◌*◌, ◌<◌, ◌≤◌, List, [], ◌∷◌, length, replicate, Some, slice_get}
 use Rattle.std.proofs.Common.{arith, sym, ap, subst, ◌∙◌, inl, inr, length-set}
 use Rattle.bn_element.specs.Tables.{Table}
@@ -85,7 +86,8 @@ module _ (a : Assembled) (kept : IsKept a) where
   pub states-counted : length a.config.states ≡ length (network_of a).tables
   states-counted = ap (λ qs. length qs) states-start ∙ starts_so.count
 
-  pub states-within : (m q : ℕ) (t : Table) → slice_get a.config.states m ≡ Some q → slice_get (network_of a).tables m ≡ Some t → q < t.states
+  pub states-within : (m q : ℕ) (t : Table) → slice_get a.config.states m ≡ Some q
+      → slice_get (network_of a).tables m ≡ Some t → q < t.states
   states-within m q t at_q has_t =
       (starts_so.rests m t q has_t (subst (λ qs. slice_get qs m ≡ Some q) states-start at_q)).0
 
@@ -94,10 +96,12 @@ module _ (a : Assembled) (kept : IsKept a) where
       let modules = kept-modules in
       let low = starts_so.count in
       let one : 0 < length (start_from kept.machine a.limits kept.start).states = omega arith in
-      let first : (t : Table) × (slice_get (network_of a).tables 0 ≡ Some t) = found (network_of a).tables 0 (omega arith) in
+      let first : (t : Table) × (slice_get (network_of a).tables 0 ≡ Some t) =
+      found (network_of a).tables 0 (omega arith) in
       let within = bank_within (network_of a).tables 0 first.0 first.1 in
       let states = modules.some_states 0 first.0 first.1 in
-      let h : 1 * (first.0.inputs + 1) ≤ first.0.states * (first.0.inputs + 1) = mul-le-mul_right (first.0.inputs + 1) states in
+      let h : 1 * (first.0.inputs + 1) ≤ first.0.states * (first.0.inputs + 1) =
+      mul-le-mul_right (first.0.inputs + 1) states in
       omega arith
 
 -- ---- the configuration at the start
@@ -107,10 +111,13 @@ bank_low : (t : Table) (q e b : ℕ) → slice_get (bank_bars t q) e ≡ Some b 
 bank_low t q e b at = elim (eqb_tells e (bottom_at 0 t.inputs q)) [
   | inl here ↦ (let low = slice_get_within (bank_bars t q) e b at in
       let count = length-set (replicate (size_of t) vertical) (bottom_at 0 t.inputs q) horizontal in
-      let written = slice_get-set_same (replicate (size_of t) vertical) (bottom_at 0 t.inputs q) horizontal (let same = here.1 in omega arith) in
-      let there : slice_get (bank_bars t q) (bottom_at 0 t.inputs q) ≡ Some b = subst (λ x. slice_get (bank_bars t q) x ≡ Some b) here.1 at in
+      let written = slice_get-set_same (replicate (size_of t) vertical) (bottom_at 0 t.inputs q) horizontal
+      (let same = here.1 in omega arith) in
+      let there : slice_get (bank_bars t q) (bottom_at 0 t.inputs q) ≡ Some b =
+      subst (λ x. slice_get (bank_bars t q) x ≡ Some b) here.1 at in
       let is : horizontal ≡ b = cc in omega arith)
-  | inr apart ↦ (let kept = slice_get-set_other (replicate (size_of t) vertical) (bottom_at 0 t.inputs q) e horizontal apart.1 in
+  | inr apart ↦ (let kept = slice_get-set_other (replicate (size_of t) vertical) (bottom_at 0 t.inputs q) e horizontal
+      apart.1 in
       let is = replicated (size_of t) e vertical b (sym kept ∙ at) in omega arith)
 ]
 
@@ -119,15 +126,18 @@ bars_low [] qs e b at = absurd (cc)
 bars_low (t ∷ ts) [] e b at = absurd (cc)
 bars_low (t ∷ ts) (q ∷ qs) e b at = elim (cases_lt e (length (bank_bars t q))) [
   | inl low ↦ bank_low t q e b (sym (get_left (bank_bars t q) (bars_of ts qs) e low) ∙ at)
-  | inr high ↦ bars_low ts qs (e - length (bank_bars t q)) b (sym (get_right (bank_bars t q) (bars_of ts qs) (e - length (bank_bars t q)) e (omega
+  | inr high ↦ bars_low ts qs (e - length (bank_bars t q)) b (sym
+      (get_right (bank_bars t q) (bars_of ts qs) (e - length (bank_bars t q)) e (omega
       arith)) ∙ at)
 ]
 
-pub start-IsConfig : (net : Parts Rotary) (ts : List Table) (qs : List ℕ) → length net.elements ≡ size ts → length qs ≡ length ts → 0 < size ts
+pub start-IsConfig : (net : Parts Rotary) (ts : List Table) (qs : List ℕ) → length net.elements ≡ size ts
+    → length qs ≡ length ts → 0 < size ts
     → IsConfig (rotary_circuit net) (start_by ts qs)
 start-IsConfig net ts qs elements counted some =
     bars-IsConfig net (start_by ts qs) (bars-length ts qs counted ∙ sym elements) (bars_low ts qs)
-    (let at = rotary-table_at net.elements 0 (omega arith) in subst (λ o. west < option_map_or (λ (t : Table). t.inputs) o 0) (sym at) (omega arith))
+    (let at = rotary-table_at net.elements 0 (omega arith) in subst
+    (λ o. west < option_map_or (λ (t : Table). t.inputs) o 0) (sym at) (omega arith))
     (omega arith)
 
 -- a board at the start is reached from it

@@ -1,5 +1,6 @@
 -- A board's wires as a list that grows, in the words of this crate.
-use Rattle.std.specs.Prelude.{◌≡◌, ℕ, ◌+◌, ◌*◌, ◌<◌, ◌≤◌, ◌^◌, slice_index_or, List, [], ◌∷◌, ◌++◌, length, Some, None, slice_get, refl, ◌⊎◌}
+use Rattle.std.specs.Prelude.{◌≡◌, ℕ, ◌+◌, ◌*◌, ◌<◌, ◌≤◌, ◌^◌, slice_index_or, List, [], ◌∷◌, ◌++◌, length, Some, None}
+use Rattle.std.specs.Prelude.{slice_get, refl, ◌⊎◌}
 use Rattle.std.proofs.Common.{zero, suc, arith, sym, ap, subst, ◌∙◌, inl, inr, length-append}
 use Rattle.std.proofs.lemmas.Option.{slice_get_within, slice_get-map, get_or_from_slice_get}
 use Rattle.std.proofs.Math.Nat.{mul-le-mul_right}
@@ -21,10 +22,12 @@ use Rattle.bn_board_spec.proofs.GrownLemmas.{IsGrown, grown_own, grown_skip, gro
 use Rattle.bn_net.specs.Parts.{Parts}
 use Rattle.bn_assembly.specs.Modules.{module_table}
 use Rattle.bn_assembly.specs.declared.module.Module.{Module}
-use Rattle.bn_board.specs.BoardWires.{AreBases, module_circuit, IsOwnWire, of_bank, IsBetween, IsWireBefore, own_wire, between_banks}
+use Rattle.bn_board.specs.BoardWires.{AreBases, module_circuit, IsOwnWire, of_bank, IsBetween, IsWireBefore, own_wire}
+use Rattle.bn_board.specs.BoardWires.{between_banks}
 
 -- an item of a list with one more is an old one or the new one
-get_either : {X : Type 0} (xs : List X) (y : X) (i : ℕ) (x : X) → slice_get (xs ++ y ∷ []) i ≡ Some x → (slice_get xs i ≡ Some x) ⊎ ((i ≡ length xs) × (y
+get_either : {X : Type 0} (xs : List X) (y : X) (i : ℕ) (x : X) → slice_get (xs ++ y ∷ []) i ≡ Some x
+    → (slice_get xs i ≡ Some x) ⊎ ((i ≡ length xs) × (y
     ≡ x))
 get_either [] y zero x has = inr (refl, cc)
 get_either [] y (suc i) x has = absurd (cc)
@@ -35,7 +38,8 @@ get_either (z ∷ xs) y (suc i) x has = elim (get_either xs y i x has) [
 ]
 
 -- the next bank begins where this one ends
-pub base_next : (ts : List Table) (m : ℕ) (t : Table) → slice_get ts m ≡ Some t → base ts (m + 1) ≡ base ts m + size_of t
+pub base_next : (ts : List Table) (m : ℕ) (t : Table) → slice_get ts m ≡ Some t
+    → base ts (m + 1) ≡ base ts m + size_of t
 base_next [] m t has = absurd (cc)
 base_next (u ∷ ts) zero t has =
     let same : size_of u ≡ size_of t = (let is : u ≡ t = cc in ap size_of is) in
@@ -48,7 +52,13 @@ base_next (u ∷ ts) (suc m) t has =
 
 module _ (n : Circuit) (modules : AreModules n) where
   own_forth : (c : ℕ) (from to : Line) → IsOwnWire n c from to → IsOwnBelow n modules c from to
-  own_forth c from to (of_bank m t low has wire) = record { at_module = m; table = t; low = low; has = has; wire = wire }
+  own_forth c from to (of_bank m t low has wire) = record {
+    at_module = m;
+    table = t;
+    low = low;
+    has = has;
+    wire = wire;
+  }
 
   own_back : (c : ℕ) (from to : Line) → IsOwnBelow n modules c from to → IsOwnWire n c from to
   own_back c from to h = of_bank h.at_module h.table h.low h.has h.wire
@@ -62,16 +72,27 @@ module _ (n : Circuit) (modules : AreModules n) where
   pub no_own : AreWiresOf (IsOwnWire n 0) []
   no_own = into_own 0 [] (own_none n modules)
 
-  pub one_bank_more : (c : ℕ) (t : Table) (ws bs : List Wire) → slice_get n.tables c ≡ Some t → AreWiresOf (IsOwnWire n c) ws
+  pub one_bank_more : (c : ℕ) (t : Table) (ws bs : List Wire) → slice_get n.tables c ≡ Some t
+      → AreWiresOf (IsOwnWire n c) ws
       → AreWiresOf (IsBankWire (base n.tables c) t) bs → AreWiresOf (IsOwnWire n (c + 1)) (ws ++ bs)
   one_bank_more c t ws bs has before bank =
       let e : suc c ≡ c + 1 = omega arith in
-      subst (λ x. AreWiresOf (IsOwnWire n x) (ws ++ bs)) e (into_own (suc c) (ws ++ bs) (own_more n modules c t has ws bs (from_own c ws before) bank))
+      subst (λ x. AreWiresOf (IsOwnWire n x) (ws ++ bs)) e (into_own (suc c) (ws ++ bs)
+      (own_more n modules c t has ws bs (from_own c ws before) bank))
 
   grown_forth : (e o : ℕ) (from to : Line) → IsWireBefore n e o from to → IsGrown n modules e o from to
   grown_forth e o from to (own_wire h) = inl (own_forth (length n.tables) from to h)
   grown_forth e o from to (between_banks out into t before wired has leaves ends) =
-      inr (record { out = out; into = into; table = t; earlier = before; wired = wired; has = has; leaves = leaves; ends = ends })
+      inr (record {
+        out = out;
+        into = into;
+        table = t;
+        earlier = before;
+        wired = wired;
+        has = has;
+        leaves = leaves;
+        ends = ends;
+      })
 
   grown_back : (e o : ℕ) (from to : Line) → IsGrown n modules e o from to → IsWireBefore n e o from to
   grown_back e o from to (inl h) = own_wire (own_back (length n.tables) from to h)
@@ -90,7 +111,8 @@ module _ (n : Circuit) (modules : AreModules n) where
       → AreWiresOf (IsWireBefore n e (o + 1)) ws
   wires_skip e o ws none are = into e (o + 1) ws (grown_skip n modules e o ws none (out_of e o ws are))
 
-  pub wires_more : (e o : ℕ) (ws : List Wire) (to : Line) (t : Table) → target n.wires (line_at e o) ≡ Some to → slice_get n.tables e ≡ Some t
+  pub wires_more : (e o : ℕ) (ws : List Wire) (to : Line) (t : Table) → target n.wires (line_at e o) ≡ Some to
+      → slice_get n.tables e ≡ Some t
       → AreWiresOf (IsWireBefore n e o) ws
       → AreWiresOf (IsWireBefore n e (o + 1)) (ws ++ record {
         from = bank_output_line (base n.tables e) t o;
@@ -99,7 +121,8 @@ module _ (n : Circuit) (modules : AreModules n) where
       } ∷ [])
   wires_more e o ws to t is has are = into e (o + 1) _ (grown_more n modules e o ws to t is has (out_of e o ws are))
 
-  pub wires_next : (e o : ℕ) (t : Table) (ws : List Wire) → slice_get n.tables e ≡ Some t → t.outputs ≤ o → AreWiresOf (IsWireBefore n e o) ws
+  pub wires_next : (e o : ℕ) (t : Table) (ws : List Wire) → slice_get n.tables e ≡ Some t → t.outputs ≤ o
+      → AreWiresOf (IsWireBefore n e o) ws
       → AreWiresOf (IsWireBefore n (e + 1) 0) ws
   wires_next e o t ws has past are = into (e + 1) 0 ws (grown_next n modules e o t ws has past (out_of e o ws are))
 
@@ -107,10 +130,16 @@ module _ (n : Circuit) (modules : AreModules n) where
   wires_all ws are = grown_all n modules ws (out_of (length n.tables) 0 ws are)
 
   -- each bank has room for its elements
-  pub bank_room : (m most : ℕ) (t : Table) → slice_get n.tables m ≡ Some t → size n.tables ≤ most → most < 2 ^ 32 → HasRoom (base n.tables m) t
+  pub bank_room : (m most : ℕ) (t : Table) → slice_get n.tables m ≡ Some t → size n.tables ≤ most → most < 2 ^ 32
+      → HasRoom (base n.tables m) t
   bank_room m most t has few small =
       let within = bank_within n.tables m t has in
-      record { some_states = modules.some_states m t has; some_lines = modules.some_lines m t has; square = modules.square m t has; fits = omega arith }
+      record {
+        some_states = modules.some_states m t has;
+        some_lines = modules.some_lines m t has;
+        square = modules.square m t has;
+        fits = omega arith;
+      }
 
 -- what a module of a net has in its circuit
 pub record IsModuleAt (net : Parts Module) (m most : ℕ) (x : Module) : Type 0 where
@@ -122,10 +151,12 @@ pub record IsModuleAt (net : Parts Module) (m most : ℕ) (x : Module) : Type 0 
   pub few : size_of (module_table x) ≤ most
   pub next : base (module_circuit net).tables (m + 1) ≡ base (module_circuit net).tables m + size_of (module_table x)
 
-pub module_at : (net : Parts Module) (m most : ℕ) (x : Module) → AreModules (module_circuit net) → size (module_circuit net).tables ≤ most
+pub module_at : (net : Parts Module) (m most : ℕ) (x : Module) → AreModules (module_circuit net)
+    → size (module_circuit net).tables ≤ most
     → slice_get net.elements m ≡ Some x → IsModuleAt net m most x
 module_at net m most x modules few is =
-    let has : slice_get (module_circuit net).tables m ≡ Some (module_table x) = slice_get-map module_table net.elements m ∙ ap (option_map module_table) is in
+    let has : slice_get (module_circuit net).tables m ≡ Some (module_table x) =
+    slice_get-map module_table net.elements m ∙ ap (option_map module_table) is in
     let within = bank_within (module_circuit net).tables m (module_table x) has in
     record {
       has = has;
@@ -142,8 +173,13 @@ pub record AreBasesUpTo (ts : List Table) (m : ℕ) (bases : List ℕ) : Type 0 
   pub count : length bases ≡ m
   pub are : (e b : ℕ) → slice_get bases e ≡ Some b → b ≡ base ts e
 
-pub base_more : (ts : List Table) (m b : ℕ) (bases : List ℕ) → AreBasesUpTo ts m bases → b ≡ base ts m → AreBasesUpTo ts (m + 1) (bases ++ b ∷ [])
-base_more ts m b bases so is = record { count = length-append bases (b ∷ []) ∙ (let e = so.count in omega arith); are = each }
+pub base_more : (ts : List Table) (m b : ℕ) (bases : List ℕ) → AreBasesUpTo ts m bases → b ≡ base ts m
+    → AreBasesUpTo ts (m + 1) (bases ++ b ∷ [])
+base_more ts m b bases so is = record {
+  count = length-append bases (b ∷ [])
+      ∙ (let e = so.count in omega arith);
+  are = each;
+}
   where
     each : (e x : ℕ) → slice_get (bases ++ b ∷ []) e ≡ Some x → x ≡ base ts e
     each e x has = elim (get_either bases b e x has) [
@@ -173,87 +209,115 @@ pub record IsEntered (n : Circuit) (most : ℕ) (to : Line) : Type 0 where
   pub within : to.element < length n.tables
   pub fits : base n.tables to.element + to.line ≤ most
 
-pub entered : (n : Circuit) (most : ℕ) (out to : Line) → AreModules n → size n.tables ≤ most → target n.wires out ≡ Some to → IsEntered n most to
+pub entered : (n : Circuit) (most : ℕ) (out to : Line) → AreModules n → size n.tables ≤ most
+    → target n.wires out ≡ Some to → IsEntered n most to
 entered n most out to modules few is =
-    let in_ : (t : Table) × (slice_get n.tables to.element ≡ Some t) × (to.line < t.inputs) = wired_input n modules out to is in
+    let in_ : (t : Table) × (slice_get n.tables to.element ≡ Some t) × (to.line < t.inputs) =
+    wired_input n modules out to is in
     let within = bank_within n.tables to.element in_.0 in_.1 in
     let some = modules.some_states to.element in_.0 in_.1 in
     let low = in_.2 in
     let h : 1 * (in_.0.inputs + 1) ≤ in_.0.states * (in_.0.inputs + 1) = mul-le-mul_right (in_.0.inputs + 1) some in
     record { within = slice_get_within n.tables to.element in_.0 in_.1; fits = omega arith }
 
-module _ (net : Parts Module) (bases : List ℕ) (most : ℕ) (modules : AreModules (module_circuit net)) (few : size (module_circuit net).tables ≤ most)
+module _ (net : Parts Module) (bases : List ℕ) (most : ℕ) (modules : AreModules (module_circuit net))
+    (few : size (module_circuit net).tables ≤ most)
     (are : AreBases (module_circuit net).tables bases) where
-  pub base_of : (m : ℕ) (x : Module) → slice_get net.elements m ≡ Some x → slice_index_or bases m 0 ≡ base (module_circuit net).tables m
+  pub base_of : (m : ℕ) (x : Module) → slice_get net.elements m ≡ Some x
+      → slice_index_or bases m 0 ≡ base (module_circuit net).tables m
   base_of m x is =
       let low = slice_get_within net.elements m x is in
       let counted = tables_counted net in
       (base_at (module_circuit net).tables bases m are (omega arith)).is
 
-  pub output_fits : (m : ℕ) (x : Module) → slice_get net.elements m ≡ Some x → slice_index_or bases m 0 + size_of (module_table x) ≤ most
-  output_fits m x is = let here = base_of m x is in let fits = (module_at net m most x modules few is).fits in omega arith
+  pub output_fits : (m : ℕ) (x : Module) → slice_get net.elements m ≡ Some x
+      → slice_index_or bases m 0 + size_of (module_table x) ≤ most
+  output_fits m x is = let here = base_of m x is in let fits =
+      (module_at net m most x modules few is).fits in omega arith
 
   pub entered_within : (out to : Line) → target net.wires out ≡ Some to → to.element < length bases
-  entered_within out to is = let low = (entered (module_circuit net) most out to modules few is).within in let count = are.count in omega arith
+  entered_within out to is = let low = (entered (module_circuit net) most out to modules few is).within in let count =
+      are.count in omega arith
 
-  pub entered_fits : (out to : Line) → target net.wires out ≡ Some to → slice_index_or bases to.element 0 + to.line ≤ most
+  pub entered_fits : (out to : Line) → target net.wires out ≡ Some to
+      → slice_index_or bases to.element 0 + to.line ≤ most
   entered_fits out to is =
       let h = entered (module_circuit net) most out to modules few is in
       let here = (base_at (module_circuit net).tables bases to.element are h.within).is in
       let fits = h.fits in
       omega arith
 
-  pub between_is : (m line : ℕ) (x : Module) (to from into_line : Line) → slice_get net.elements m ≡ Some x → target net.wires (line_at m line) ≡ Some to
-      → from ≡ bank_output_line (slice_index_or bases m 0) (module_table x) line → into_line ≡ bank_input_line (slice_index_or bases to.element 0) to.line
+  pub between_is : (m line : ℕ) (x : Module) (to from into_line : Line) → slice_get net.elements m ≡ Some x
+      → target net.wires (line_at m line) ≡ Some to
+      → from ≡ bank_output_line (slice_index_or bases m 0) (module_table x) line
+      → into_line ≡ bank_input_line (slice_index_or bases to.element 0) to.line
       → IsBetween (module_circuit net) m line to (record { from = from; to = into_line })
   between_is m line x to from into_line is leads from_is into_is = record {
     wire = λ t has.
         let at_x = (module_at net m most x modules few is).has in
         let same : module_table x ≡ t = cc in
         let one = base_of m x is in
-        let other = (base_at (module_circuit net).tables bases to.element are (entered (module_circuit net) most (line_at m line) to modules few
+        let other = (base_at (module_circuit net).tables bases to.element are
+        (entered (module_circuit net) most (line_at m line) to modules few
         leads).within).is in
-        let first : from ≡ bank_output_line (base (module_circuit net).tables m) t line = from_is ∙ (λ i. bank_output_line (one i) (same i) line) in
-        let second : into_line ≡ bank_input_line (base (module_circuit net).tables to.element) to.line = into_is ∙ ap (λ b. bank_input_line b to.line) other in
+        let first : from ≡ bank_output_line (base (module_circuit net).tables m) t line =
+        from_is ∙ (λ i. bank_output_line (one i) (same i) line) in
+        let second : into_line ≡ bank_input_line (base (module_circuit net).tables to.element) to.line =
+        into_is ∙ ap (λ b. bank_input_line b to.line) other in
         (λ i. record { from = first i; to = second i });
   }
 
-  pub own_room : (m : ℕ) (x : Module) → slice_get net.elements m ≡ Some x → most < 2 ^ 32 → HasRoom (slice_index_or bases m 0) (module_table x)
+  pub own_room : (m : ℕ) (x : Module) → slice_get net.elements m ≡ Some x → most < 2 ^ 32
+      → HasRoom (slice_index_or bases m 0) (module_table x)
   own_room m x is small =
-      subst (λ b. HasRoom b (module_table x)) (sym (base_of m x is)) (bank_room (module_circuit net) modules m most (module_table x) (module_at net m
+      subst (λ b. HasRoom b (module_table x)) (sym (base_of m x is))
+      (bank_room (module_circuit net) modules m most (module_table x) (module_at net m
       most x modules few is).has few small)
 
-  pub own_added : (m : ℕ) (x : Module) (ws bs : List Wire) → slice_get net.elements m ≡ Some x → AreWiresOf (IsOwnWire (module_circuit net) m) ws
-      → AreWiresOf (IsBankWire (slice_index_or bases m 0) (module_table x)) bs → AreWiresOf (IsOwnWire (module_circuit net) (m + 1)) (ws ++ bs)
+  pub own_added : (m : ℕ) (x : Module) (ws bs : List Wire) → slice_get net.elements m ≡ Some x
+      → AreWiresOf (IsOwnWire (module_circuit net) m) ws
+      → AreWiresOf (IsBankWire (slice_index_or bases m 0) (module_table x)) bs
+      → AreWiresOf (IsOwnWire (module_circuit net) (m + 1)) (ws ++ bs)
   own_added m x ws bs is before bank =
-      one_bank_more (module_circuit net) modules m (module_table x) ws bs (module_at net m most x modules few is).has before
+      one_bank_more (module_circuit net) modules m (module_table x) ws bs (module_at net m most x modules few is).has
+      before
       (subst (λ b. AreWiresOf (IsBankWire b (module_table x)) bs) (base_of m x is) bank)
 
   -- after a line that no wire leaves, and after one that a wire leaves
-  pub line_skipped : (m o : ℕ) (ws : List Wire) → target net.wires (line_at m o) ≡ None → AreWiresOf (IsWireBefore (module_circuit net) m o) ws
+  pub line_skipped : (m o : ℕ) (ws : List Wire) → target net.wires (line_at m o) ≡ None
+      → AreWiresOf (IsWireBefore (module_circuit net) m o) ws
       → AreWiresOf (IsWireBefore (module_circuit net) m (o + 1)) ws
   line_skipped m o ws none so = wires_skip (module_circuit net) modules m o ws none so
 
   pub line_added : (m o : ℕ) (x : Module) (to : Line) (w : Wire) (ws : List Wire) → slice_get net.elements m ≡ Some x
       → target net.wires (line_at m o) ≡ Some to → IsBetween (module_circuit net) m o to w
-      → AreWiresOf (IsWireBefore (module_circuit net) m o) ws → AreWiresOf (IsWireBefore (module_circuit net) m (o + 1)) (ws ++ w ∷ [])
+      → AreWiresOf (IsWireBefore (module_circuit net) m o) ws → AreWiresOf (IsWireBefore (module_circuit net) m (o + 1))
+      (ws ++ w ∷ [])
   line_added m o x to w ws is leads between so =
       let has = (module_at net m most x modules few is).has in
-      subst (λ v. AreWiresOf (IsWireBefore (module_circuit net) m (o + 1)) (ws ++ v ∷ [])) (sym (between.wire (module_table x) has))
+      subst (λ v. AreWiresOf (IsWireBefore (module_circuit net) m (o + 1)) (ws ++ v ∷ []))
+      (sym (between.wire (module_table x) has))
       (wires_more (module_circuit net) modules m o ws to (module_table x) leads has so)
 
-  pub module_ended : (m o : ℕ) (x : Module) (ws : List Wire) → slice_get net.elements m ≡ Some x → (module_table x).outputs ≤ o
-      → AreWiresOf (IsWireBefore (module_circuit net) m o) ws → AreWiresOf (IsWireBefore (module_circuit net) (m + 1) 0) ws
-  module_ended m o x ws is past so = wires_next (module_circuit net) modules m o (module_table x) ws (module_at net m most x modules few is).has past so
+  pub module_ended : (m o : ℕ) (x : Module) (ws : List Wire) → slice_get net.elements m ≡ Some x
+      → (module_table x).outputs ≤ o
+      → AreWiresOf (IsWireBefore (module_circuit net) m o) ws → AreWiresOf (IsWireBefore (module_circuit net) (m + 1) 0)
+      ws
+  module_ended m o x ws is past so = wires_next (module_circuit net) modules m o (module_table x) ws
+      (module_at net m most x modules few is).has past so
 
-  pub all_wired : (m : ℕ) (ws : List Wire) → m ≡ length net.elements → AreWiresOf (IsWireBefore (module_circuit net) m 0) ws → AreWiresOf (IsBoardWire
+  pub all_wired : (m : ℕ) (ws : List Wire) → m ≡ length net.elements
+      → AreWiresOf (IsWireBefore (module_circuit net) m 0) ws → AreWiresOf (IsBoardWire
       (module_circuit net)) ws
   all_wired m ws all so =
-      wires_all (module_circuit net) modules ws (subst (λ n. AreWiresOf (IsWireBefore (module_circuit net) n 0) ws) (all ∙ sym (tables_counted net)) so)
+      wires_all (module_circuit net) modules ws (subst (λ n. AreWiresOf (IsWireBefore (module_circuit net) n 0) ws)
+      (all ∙ sym (tables_counted net)) so)
 
-  pub owned : (m : ℕ) (ws : List Wire) → m ≡ length net.elements → AreWiresOf (IsOwnWire (module_circuit net) m) ws → AreWiresOf (IsWireBefore
+  pub owned : (m : ℕ) (ws : List Wire) → m ≡ length net.elements → AreWiresOf (IsOwnWire (module_circuit net) m) ws
+      → AreWiresOf (IsWireBefore
       (module_circuit net) 0 0) ws
-  owned m ws all so = all_own (module_circuit net) modules ws (subst (λ n. AreWiresOf (IsOwnWire (module_circuit net) n) ws) (all ∙ sym (tables_counted
+  owned m ws all so = all_own (module_circuit net) modules ws
+      (subst (λ n. AreWiresOf (IsOwnWire (module_circuit net) n) ws) (all ∙ sym (tables_counted
       net)) so)
 
 -- where the modules' banks begin

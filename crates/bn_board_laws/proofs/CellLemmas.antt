@@ -15,17 +15,45 @@ module _ (l : Limits) (names : List ControlState) (n : Circuit) where
   -- each cell's table and its bank's first element
   abbrev pub CellsLie : Quadruples → Layout → Type 0
   CellsLie m b = IsNetwork m l names n → (t p : ℕ) → IsTape t → p < cells_in l t
-      → (slice_get n.tables (first_cell l t + p) ≡ Some (cell_table (symbol_count m t))) × (base n.tables (first_cell l t + p) ≡ cell_element b t p)
+      → (slice_get n.tables (first_cell l t + p) ≡ Some (cell_table (symbol_count m t)))
+      × (base n.tables (first_cell l t + p) ≡ cell_element b t p)
 
   -- where the machine and the layout are given by their parts
   by_parts : (x y z : ℕ) (m : Quadruples) (b : Layout)
-      → CellsLie (quadruples_of m.rules m.states (x ∷ y ∷ z ∷ [])) (record { limits = l; symbols = x ∷ y ∷ z ∷ []; states = length names; firsts = b.firsts; awaited = b.awaited })
-  by_parts x y z m b network t p tape low = (has_cell m.rules m.states x y z l names n b.firsts b.awaited network t p tape low, cell_base m.rules m.states x y z l names n b.firsts b.awaited network t p tape low)
+      → CellsLie (quadruples_of m.rules m.states (x ∷ y ∷ z ∷ []))
+      (record {
+        limits = l;
+        symbols = x ∷ y ∷ z ∷ [];
+        states = length names;
+        firsts = b.firsts;
+        awaited = b.awaited;
+      })
+  by_parts x y z m b network t p tape low = (
+    has_cell m.rules m.states x y z l names n b.firsts b.awaited network t p
+        tape low,
+    cell_base m.rules m.states x y z l names n b.firsts b.awaited network t p tape low,
+  )
 
   -- of any machine with three numbers of symbols
-  pub cells_lie : (x y z : ℕ) (m : Quadruples) (b : Layout) → m.symbols ≡ x ∷ y ∷ z ∷ [] → IsLayout m l names b → CellsLie m b
+  pub cells_lie : (x y z : ℕ) (m : Quadruples) (b : Layout) → m.symbols ≡ x ∷ y ∷ z ∷ [] → IsLayout m l names b
+      → CellsLie m b
   cells_lie x y z m b symbols kept =
-      let machine_is : m ≡ quadruples_of m.rules m.states (x ∷ y ∷ z ∷ []) = λ i. record { rules = m.rules; states = m.states; symbols = symbols i } in
+      let machine_is : m ≡ quadruples_of m.rules m.states (x ∷ y ∷ z ∷ []) =
+      λ i. record { rules = m.rules; states = m.states; symbols = symbols i } in
       let letters_same : b.symbols ≡ x ∷ y ∷ z ∷ [] = kept.symbols ∙ symbols in
-      let layout_is : b ≡ record { limits = l; symbols = x ∷ y ∷ z ∷ []; states = length names; firsts = b.firsts; awaited = b.awaited } = λ i. record { limits = kept.limits i; symbols = letters_same i; states = kept.states i; firsts = b.firsts; awaited = b.awaited } in
-      subst (λ v. CellsLie v b) (sym machine_is) (subst (CellsLie (quadruples_of m.rules m.states (x ∷ y ∷ z ∷ []))) (sym layout_is) (by_parts x y z m b))
+      let layout_is : b ≡ record {
+        limits = l;
+        symbols = x ∷ y ∷ z
+            ∷ [];
+        states = length names;
+        firsts = b.firsts;
+        awaited = b.awaited;
+      } = λ i. record {
+        limits = kept.limits i;
+        symbols = letters_same i;
+        states = kept.states i;
+        firsts = b.firsts;
+        awaited = b.awaited;
+      } in
+      subst (λ v. CellsLie v b) (sym machine_is) (subst (CellsLie (quadruples_of m.rules m.states (x ∷ y ∷ z ∷ [])))
+      (sym layout_is) (by_parts x y z m b))

@@ -8,7 +8,8 @@ use Rattle.bn_bennett_laws.proofs.Counts.{list_has_length, list_is_in_range}
 use Rattle.bn_bennett_laws.proofs.Moments.{every_moment_stands}
 use Rattle.bn_bennett_laws.proofs.Numbering.{numbers_pass_tests, numbers_run_alike}
 use Rattle.bn_bennett_laws.proofs.Short.{bounded_runs_are_short}
-use Rattle.bn_bennett.specs.Laws.{TranslationsAreUniform, TranslationsEndAlike, TranslationsHaveNoRoom, TranslationsStand}
+use Rattle.bn_bennett.specs.Laws.{TranslationsAreUniform, TranslationsEndAlike, TranslationsHaveNoRoom}
+use Rattle.bn_bennett.specs.Laws.{TranslationsStand}
 use Rattle.bn_bennett.specs.Translation.{name_of}
 use Rattle.bn_bennett.proofs.Alike.{begins_named, ends_alike, ends_named, names_apart, no_room, run_named}
 use Rattle.bn_bennett.proofs.Once.{translations_are_one}
@@ -46,7 +47,8 @@ uniform p t standard h =
     )
 
 pub alike : TranslationsEndAlike
-alike p t word standard h letters = ends_alike p t h standard numbers_pass_tests numbers_run_alike word bounded_runs_agree letters
+alike p t word standard h letters = ends_alike p t h standard numbers_pass_tests numbers_run_alike word
+    bounded_runs_agree letters
 
 pub stand : TranslationsStand
 stand p t word standard h letters = (
@@ -57,7 +59,8 @@ stand p t word standard h letters = (
 )
 
 pub have_no_room : TranslationsHaveNoRoom
-have_no_room p t word standard h letters = no_room p t h standard numbers_pass_tests numbers_run_alike word runs_have_no_room letters
+have_no_room p t word standard h letters = no_room p t h standard numbers_pass_tests numbers_run_alike word
+    runs_have_no_room letters
 
 -- ---- the board
 
@@ -68,12 +71,14 @@ pub read_off : BoardsRead
 read_off = boards-read uniform have-entries
 
 pub run_to_exit : BoardsRunToTheirExit
-run_to_exit = boards-run alike uniform stand have_no_room (first-moment costs-bounded have-entries) (next-moment costs-bounded (commands-walk costs-bounded) have-entries)
+run_to_exit = boards-run alike uniform stand have_no_room (first-moment costs-bounded have-entries)
+    (next-moment costs-bounded (commands-walk costs-bounded) have-entries)
     (last-moment costs-bounded (commands-walk costs-bounded) have-entries) read_off
 
 pub have_moments : BoardsHaveMoments
 have_moments =
-    boards-moments uniform have-entries alike stand have_no_room (outcome_exists, outcome_once) (first-moment costs-bounded have-entries)
+    boards-moments uniform have-entries alike stand have_no_room (outcome_exists, outcome_once)
+    (first-moment costs-bounded have-entries)
     (next-moment costs-bounded (commands-walk costs-bounded) have-entries)
     (last-moment costs-bounded (commands-walk costs-bounded) have-entries) heads-stay
 

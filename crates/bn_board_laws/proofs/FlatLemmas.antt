@@ -26,7 +26,9 @@ controls_one = (order_one, order_there, λ m names is u n. table_there m names i
 
 -- the machine of a translation has a symbol on each tape
 has_letters : (p : Program) (m : Quadruples) → IsMachine p → m.symbols ≡ symbols_of p → HasLetters m
-has_letters p m is symbols t tape = subst (λ zs. 0 < symbol_count (record { rules = m.rules; states = m.states; symbols = zs }) t) (sym symbols) (tape_letters p m (some_symbols p is) t tape)
+has_letters p m is symbols t tape = subst (λ zs. 0 < symbol_count
+    (record { rules = m.rules; states = m.states; symbols = zs }) t) (sym symbols)
+    (tape_letters p m (some_symbols p is) t tape)
 
 -- a machine in standard form has a board, and two of them are the same up to the order of wires
 pub flats-there : TranslationsAreOne → TranslationsAreUniform → TranslationsAreThere → BoardsAreThere → FlatsAreThere
@@ -42,7 +44,15 @@ flats-there ones uniform there boards p word l standard fits =
     let network = networks-there.0 m l names is.machine even letters order.1 in
     let board = boards network.0 (networks-modules m l names network.0 letters order.1 network.1) in
     let layout = layouts-there.0 m l names is.machine even order.1 in
-    let f : Flat = record { translation = t; limits = l; word = word; names = names; network = network.0; circuit = board.0; layout = layout.0 } in
+    let f : Flat = record {
+      translation = t;
+      limits = l;
+      word = word;
+      names = names;
+      network = network.0;
+      circuit = board.0;
+      layout = layout.0;
+    } in
     let flat : IsFlatOf p word l f =
     record {
       translation = is;

@@ -18,7 +18,8 @@ use Rattle.bn_board_spec.specs.Flats.{Flat, machine_of, IsFlatOf, situation_at_s
 use Rattle.bn_board_spec.specs.Readings.{elements_in, MomentsAgree}
 use Rattle.bn_board_laws.specs.Journeys.{NetworkComes}
 
--- The board's run in its cost: a moment for each of the machine's steps and one more, and where the signal stands at the end.
+-- The board's run in its cost: a moment for each of the machine's steps and one more, and where the signal stands at
+-- the end.
 pub record BoardComes (f : Flat) (n : ℕ) (d : Configuration ℕ) (e : Exit) : Type 0 where
   pub moves : ℕ
   pub last : Situation
@@ -28,7 +29,8 @@ pub record BoardComes (f : Flat) (n : ℕ) (d : Configuration ℕ) (e : Exit) : 
   pub at_end : Config
   pub run : Reaches (BoardGoes f.circuit) (run_cost f.network (moves + 1) (situation_at_start f)) (flat_start f) at_end
   pub bounded : run_cost f.network (moves + 1) (situation_at_start f) ≤ 4 * elements_in f + 48 * elements_in f * (n + 1)
-  pub count : tally (is_moment f.layout) f.circuit (run_cost f.network (moves + 1) (situation_at_start f)) (flat_start f) ≡ n + 1
+  pub count : tally (is_moment f.layout) f.circuit (run_cost f.network (moves + 1) (situation_at_start f))
+      (flat_start f) ≡ n + 1
   pub stands : (StandsFor f.network last at_end
       × ((e i : ℕ) → last.place ≢ Enter e i)) ⊎ IsLoose f.network last at_end
 

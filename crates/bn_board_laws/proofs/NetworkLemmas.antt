@@ -17,7 +17,8 @@ use Rattle.bn_board_laws.specs.ExistenceLaws.{NetworksAreThere, NetworksAreModul
 -- a machine has a network, and two of them are alike
 pub networks-there : NetworksAreThere
 networks-there = (
-  λ m l names is u letters numbering. let table = table_there m names is u numbering in network_there m l is.tapes names table.0 table.1,
+  λ m l names is u letters numbering. let table = table_there m names is u numbering in network_there m l is.tapes names
+      table.0 table.1,
   λ m l names k n a b. networks_one m l names k n (table_one m names) a b,
 )
 
@@ -26,7 +27,13 @@ networks-there = (
 -- each module can be a bank
 pub networks-modules : NetworksAreModules
 networks-modules m l names k letters_some numbering net =
-    record { circuit = net.circuit; some_states = λ e t h. states t (kinds e t h); some_lines = λ e t h. some t (kinds e t h); square = λ e t h. square t (kinds e t h) }
+    record {
+      circuit = net.circuit;
+      some_states = λ e t h. states t (kinds e t h);
+      some_lines = λ e t h. some t
+          (kinds e t h);
+      square = λ e t h. square t (kinds e t h);
+    }
   where
     Kinds : Table → Type 0
     Kinds t = (t ≡ net.control) ⊎ ((u : ℕ) × IsTape u × (t ≡ cell_table (symbol_count m u)))
@@ -44,9 +51,11 @@ networks-modules m l names k letters_some numbering net =
     states t (inr h) = let some = letters_some h.0 h.1 in let same = ap (λ (x : Table). x.states) h.2 in omega arith
 
     some : (t : Table) → Kinds t → 0 < t.inputs
-    some t (inl e) = let low = lines_some m.symbols 3 in let count = net.is_control.inputs in let same = ap (λ (x : Table). x.inputs) e in omega arith
+    some t (inl e) = let low = lines_some m.symbols 3 in let count = net.is_control.inputs in let same =
+        ap (λ (x : Table). x.inputs) e in omega arith
     some t (inr h) = let same = ap (λ (x : Table). x.inputs) h.2 in omega arith
 
     square : (t : Table) → Kinds t → t.outputs ≡ t.inputs
-    square t (inl e) = ap (λ (x : Table). x.outputs) e ∙ net.is_control.outputs ∙ sym net.is_control.inputs ∙ sym (ap (λ (x : Table). x.inputs) e)
+    square t (inl e) = ap (λ (x : Table). x.outputs) e ∙ net.is_control.outputs ∙ sym net.is_control.inputs
+        ∙ sym (ap (λ (x : Table). x.inputs) e)
     square t (inr h) = ap (λ (x : Table). x.outputs) h.2 ∙ sym (ap (λ (x : Table). x.inputs) h.2)

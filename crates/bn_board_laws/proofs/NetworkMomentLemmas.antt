@@ -25,7 +25,8 @@ none_low : (z : ℕ) → All (λ s. s < z) []
 none_low z k d low = absurd (omega arith)
 
 -- one head a tape, wherever a run leads
-heads_along : (m : Quadruples) (l : Limits) (names : List ControlState) (k : Circuit) → IsNetwork m l names k → (n : ℕ) (s t : Situation)
+heads_along : (m : Quadruples) (l : Limits) (names : List ControlState) (k : Circuit) → IsNetwork m l names k
+    → (n : ℕ) (s t : Situation)
     → HasHeads m l s → Reaches (Turns k) n s t → HasHeads m l t
 heads_along m l names k net zero s t heads path = subst (HasHeads m l) path heads
 heads_along m l names k net (suc n) s t heads path =
@@ -38,9 +39,13 @@ networks-moments m l names k is =
       read.0,
       record {
         tells = read.1.tells;
-        first = λ word low fits. first-moment costs-bounded have-entries m l names k read.0 word is.machine is.uniform is.symbols is.numbering is.network read.1.tells low fits;
-        next = λ s c d at n by. next-moment costs-bounded (commands-walk costs-bounded) have-entries m l names k read.0 is.machine is.uniform is.numbering is.network read.1.tells s c d at n by;
-        last = λ s c e at ends early. last-moment costs-bounded (commands-walk costs-bounded) have-entries m l names k read.0 is.machine is.uniform is.numbering is.network read.1.tells s c e at ends early;
-        heads = λ word low n t path. heads_along m l names k is.network n _ t (networks-read m l word names k layout.0 is layout.1 low).1.heads path;
+        first = λ word low fits. first-moment costs-bounded have-entries m l names k read.0 word is.machine is.uniform
+            is.symbols is.numbering is.network read.1.tells low fits;
+        next = λ s c d at n by. next-moment costs-bounded (commands-walk costs-bounded) have-entries m l names k read.0
+            is.machine is.uniform is.numbering is.network read.1.tells s c d at n by;
+        last = λ s c e at ends early. last-moment costs-bounded (commands-walk costs-bounded) have-entries m l names k
+            read.0 is.machine is.uniform is.numbering is.network read.1.tells s c e at ends early;
+        heads = λ word low n t path. heads_along m l names k is.network n _ t
+            (networks-read m l word names k layout.0 is layout.1 low).1.heads path;
       },
     )

@@ -12,7 +12,8 @@ use Rattle.bn_network.specs.Networks.{IsNetwork, network_start}
 use Rattle.bn_network.specs.Moments.{HasLetters}
 use Rattle.bn_board_spec.specs.Layouts.{Layout, IsLayout, symbol_count_at}
 use Rattle.bn_board_spec.proofs.TabledLemmas.{machine, has_cell, cell_base, whole, counted}
-use Rattle.bn_board_spec.proofs.AgreedLemmas.{net_test, moment_state, modules, between, amid, loose, which, tells, quiet, end, cell_exit, loose_exit, some_states}
+use Rattle.bn_board_spec.proofs.AgreedLemmas.{net_test, moment_state, modules, between, amid, loose, which, tells}
+use Rattle.bn_board_spec.proofs.AgreedLemmas.{quiet, end, cell_exit, loose_exit, some_states}
 use Rattle.bn_board_spec.proofs.StartingLemmas.{starts, heads}
 use Rattle.bn_board_spec.proofs.SpellingLemmas.{spells, spells_loose}
 use Rattle.bn_board_laws.specs.NetworkReads.{NetworkReads}
@@ -21,10 +22,17 @@ use Rattle.bn_board_laws.specs.NetworkMoments.{NetworksAreRead}
 module _ (l : Limits) (word : List ℕ) (names : List ControlState) (n : Circuit) where
   abbrev HasReads : Quadruples → Layout → Type 0
   HasReads m b = IsNetwork m l names n → IsNumbering m names → IsLayout m l names b → IsQuadMachine m → HasEntries m
-      → HasLetters m → All (λ s. s < symbol_count m 1) word → (test : Situation → Bool) × NetworkReads m l word names n b test
+      → HasLetters m → All (λ s. s < symbol_count m 1) word → (test : Situation → Bool)
+      × NetworkReads m l word names n b test
 
   abbrev layout_of : List ℕ → List (Option (ℕ × ℕ)) → List (Option (ℕ × ℕ)) → Layout
-  layout_of zs firsts awaited = record { limits = l; symbols = zs; states = length names; firsts = firsts; awaited = awaited }
+  layout_of zs firsts awaited = record {
+    limits = l;
+    symbols = zs;
+    states = length names;
+    firsts = firsts;
+    awaited = awaited;
+  }
 
   -- the layout has the machine's numbers of symbols
   letters_same : (zs : List ℕ) (rules : List (Rule ℕ)) (states : ℕ) (firsts awaited : List (Option (ℕ × ℕ))) (t : ℕ)
@@ -39,7 +47,8 @@ module _ (l : Limits) (word : List ℕ) (names : List ControlState) (n : Circuit
       let first : 0 < x = some 1 (record { low = omega arith; high = omega arith }) in
       let second : 0 < y = some 2 (record { low = omega arith; high = omega arith }) in
       let third : 0 < z = some 3 (record { low = omega arith; high = omega arith }) in
-      let states_some = some_states rules states x y z l names n firsts awaited network numbering kept quad entries some in (
+      let states_some = some_states rules states x y z l names n firsts awaited network numbering kept quad entries some
+      in (
         test,
         record {
           modules = modules rules states x y z l names n firsts awaited network numbering kept quad entries some;
@@ -53,7 +62,8 @@ module _ (l : Limits) (word : List ℕ) (names : List ControlState) (n : Circuit
           heads = heads rules states x y z l names n firsts awaited network word states_some first second third low;
           cell_tables = has_cell rules states x y z l names n firsts awaited network;
           cell_bases = cell_base rules states x y z l names n firsts awaited network;
-          quiet = quiet rules states x y z l names n firsts awaited network numbering kept quad entries some (network_start (machine rules states x y z l names n firsts awaited) l word) refl;
+          quiet = quiet rules states x y z l names n firsts awaited network numbering kept quad entries some
+              (network_start (machine rules states x y z l names n firsts awaited) l word) refl;
           count = counted rules states x y z l names n firsts awaited;
           whole = whole rules states x y z l names n firsts awaited network;
           letters_are = letters_same (x ∷ y ∷ z ∷ []) rules states firsts awaited;
@@ -61,12 +71,14 @@ module _ (l : Limits) (word : List ℕ) (names : List ControlState) (n : Circuit
           cell = cell_exit rules states x y z l names n firsts awaited network numbering kept quad entries some;
           loose = loose_exit rules states x y z l names n firsts awaited network numbering kept quad entries some;
           spells = λ s d c stands. spells rules states x y z l names n firsts awaited network s d stands c;
-          spells_loose = λ s d i c at place. spells_loose rules states x y z l names n firsts awaited network s d i at place c;
+          spells_loose = λ s d i c at place. spells_loose rules states x y z l names n firsts awaited network s d i at
+              place c;
         },
       )
 
   -- of any three numbers of symbols
-  of_three : (zs : List ℕ) → length zs ≡ 3 → (rules : List (Rule ℕ)) (states : ℕ) (firsts awaited : List (Option (ℕ × ℕ)))
+  of_three : (zs : List ℕ) → length zs ≡ 3 → (rules : List (Rule ℕ)) (states : ℕ)
+      (firsts awaited : List (Option (ℕ × ℕ)))
       → HasReads (quadruples_of rules states zs) (layout_of zs firsts awaited)
   of_three [] count rules states firsts awaited = absurd (omega arith)
   of_three (x ∷ []) count rules states firsts awaited = absurd (omega arith)
@@ -76,9 +88,17 @@ module _ (l : Limits) (word : List ℕ) (names : List ControlState) (n : Circuit
 
   of_machine : (m : Quadruples) (b : Layout) → length m.symbols ≡ 3 → IsLayout m l names b → HasReads m b
   of_machine m b three kept =
-      let layout_is : b ≡ layout_of m.symbols b.firsts b.awaited = λ i. record { limits = kept.limits i; symbols = kept.symbols i; states = kept.states i; firsts = b.firsts; awaited = b.awaited } in
+      let layout_is : b ≡ layout_of m.symbols b.firsts b.awaited =
+      λ i. record {
+        limits = kept.limits i;
+        symbols = kept.symbols i;
+        states = kept.states i;
+        firsts = b.firsts;
+        awaited = b.awaited;
+      } in
       subst (HasReads m) (sym layout_is) (of_three m.symbols three m.rules m.states b.firsts b.awaited)
 
 pub networks-read : NetworksAreRead
 networks-read m l word names k b is kept low =
-    of_machine l word names k m b is.machine.tapes kept is.network is.numbering kept is.machine (have-entries m is.machine is.uniform) is.symbols low
+    of_machine l word names k m b is.machine.tapes kept is.network is.numbering kept is.machine
+    (have-entries m is.machine is.uniform) is.symbols low

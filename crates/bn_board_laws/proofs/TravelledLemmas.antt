@@ -40,7 +40,8 @@ none_of : (b : Bool) → b ≡ false → one_if b ≡ 0
 none_of true h = absurd (cc)
 none_of false h = refl
 
-module _ (f : Flat) (test : Situation → Bool) (modules : AreModules f.network) (board : IsBoard f.network f.circuit) (agree : MomentsAgree f test) where
+module _ (f : Flat) (test : Situation → Bool) (modules : AreModules f.network) (board : IsBoard f.network f.circuit)
+    (agree : MomentsAgree f test) where
   -- a run of m moves in its cost
   pub record Leg (m : ℕ) (s t : Situation) (c d : Config) (count : ℕ) : Type 0 where
     pub turns : Reaches (Turns f.network) m s t
@@ -49,17 +50,30 @@ module _ (f : Flat) (test : Situation → Bool) (modules : AreModules f.network)
     pub steps : d.steps ≡ c.steps + run_cost f.network m s
     pub counted : tally (is_moment f.layout) f.circuit (run_cost f.network m s) c ≡ count
 
-  leg : (m : ℕ) (s t : Situation) (c : Config) → StandsFor f.network s c → 0 < m → Passes (Turns f.network) (λ x. not (test x)) m s t
+  leg : (m : ℕ) (s t : Situation) (c : Config) → StandsFor f.network s c → 0 < m
+      → Passes (Turns f.network) (λ x. not (test x)) m s t
       → c.steps + run_cost f.network m s ≤ clock
       → (d : Config) × Leg m s t c d (one_if (test t))
   leg m s t c stands some path room =
       let between : Situation → Bool = λ x. not (test x) in
       let quiet : Config → Bool = λ d. not (is_moment f.layout d) in
-      let follow = boards-follow f.network f.circuit m s t c between quiet modules board stands path room (λ i x y d low run g amid. negated (is_moment f.layout d) (agree.amid x y d amid)) (λ x d there h. negated (is_moment f.layout d) (agree.between x d there ∙ denied (test x) h)) in
+      let follow = boards-follow f.network f.circuit m s t c between quiet modules board stands path room
+      (λ i x y d low run g amid. negated (is_moment f.layout d) (agree.amid x y d amid))
+      (λ x d there h. negated (is_moment f.layout d) (agree.between x d there ∙ denied (test x) h)) in
       let run = passes_run (Goes f.circuit) quiet (run_cost f.network m s) c follow.0 follow.1 in
       let turns = passes_run (Turns f.network) between m s t path in
-      let once = tallies-add.1 f.circuit (is_moment f.layout) (run_cost f.network m s) c follow.0 (cost_some f.network m s t some turns) follow.1 in
-      (follow.0, record { turns = turns; run = run; stands = follow.2; steps = follow.3; counted = once ∙ ap one_if (agree.between t follow.0 follow.2) })
+      let once = tallies-add.1 f.circuit (is_moment f.layout) (run_cost f.network m s) c follow.0
+      (cost_some f.network m s t some turns) follow.1 in (
+        follow.0,
+        record {
+          turns = turns;
+          run = run;
+          stands = follow.2;
+          steps = follow.3;
+          counted = once
+              ∙ ap one_if (agree.between t follow.0 follow.2);
+        },
+      )
 
   no_leg : (s : Situation) (c : Config) → StandsFor f.network s c → Leg 0 s s c c 0
   no_leg s c stands =
@@ -72,23 +86,27 @@ module _ (f : Flat) (test : Situation → Bool) (modules : AreModules f.network)
         counted = ap (λ x. tally (is_moment f.layout) f.circuit x c) none ∙ tally-zero f.circuit (is_moment f.layout) c;
       }
 
-  two_legs : (m n : ℕ) (s t u : Situation) (c d e : Config) (a b : ℕ) → Leg m s t c d a → Leg n t u d e b → Leg (m + n) s u c e (a + b)
+  two_legs : (m n : ℕ) (s t u : Situation) (c d e : Config) (a b : ℕ) → Leg m s t c d a → Leg n t u d e b
+      → Leg (m + n) s u c e (a + b)
   two_legs m n s t u c d e a b first second =
       let cost = cost-joins f.network m n s t first.turns in
       let steps_first = first.steps in
       let steps_second = second.steps in
       let counted_first = first.counted in
       let counted_second = second.counted in
-      let joined = tallies-add.0 f.circuit (is_moment f.layout) (run_cost f.network m s) (run_cost f.network n t) c d first.run in
+      let joined = tallies-add.0 f.circuit (is_moment f.layout) (run_cost f.network m s) (run_cost f.network n t) c d
+      first.run in
       record {
         turns = runs_join (Turns f.network) (m + n) m n s t u refl first.turns second.turns;
-        run = runs_join (Goes f.circuit) (run_cost f.network (m + n) s) (run_cost f.network m s) (run_cost f.network n t) c d e cost first.run second.run;
+        run = runs_join (Goes f.circuit) (run_cost f.network (m + n) s) (run_cost f.network m s)
+            (run_cost f.network n t) c d e cost first.run second.run;
         stands = second.stands;
         steps = omega arith;
         counted = ap (λ x. tally (is_moment f.layout) f.circuit x c) cost ∙ joined ∙ omega arith;
       }
 
-  all_strides : (n : ℕ) (s t : Situation) (x y : Configuration ℕ) (c : Config) → StandsFor f.network s c → Reaches (Strides f test) n (s, x) (t, y)
+  all_strides : (n : ℕ) (s t : Situation) (x y : Configuration ℕ) (c : Config) → StandsFor f.network s c
+      → Reaches (Strides f test) n (s, x) (t, y)
       → c.steps + 48 * elements_in f * n ≤ clock
       → (m : ℕ) × (d : Config) × Leg m s t c d n × (run_cost f.network m s ≤ 48 * elements_in f * n)
   all_strides zero s t x y c stands path room =
@@ -111,11 +129,17 @@ module _ (f : Flat) (test : Situation → Bool) (modules : AreModules f.network)
       (stride.moves + rest.0, rest.1, subst (Leg (stride.moves + rest.0) s t c rest.1) count whole, omega arith)
 
   -- from the last moment to the end, which is none
-  leaving : (m : ℕ) (s t : Situation) (c : Config) → StandsFor f.network s c → Passes (Turns f.network) (λ x. not (test x)) m s t
+  leaving : (m : ℕ) (s t : Situation) (c : Config) → StandsFor f.network s c
+      → Passes (Turns f.network) (λ x. not (test x)) m s t
       → (m ≡ 0) ⊎ (test t ≡ false) → c.steps + run_cost f.network m s ≤ clock → (d : Config) × Leg m s t c d 0
   leaving zero s t c stands path quiet room = (c, subst (λ z. Leg 0 s z c c 0) path (no_leg s c stands))
   leaving (suc m) s t c stands path (inl none) room = absurd (omega arith)
-  leaving (suc m) s t c stands path (inr none) room = let last = leg (suc m) s t c stands (omega arith) path room in (last.0, subst (Leg (suc m) s t c last.0) (none_of (test t) none) last.1)
+  leaving (suc m) s t c stands path (inr none) room = let last =
+      leg (suc m) s t c stands (omega arith) path room in (
+        last.0,
+        subst (Leg (suc m) s t c last.0)
+            (none_of (test t) none) last.1,
+      )
 
   -- the end: nothing more, or the way to a loose line
   pub record Ending (t : Situation) (c e : Config) : Type 0 where
@@ -123,20 +147,23 @@ module _ (f : Flat) (test : Situation → Bool) (modules : AreModules f.network)
     pub counted : tally (is_moment f.layout) f.circuit (step_cost f.network t) c ≡ 0
     pub stands : (StandsFor f.network t e × ((x i : ℕ) → t.place ≢ Enter x i)) ⊎ IsLoose f.network t e
 
-  at_end : (t : Situation) (c : Config) (p : Place) → t.place ≡ p → StandsFor f.network t c → IsAtEnd f.network t → c.steps + step_cost f.network t ≤ clock
+  at_end : (t : Situation) (c : Config) (p : Place) → t.place ≡ p → StandsFor f.network t c → IsAtEnd f.network t
+      → c.steps + step_cost f.network t ≤ clock
       → (e : Config) × Ending t c e
   at_end t c (Left e o) is stands ended room =
       let none = left_cost f.network t e o is in (
         c,
         record {
           run = subst (λ x. Reaches (Goes f.circuit) x c c) (sym none) refl;
-          counted = ap (λ x. tally (is_moment f.layout) f.circuit x c) none ∙ tally-zero f.circuit (is_moment f.layout) c;
+          counted = ap (λ x. tally (is_moment f.layout) f.circuit x c) none
+              ∙ tally-zero f.circuit (is_moment f.layout) c;
           stands = inl (stands, λ x i h. (let both : Left e o ≡ Enter x i = sym is ∙ h in cc));
         },
       )
   at_end t c (Enter e i) is stands ended room =
       let quiet : Config → Bool = λ d. not (is_moment f.layout d) in
-      let loose = loose-move f.network f.circuit t e i c quiet modules board stands ended is room (λ d amid. negated (is_moment f.layout d) (agree.amid t t d amid)) in
+      let loose = loose-move f.network f.circuit t e i c quiet modules board stands ended is room
+      (λ d amid. negated (is_moment f.layout d) (agree.amid t t d amid)) in
       let never = agree.loose t loose.0 loose.2 in (
         loose.0,
         record {
@@ -146,12 +173,15 @@ module _ (f : Flat) (test : Situation → Bool) (modules : AreModules f.network)
         },
       )
     where
-      by_cost : (n : ℕ) (d : Config) → Passes (Goes f.circuit) (λ x. not (is_moment f.layout x)) n c d → is_moment f.layout d ≡ false
+      by_cost : (n : ℕ) (d : Config) → Passes (Goes f.circuit) (λ x. not (is_moment f.layout x)) n c d
+          → is_moment f.layout d ≡ false
           → tally (is_moment f.layout) f.circuit n c ≡ 0
       by_cost zero d path none = tally-zero f.circuit (is_moment f.layout) c
-      by_cost (suc n) d path none = tallies-add.1 f.circuit (is_moment f.layout) (suc n) c d (omega arith) path ∙ none_of (is_moment f.layout d) none
+      by_cost (suc n) d path none = tallies-add.1 f.circuit (is_moment f.layout) (suc n) c d (omega arith) path
+          ∙ none_of (is_moment f.layout d) none
 
-  come : StandsFor f.network (situation_at_start f) (flat_start f) → (n : ℕ) (d : Configuration ℕ) (e : Exit) → NetworkComes f test n d e
+  come : StandsFor f.network (situation_at_start f) (flat_start f) → (n : ℕ) (d : Configuration ℕ) (e : Exit)
+      → NetworkComes f test n d e
       → 4 * elements_in f + 48 * elements_in f * (n + 1) ≤ clock → BoardComes f n d e
   come stands n d e comes room =
       let s = situation_at_start f in
@@ -161,22 +191,29 @@ module _ (f : Flat) (test : Situation → Bool) (modules : AreModules f.network)
       let one = leg 1 s comes.first c stands (omega arith) comes.starts.path (omega arith) in
       let told : one_if (test comes.first) ≡ 1 = one_of (test comes.first) comes.told in
       let steps_one = one.1.steps in
-      let middle = all_strides n comes.first comes.moment (beginning_of f.translation f.word) d one.0 one.1.stands comes.strides (omega arith) in
+      let middle = all_strides n comes.first comes.moment (beginning_of f.translation f.word) d one.0 one.1.stands
+      comes.strides (omega arith) in
       let cheap_middle = middle.3 in
       let steps_middle = middle.2.steps in
-      let last_cost = cost-joins f.network comes.moves 1 comes.moment comes.last (passes_run (Turns f.network) (λ x. not (test x)) comes.moves comes.moment comes.last comes.leaves.path) in
+      let last_cost = cost-joins f.network comes.moves 1 comes.moment comes.last
+      (passes_run (Turns f.network) (λ x. not (test x)) comes.moves comes.moment comes.last comes.leaves.path) in
       let last_step = one_cost f.network comes.last in
       let whole_cost = comes.whole in
-      let last = leaving comes.moves comes.moment comes.last middle.1 middle.2.stands comes.leaves.path comes.quiet (omega arith) in
+      let last = leaving comes.moves comes.moment comes.last middle.1 middle.2.stands comes.leaves.path comes.quiet
+      (omega arith) in
       let steps_last = last.1.steps in
-      let begun = two_legs 1 middle.0 s comes.first comes.moment c one.0 middle.1 (one_if (test comes.first)) n one.1 middle.2 in
-      let all = two_legs (1 + middle.0) comes.moves s comes.moment comes.last c middle.1 last.0 (one_if (test comes.first) + n) 0 begun last.1 in
+      let begun = two_legs 1 middle.0 s comes.first comes.moment c one.0 middle.1 (one_if (test comes.first)) n one.1
+      middle.2 in
+      let all = two_legs (1 + middle.0) comes.moves s comes.moment comes.last c middle.1 last.0
+      (one_if (test comes.first) + n) 0 begun last.1 in
       let ending = at_end comes.last last.0 comes.last.place refl last.1.stands comes.ended (omega arith) in
       let moves = 1 + middle.0 + comes.moves in
-      let cost : run_cost f.network (moves + 1) s ≡ run_cost f.network moves s + step_cost f.network comes.last = cost-joins f.network moves 1 s comes.last all.turns ∙ ap (λ x. run_cost f.network moves s + x) last_step in
+      let cost : run_cost f.network (moves + 1) s ≡ run_cost f.network moves s + step_cost f.network comes.last =
+      cost-joins f.network moves 1 s comes.last all.turns ∙ ap (λ x. run_cost f.network moves s + x) last_step in
       let begun_cost = cost-joins f.network 1 middle.0 s comes.first one.1.turns in
       let all_cost = cost-joins f.network (1 + middle.0) comes.moves s comes.moment begun.turns in
-      let joined = tallies-add.0 f.circuit (is_moment f.layout) (run_cost f.network moves s) (step_cost f.network comes.last) c last.0 all.run in
+      let joined = tallies-add.0 f.circuit (is_moment f.layout) (run_cost f.network moves s)
+      (step_cost f.network comes.last) c last.0 all.run in
       let counted = all.counted in
       let counted_end = ending.1.counted in
       record {
@@ -186,11 +223,13 @@ module _ (f : Flat) (test : Situation → Bool) (modules : AreModules f.network)
         ended = comes.ended;
         ends = comes.ends;
         at_end = ending.0;
-        run = runs_join (Goes f.circuit) (run_cost f.network (moves + 1) s) (run_cost f.network moves s) (step_cost f.network comes.last) c last.0 ending.0 cost all.run ending.1.run;
+        run = runs_join (Goes f.circuit) (run_cost f.network (moves + 1) s) (run_cost f.network moves s)
+            (step_cost f.network comes.last) c last.0 ending.0 cost all.run ending.1.run;
         bounded = omega arith;
         count = ap (λ x. tally (is_moment f.layout) f.circuit x c) cost ∙ joined ∙ omega arith;
         stands = ending.1.stands;
       }
 
 pub boards-come : BoardsComeAlike
-boards-come p word l f test flat modules start agree n d e comes room = come f test modules flat.is_board agree start n d e comes room
+boards-come p word l f test flat modules start agree n d e comes room =
+    come f test modules flat.is_board agree start n d e comes room

@@ -29,24 +29,31 @@ passes_all step (suc n) x y path = (path.0, path.1, before n, passes_all step n 
     before zero = tt
     before (suc n) = refl
 
-module _ (n k : Circuit) (modules : AreModules n) (board : IsBoard n k) (start : Situation) (c : Config) (stands : StandsFor n start c) where
+module _ (n k : Circuit) (modules : AreModules n) (board : IsBoard n k) (start : Situation) (c : Config)
+    (stands : StandsFor n start c) where
   -- where the network's run comes, the board's run comes
-  pub reach : (i : ℕ) (x : Situation) → Reaches (Turns n) i start x → c.steps + run_cost n i start ≤ clock → StandsFor n x (run k c (run_cost n i start))
+  pub reach : (i : ℕ) (x : Situation) → Reaches (Turns n) i start x → c.steps + run_cost n i start ≤ clock
+      → StandsFor n x (run k c (run_cost n i start))
       × ((run k c (run_cost n i start)).steps ≡ c.steps + run_cost n i start)
   reach i x path room =
-      let follow = boards-follow n k i start x c (λ s. true) (λ d. true) modules board stands (passes_all (Turns n) i start x path) room (λ j y z d low r g h. refl) (λ y d h e. refl) in
-      let there = Reaches-run k (run_cost n i start) c follow.0 (passes_run (Goes k) (λ d. true) (run_cost n i start) c follow.0 follow.1) in
+      let follow = boards-follow n k i start x c (λ s. true) (λ d. true) modules board stands
+      (passes_all (Turns n) i start x path) room (λ j y z d low r g h. refl) (λ y d h e. refl) in
+      let there = Reaches-run k (run_cost n i start) c follow.0
+      (passes_run (Goes k) (λ d. true) (run_cost n i start) c follow.0 follow.1) in
       (subst (StandsFor n x) (sym there) follow.2, ap (λ (d : Config). d.steps) there ∙ follow.3)
 
-  module _ (moves cost : ℕ) (last : Situation) (path : Reaches (Turns n) moves start last) (ended : IsAtEnd n last) (is : cost ≡ run_cost n (moves + 1) start) (room : c.steps + cost ≤ clock) (test : Config → Bool)
-      (amid : (i : ℕ) (x y : Situation) (d : Config) → Reaches (Turns n) i start x → Turns n x y ⊎ (x ≡ y) → IsAmid n x y d
+  module _ (moves cost : ℕ) (last : Situation) (path : Reaches (Turns n) moves start last) (ended : IsAtEnd n last)
+      (is : cost ≡ run_cost n (moves + 1) start) (room : c.steps + cost ≤ clock) (test : Config → Bool)
+      (amid : (i : ℕ) (x y : Situation) (d : Config) → Reaches (Turns n) i start x → Turns n x y ⊎ (x ≡ y)
+      → IsAmid n x y d
       → test d ≡ true) (loose : (d : Config) → IsLoose n last d → test d ≡ true) where
     -- the cost is that of the moves and of the way to the loose line
     sum : cost ≡ run_cost n moves start + step_cost n last
     sum = is ∙ cost-joins n moves 1 start last path ∙ ap (λ x. run_cost n moves start + x) (one_cost n last)
 
     -- on the way to the loose line
-    beyond : (t j : ℕ) (p : Place) → last.place ≡ p → t ≡ run_cost n moves start + j → 0 < j → j ≤ step_cost n last → test (run k c t) ≡ true
+    beyond : (t j : ℕ) (p : Place) → last.place ≡ p → t ≡ run_cost n moves start + j → 0 < j → j ≤ step_cost n last
+        → test (run k c t) ≡ true
     beyond t j (Left e o) place count some within =
         let none : step_cost n last ≡ 0 = ap (entry_cost n last.states) place in
         absurd (omega arith)
@@ -55,13 +62,15 @@ module _ (n k : Circuit) (modules : AreModules n) (board : IsBoard n k) (start :
         let at = reach moves last path (omega arith) in
         let steps : (run k c (run_cost n moves start)).steps ≡ c.steps + run_cost n moves start = at.1 in
         let d = run k c (run_cost n moves start) in
-        let way = loose-move n k last e i d test modules board at.0 ended place (omega arith) (λ x h. amid moves last last x path (inr refl) h) in
+        let way = loose-move n k last e i d test modules board at.0 ended place (omega arith)
+        (λ x h. amid moves last last x path (inr refl) h) in
         let there : run k c t ≡ run k d j = run_composes k c (run_cost n moves start) j t count in
         elim (cases_lt j (step_cost n last)) [
           | inl less ↦ ap test there ∙ paths-between k test (step_cost n last) j d way.0 way.1 some less
           | inr more ↦
               (let all : j ≡ step_cost n last = omega arith in
-              let arrives = Reaches-run k (step_cost n last) d way.0 (passes_run (Goes k) test (step_cost n last) d way.0 way.1) in
+              let arrives = Reaches-run k (step_cost n last) d way.0
+              (passes_run (Goes k) test (step_cost n last) d way.0 way.1) in
               ap test (there ∙ ap (run k d) all ∙ arrives) ∙ loose way.0 way.2)
         ]
 
@@ -70,6 +79,8 @@ module _ (n k : Circuit) (modules : AreModules n) (board : IsBoard n k) (start :
     visits t low =
         let whole = sum in
         elim (cases_lt (run_cost n moves start) t) [
-          | inl over ↦ inr (beyond t (t - run_cost n moves start) last.place refl (omega arith) (omega arith) (omega arith))
-          | inr under ↦ boards-visit n k moves start last c test modules board stands path (omega arith) (λ i x y d few r g h. amid i x y d r (inl g) h) t under
+          | inl over ↦ inr (beyond t (t - run_cost n moves start) last.place refl (omega arith) (omega arith)
+              (omega arith))
+          | inr under ↦ boards-visit n k moves start last c test modules board stands path (omega arith)
+              (λ i x y d few r g h. amid i x y d r (inl g) h) t under
         ]

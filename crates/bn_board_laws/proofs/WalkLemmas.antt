@@ -29,7 +29,8 @@ pub turns_once : (n : Circuit) (s t u : Situation) → Turns n s t → Turns n s
 turns_once n s t u a b = same_Some t u (sym (turns-turn n s t a) ∙ turns-turn n s u b)
 
 -- what a path says of a situation strictly between its ends
-between_holds : (n : Circuit) (test : Situation → Bool) (m i : ℕ) (s t x : Situation) → Passes (Turns n) test m s t → Reaches (Turns n) i s x → 0 < i → i < m
+between_holds : (n : Circuit) (test : Situation → Bool) (m i : ℕ) (s t x : Situation) → Passes (Turns n) test m s t
+    → Reaches (Turns n) i s x → 0 < i → i < m
     → test x ≡ true
 between_holds n test zero i s t x path run some low = absurd (omega arith)
 between_holds n test (suc m) zero s t x path run some low = absurd (omega arith)
@@ -39,10 +40,12 @@ between_holds n test (suc (suc m)) (suc zero) s t x path run some low =
     subst (λ y. test y ≡ true) same path.2
 between_holds n test (suc (suc m)) (suc (suc i)) s t x path run some low =
     let same = turns_once n s run.0 path.0 run.1 path.1 in
-    between_holds n test (suc m) (suc i) path.0 t x path.3 (subst (λ y. Reaches (Turns n) (suc i) y x) same run.2) (omega arith) (omega arith)
+    between_holds n test (suc m) (suc i) path.0 t x path.3 (subst (λ y. Reaches (Turns n) (suc i) y x) same run.2)
+    (omega arith) (omega arith)
 
 -- a run that goes on past a situation goes on from it
-pub goes_on : (n : Circuit) (m i : ℕ) (s t x : Situation) → Reaches (Turns n) m s t → Reaches (Turns n) i s x → m ≤ i → Reaches (Turns n) (i - m) t x
+pub goes_on : (n : Circuit) (m i : ℕ) (s t x : Situation) → Reaches (Turns n) m s t → Reaches (Turns n) i s x → m ≤ i
+    → Reaches (Turns n) (i - m) t x
 goes_on n m i s t x first run low =
     let cut = runs_split (Turns n) m (i - m) i s x (omega arith) run in
     let same = runs_end_once (Turns n) (turns_once n) m s cut.0 t cut.1 first in
@@ -62,7 +65,8 @@ affirmed : (b : Bool) → not b ≡ true → b ≡ false
 affirmed true h = absurd (cc)
 affirmed false h = refl
 
-module _ (f : Flat) (test : Situation → Bool) (modules : AreModules f.network) (board : IsBoard f.network f.circuit) (agree : MomentsAgree f test) where
+module _ (f : Flat) (test : Situation → Bool) (modules : AreModules f.network) (board : IsBoard f.network f.circuit)
+    (agree : MomentsAgree f test) where
   -- a run of m moves on the board, in its cost, with no moment strictly between
   pub record Leg (m : ℕ) (s t : Situation) (c d : Config) : Type 0 where
     pub run : Reaches (BoardGoes f.circuit) (run_cost f.network m s) c d
@@ -71,33 +75,51 @@ module _ (f : Flat) (test : Situation → Bool) (modules : AreModules f.network)
     pub count : tally (is_moment f.layout) f.circuit (run_cost f.network m s) c ≡ one_if (test t)
 
   -- a path with no moment strictly between is such a run
-  pub leg : (m : ℕ) (s t : Situation) (c : Config) → StandsFor f.network s c → 0 < m → Passes (Turns f.network) (λ x. not (test x)) m s t
+  pub leg : (m : ℕ) (s t : Situation) (c : Config) → StandsFor f.network s c → 0 < m
+      → Passes (Turns f.network) (λ x. not (test x)) m s t
       → c.steps + run_cost f.network m s ≤ clock → (d : Config) × Leg m s t c d
   leg m s t c stands some path room =
       let between : Situation → Bool = λ x. not (test x) in
       let quiet : Config → Bool = λ d. not (is_moment f.layout d) in
-      let follow = boards-follow f.network f.circuit m s t c between quiet modules board stands path room (λ i x y d low run g amid. negated (is_moment f.layout d) (agree.amid x y d amid)) (λ x d there h. negated (is_moment f.layout d) (agree.between x d there ∙ affirmed (test x) h)) in
+      let follow = boards-follow f.network f.circuit m s t c between quiet modules board stands path room
+      (λ i x y d low run g amid. negated (is_moment f.layout d) (agree.amid x y d amid))
+      (λ x d there h. negated (is_moment f.layout d) (agree.between x d there ∙ affirmed (test x) h)) in
       let turns = passes_run (Turns f.network) between m s t path in
-      let once = tallies-add.1 f.circuit (is_moment f.layout) (run_cost f.network m s) c follow.0 (cost_some f.network m s t some turns) follow.1 in
-      (follow.0, record { run = passes_run (BoardGoes f.circuit) quiet (run_cost f.network m s) c follow.0 follow.1; stands = follow.2; steps = follow.3; count = once ∙ ap one_if (agree.between t follow.0 follow.2) })
+      let once = tallies-add.1 f.circuit (is_moment f.layout) (run_cost f.network m s) c follow.0
+      (cost_some f.network m s t some turns) follow.1 in (
+        follow.0,
+        record {
+          run = passes_run (BoardGoes f.circuit) quiet (run_cost f.network m s) c follow.0 follow.1;
+          stands = follow.2;
+          steps = follow.3;
+          count = once ∙ ap one_if (agree.between t follow.0 follow.2);
+        },
+      )
 
   -- counts add up
-  pub tally_joins : (m i : ℕ) (s t : Situation) (c d : Config) → Reaches (Turns f.network) m s t → Reaches (BoardGoes f.circuit) (run_cost f.network m s) c d
+  pub tally_joins : (m i : ℕ) (s t : Situation) (c d : Config) → Reaches (Turns f.network) m s t
+      → Reaches (BoardGoes f.circuit) (run_cost f.network m s) c d
       → m ≤ i
-      → tally (is_moment f.layout) f.circuit (run_cost f.network i s) c ≡ tally (is_moment f.layout) f.circuit (run_cost f.network m s) c + tally (is_moment f.layout) f.circuit (run_cost f.network (i - m) t) d
+      → tally (is_moment f.layout) f.circuit (run_cost f.network i s) c
+      ≡ tally (is_moment f.layout) f.circuit (run_cost f.network m s) c
+      + tally (is_moment f.layout) f.circuit (run_cost f.network (i - m) t) d
   tally_joins m i s t c d turns run low =
       let sum : i ≡ m + (i - m) = omega arith in
       let cost = ap (λ x. run_cost f.network x s) sum ∙ cost-joins f.network m (i - m) s t turns in
-      ap (λ x. tally (is_moment f.layout) f.circuit x c) cost ∙ tallies-add.0 f.circuit (is_moment f.layout) (run_cost f.network m s) (run_cost f.network (i - m) t) c d run
+      ap (λ x. tally (is_moment f.layout) f.circuit x c) cost ∙ tallies-add.0 f.circuit (is_moment f.layout)
+      (run_cost f.network m s) (run_cost f.network (i - m) t) c d run
 
   -- from the last moment on there is no other one
-  none_after : (m i : ℕ) (s t x : Situation) → Passes (Turns f.network) (λ y. not (test y)) m s t → IsAtEnd f.network t → (m ≡ 0) ⊎ (test t ≡ false)
+  none_after : (m i : ℕ) (s t x : Situation) → Passes (Turns f.network) (λ y. not (test y)) m s t → IsAtEnd f.network t
+      → (m ≡ 0) ⊎ (test t ≡ false)
       → Reaches (Turns f.network) i s x → test x ≡ true → i ≡ 0
   none_after m zero s t x path ended quiet run told = refl
   none_after m (suc i) s t x path ended quiet run told =
       elim (cases_lt (suc i) m) [
-        | inl less ↦ absurd (denied (test x) (between_holds f.network (λ y. not (test y)) m (suc i) s t x path run (omega arith) less) told)
-        | inr more ↦ at_or_past (suc i - m) refl (goes_on f.network m (suc i) s t x (passes_run (Turns f.network) (λ y. not (test y)) m s t path) run more)
+        | inl less ↦ absurd (denied (test x) (between_holds f.network (λ y. not (test y)) m (suc i) s t x path run
+            (omega arith) less) told)
+        | inr more ↦ at_or_past (suc i - m) refl (goes_on f.network m (suc i) s t x
+            (passes_run (Turns f.network) (λ y. not (test y)) m s t path) run more)
       ]
     where
       at_or_past : (j : ℕ) → suc i - m ≡ j → Reaches (Turns f.network) j t x → suc i ≡ 0
@@ -108,7 +130,8 @@ module _ (f : Flat) (test : Situation → Bool) (modules : AreModules f.network)
             | inr silent ↦ absurd (let yes : test t ≡ true = subst (λ y. test y ≡ true) (sym more) told in cc)
           ]
 
-  -- i moves from the moment of c to x, which the test marks: so many of the machine's steps, and as many moments on the board
+  -- i moves from the moment of c to x, which the test marks: so many of the machine's steps, and as many moments on the
+  -- board
   pub record Walked (i : ℕ) (s x : Situation) (c : Configuration ℕ) (b : Config) : Type 0 where
     pub steps : ℕ
     pub config : Configuration ℕ
@@ -121,13 +144,16 @@ module _ (f : Flat) (test : Situation → Bool) (modules : AreModules f.network)
     steps = 0;
     config = c;
     strides = (λ k. (same k, c));
-    count = ap (λ v. tally (is_moment f.layout) f.circuit (run_cost f.network v s) b) none ∙ ap (λ v. tally (is_moment f.layout) f.circuit v b) (cost-none f.network s) ∙ tally-zero f.circuit (is_moment f.layout) b;
+    count = ap (λ v. tally (is_moment f.layout) f.circuit (run_cost f.network v s) b) none
+        ∙ ap (λ v. tally (is_moment f.layout) f.circuit v b) (cost-none f.network s)
+        ∙ tally-zero f.circuit (is_moment f.layout) b;
   }
 
   -- a moment on the way from a moment to the end is that of one of the machine's steps
   pub walk : (n : ℕ) (s u last : Situation) (c d : Configuration ℕ) (m : ℕ) → Reaches (Strides f test) n (s, c) (u, d)
       → Passes (Turns f.network) (λ y. not (test y)) m u last → IsAtEnd f.network last → (m ≡ 0) ⊎ (test last ≡ false)
-      → (i : ℕ) (x : Situation) → Reaches (Turns f.network) i s x → test x ≡ true → (b : Config) → StandsFor f.network s b
+      → (i : ℕ) (x : Situation) → Reaches (Turns f.network) i s x → test x ≡ true → (b : Config)
+      → StandsFor f.network s b
       → b.steps + run_cost f.network i s ≤ clock → Walked i s x c b
   walk zero s u last c d m strides path ended quiet i x run told b stands room =
       let same : s ≡ u = ap (λ (z : Situation × Configuration ℕ). z.0) strides in
@@ -141,24 +167,35 @@ module _ (f : Flat) (test : Situation → Bool) (modules : AreModules f.network)
       let next = strides.0.0 in
       let between : Situation → Bool = λ y. not (test y) in
       elim (cases_lt (suc i) stride.moves) [
-        | inl less ↦ absurd (denied (test x) (between_holds f.network between stride.moves (suc i) s next x stride.travels.path run (omega arith) less) told)
+        | inl less ↦ absurd (denied (test x) (between_holds f.network between stride.moves (suc i) s next x
+            stride.travels.path run (omega arith) less) told)
         | inr more ↦
             (let turns = passes_run (Turns f.network) between stride.moves s next stride.travels.path in
             let sum : suc i ≡ stride.moves + (suc i - stride.moves) = omega arith in
-            let cost = ap (λ v. run_cost f.network v s) sum ∙ cost-joins f.network stride.moves (suc i - stride.moves) s next turns in
+            let cost = ap (λ v. run_cost f.network v s) sum ∙ cost-joins f.network stride.moves (suc i - stride.moves) s
+            next turns in
             let first = leg stride.moves s next b stands stride.some stride.travels.path (omega arith) in
             let steps = first.1.steps in
-            let rest = walk n next u last strides.0.1 d m strides.2 path ended quiet (suc i - stride.moves) x (goes_on f.network stride.moves (suc i) s next x turns run more) told first.0 first.1.stands (omega arith) in
+            let rest = walk n next u last strides.0.1 d m strides.2 path ended quiet (suc i - stride.moves) x
+            (goes_on f.network stride.moves (suc i) s next x turns run more) told first.0 first.1.stands
+            (omega arith) in
             let whole = tally_joins stride.moves (suc i) s next b first.0 turns first.1.run more in
             let one = first.1.count ∙ ap one_if stride.told in
             let others = rest.count in
-            record { steps = suc rest.steps; config = rest.config; strides = (strides.0, stride, rest.strides); count = omega arith })
+            record {
+              steps = suc rest.steps;
+              config = rest.config;
+              strides = (strides.0, stride, rest.strides);
+              count = omega arith;
+            })
       ]
 
   -- there the network is at the moment of that configuration
-  pub strides_show : (n : ℕ) (s t : Situation) (c d : Configuration ℕ) → IsMomentOf (machine_of f) f.limits f.names f.network s c
+  pub strides_show : (n : ℕ) (s t : Situation) (c d : Configuration ℕ)
+      → IsMomentOf (machine_of f) f.limits f.names f.network s c
       → Reaches (Strides f test) n (s, c) (t, d) → IsMomentOf (machine_of f) f.limits f.names f.network t d
-  strides_show zero s t c d shows path = subst (λ (z : Situation × Configuration ℕ). IsMomentOf (machine_of f) f.limits f.names f.network z.0 z.1) path shows
+  strides_show zero s t c d shows path = subst (λ (z : Situation × Configuration ℕ). IsMomentOf (machine_of f) f.limits
+      f.names f.network z.0 z.1) path shows
   strides_show (suc n) s t c d shows path = strides_show n path.0.0 t path.0.1 d path.1.shows path.2
 
   -- and the machine is in it

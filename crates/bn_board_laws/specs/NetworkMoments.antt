@@ -69,9 +69,8 @@ NetworksHaveMoments =
     → (test : Situation → Bool) × GoesOverMoments m l names k test
 
 -- From the moment of a configuration whose state begins with a read, of tape t, the network comes in a counted number
--- of
--- moves to the answer of this read, and the control still awaits it. There it stops exactly where the machine is stuck
--- at its first read.
+-- of moves to the answer of this read, and the control still awaits it. There it stops exactly where the machine is
+-- stuck at its first read.
 abbrev pub NetworksStopAtFirstReads : Type 0
 NetworksStopAtFirstReads =
     (m : Quadruples) (l : Limits) (names : List ControlState) (k : Circuit) → IsUniformNetwork m l names k

@@ -13,7 +13,8 @@ use Rattle.bn_network.specs.Controls.{ControlState, symbol_count}
 use Rattle.bn_network.specs.Networks.{IsTape, ShowsAllCells, cells_in, first_cell, network_start, elements_by}
 use Rattle.bn_network.specs.Moments.{IsMoment, IsMomentOf, TellsMoments, HasHeads}
 use Rattle.bn_board_spec.specs.Boards.{AreModules, StandsFor, IsAmid, IsLoose, board_start, base, size}
-use Rattle.bn_board_spec.specs.Layouts.{Layout, is_moment, moment_at, elements_of, symbol_count_at, lines_at, cell_element}
+use Rattle.bn_board_spec.specs.Layouts.{Layout, is_moment, moment_at, elements_of, symbol_count_at, lines_at}
+use Rattle.bn_board_spec.specs.Layouts.{cell_element}
 use Rattle.bn_board_spec.specs.Layouts.{end_place, cell_output, spelled_by, spelled_config}
 
 -- Numbers agree, places and cells stand for what they are named after, a test tells moments on network and board alike,

@@ -32,6 +32,7 @@ modules-banks n k m t modules board has =
           let last = later_column b t.inputs j t.states there in
           let ends = base-within n.tables m t has in
           let within : column_at b t.inputs j + x < size n.tables = omega arith in
-          ap (λ ts. slice_get ts (column_at b t.inputs j + x)) board.tables ∙ all_rotary (size n.tables) (column_at b t.inputs j + x) within;
+          ap (λ ts. slice_get ts (column_at b t.inputs j + x)) board.tables
+          ∙ all_rotary (size n.tables) (column_at b t.inputs j + x) within;
       wired = λ from to wire. (board.wires from to).1 (own m t has wire);
     }

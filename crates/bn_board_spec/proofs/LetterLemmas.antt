@@ -38,14 +38,17 @@ module _ (p : Program) (word : List ℕ) (l : Limits) (f : Flat) (flat : IsFlatO
     where
       by_tape : (t : ℕ) → 0 < t → t ≤ 3 → 0 < letters_by (symbols_of p) t
       by_tape zero low high = absurd (omega arith)
-      by_tape (suc zero) low high = some_symbol p.states p.symbols p.quints accepted.standard.machine.some accepted.standard.machine.in_range
+      by_tape (suc zero) low high = some_symbol p.states p.symbols p.quints accepted.standard.machine.some
+          accepted.standard.machine.in_range
       by_tape (suc (suc zero)) low high = omega arith
-      by_tape (suc (suc (suc zero))) low high = some_symbol p.states p.symbols p.quints accepted.standard.machine.some accepted.standard.machine.in_range
+      by_tape (suc (suc (suc zero))) low high = some_symbol p.states p.symbols p.quints accepted.standard.machine.some
+          accepted.standard.machine.in_range
       by_tape (suc (suc (suc (suc t)))) low high = absurd (omega arith)
 
 -- a machine has a symbol, and so has each tape of its translation
 pub some_symbols : (p : Program) → IsMachine p → 0 < p.symbols
-some_symbols p h = let first = h.in_range 0 (record { state = 0; read = 0; write = 0; shift = Stay; next = 0 }) h.some in omega (arith, first.read)
+some_symbols p h = let first = h.in_range 0 (record { state = 0; read = 0; write = 0; shift = Stay; next = 0 }) h.some
+    in omega (arith, first.read)
 
 pub tape_letters : (p : Program) (m : Quadruples) → 0 < p.symbols → (t : ℕ) → IsTape t
     → 0 < symbol_count (record { rules = m.rules; states = m.states; symbols = symbols_of p }) t

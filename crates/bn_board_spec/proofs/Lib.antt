@@ -20,3 +20,4 @@ pub mod SpellingLemmas
 pub mod ShownHeadLemmas
 pub mod ReadingLemmas
 pub mod WordLemmas
+pub mod SpanLemmas

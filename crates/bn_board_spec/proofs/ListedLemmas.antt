@@ -1,5 +1,6 @@
 -- Every network of modules has a board: the wires of its banks, and those between them, as one list.
-use Rattle.std.specs.Prelude.{◌≡◌, ◌≢◌, ℕ, ◌+◌, ◌-◌, ◌<◌, ◌≤◌, List, [], ◌∷◌, ◌++◌, length, replicate, Option, Some, None, slice_get, refl, ◌⊎◌}
+use Rattle.std.specs.Prelude.{◌≡◌, ◌≢◌, ℕ, ◌+◌, ◌-◌, ◌<◌, ◌≤◌, List, [], ◌∷◌, ◌++◌, length, replicate, Option, Some}
+use Rattle.std.specs.Prelude.{None, slice_get, refl, ◌⊎◌}
 use Rattle.std.proofs.Common.{zero, suc, arith, sym, ap, subst, ◌∙◌, inl, inr}
 use Rattle.std.proofs.lemmas.Bool.{cases_lt}
 use Rattle.std.proofs.lemmas.Bool.Decides.{eqb_tells}
@@ -10,7 +11,8 @@ use Rattle.bn_circuits.specs.declared.line.Line.{Line}
 use Rattle.bn_circuits.specs.declared.line.Wire.{Wire}
 use Rattle.bn_element.specs.Rotary.{rotary, rotary-IsReversible}
 use Rattle.bn_net.specs.Wirings.{AreWiresOf}
-use Rattle.bn_net.proofs.WiringsLemmas.{IsWire, no_wires, joined_wires, more_wire, same_wires, apart-IsOneToOne, rotary-outputs, rotary-inputs}
+use Rattle.bn_net.proofs.WiringsLemmas.{IsWire, no_wires, joined_wires, more_wire, same_wires, apart-IsOneToOne}
+use Rattle.bn_net.proofs.WiringsLemmas.{rotary-outputs, rotary-inputs}
 use Rattle.bn_realise.specs.Banks.{column_at, IsBankWire, bank_input_line, bank_output_line}
 use Rattle.bn_realise.proofs.BankListsLemmas.{bank_list}
 use Rattle.bn_realise.proofs.BankWiresLemmas.{bank_wire-IsWithinLines, bank_wire-no_input, output-no_wire}
@@ -18,7 +20,8 @@ use Rattle.bn_board_spec.specs.Boards.{AreModules, IsBoard, IsBoardWire, own, be
 use Rattle.bn_board_spec.specs.BoardLaws.{BoardsAreThere}
 use Rattle.bn_board_spec.proofs.MovedLemmas.{in_bank}
 use Rattle.bn_net.proofs.WireListLemmas.{line_tells}
-use Rattle.bn_board_spec.proofs.ModuleLemmas.{found, replicated, bank_within, one_table, banks_apart, output_table, wired_output, wired_input, output_once, input_once}
+use Rattle.bn_board_spec.proofs.ModuleLemmas.{found, replicated, bank_within, one_table, banks_apart, output_table}
+use Rattle.bn_board_spec.proofs.ModuleLemmas.{wired_output, wired_input, output_once, input_once}
 
 -- the line is where one of the list's wires begins
 abbrev pub IsSource : List Wire → Line → Type 0
@@ -63,19 +66,26 @@ module _ (n : Circuit) (modules : AreModules n) where
     pub wire : IsBankWire (base n.tables at_module) table from to
 
   -- own wires of two modules begin and end apart
-  starts_apart : (m e : ℕ) (t u : Table) (from to line : Line) → slice_get n.tables m ≡ Some t → slice_get n.tables e ≡ Some u → m ≢ e
+  starts_apart : (m e : ℕ) (t u : Table) (from to line : Line) → slice_get n.tables m ≡ Some t
+      → slice_get n.tables e ≡ Some u → m ≢ e
       → IsBankWire (base n.tables m) t from to → IsBankWire (base n.tables e) u from line → ⊥
   starts_apart m e t u from to line has is apart one two =
-      let first = bank_wire-IsWithinLines (base n.tables m) t (reversible m t has) (modules.square m t has) from to one in
-      let second = bank_wire-IsWithinLines (base n.tables e) u (reversible e u is) (modules.square e u is) from line two in
-      banks_apart n.tables m e t u from.element has is apart first.from_low first.from_high second.from_low second.from_high
+      let first = bank_wire-IsWithinLines (base n.tables m) t (reversible m t has) (modules.square m t has) from to one
+      in
+      let second = bank_wire-IsWithinLines (base n.tables e) u (reversible e u is) (modules.square e u is) from line two
+      in
+      banks_apart n.tables m e t u from.element has is apart first.from_low first.from_high second.from_low
+      second.from_high
 
   -- and they end apart
-  ends_apart : (m e : ℕ) (t u : Table) (from line to : Line) → slice_get n.tables m ≡ Some t → slice_get n.tables e ≡ Some u → m ≢ e
+  ends_apart : (m e : ℕ) (t u : Table) (from line to : Line) → slice_get n.tables m ≡ Some t
+      → slice_get n.tables e ≡ Some u → m ≢ e
       → IsBankWire (base n.tables m) t from to → IsBankWire (base n.tables e) u line to → ⊥
   ends_apart m e t u from line to has is apart one two =
-      let first = bank_wire-IsWithinLines (base n.tables m) t (reversible m t has) (modules.square m t has) from to one in
-      let second = bank_wire-IsWithinLines (base n.tables e) u (reversible e u is) (modules.square e u is) line to two in
+      let first = bank_wire-IsWithinLines (base n.tables m) t (reversible m t has) (modules.square m t has) from to one
+      in
+      let second = bank_wire-IsWithinLines (base n.tables e) u (reversible e u is) (modules.square e u is) line to two
+      in
       banks_apart n.tables m e t u to.element has is apart first.to_low first.to_high second.to_low second.to_high
 
   own_either : (c : ℕ) (t : Table) → slice_get n.tables c ≡ Some t → (from to : Line) → IsOwnBelow (suc c) from to
@@ -87,7 +97,8 @@ module _ (n : Circuit) (modules : AreModules n) where
         | inr more ↦
             (let same : h.at_module ≡ c = omega arith in
             let tables = one_table n.tables h.at_module c h.table t same h.has has in
-            inr (subst (λ m. IsBankWire (base n.tables m) t from to) same (subst (λ u. IsBankWire (base n.tables h.at_module) u from to) tables h.wire)))
+            inr (subst (λ m. IsBankWire (base n.tables m) t from to) same
+            (subst (λ u. IsBankWire (base n.tables h.at_module) u from to) tables h.wire)))
       ]
 
   -- no module's own wires yet
@@ -95,13 +106,22 @@ module _ (n : Circuit) (modules : AreModules n) where
   own_none = no_wires (IsOwnBelow 0) (λ from to h. let low = h.low in omega arith)
 
   -- those of one module more
-  pub own_more : (c : ℕ) (t : Table) → slice_get n.tables c ≡ Some t → (ws bs : List Wire) → AreWiresOf (IsOwnBelow c) ws
+  pub own_more : (c : ℕ) (t : Table) → slice_get n.tables c ≡ Some t → (ws bs : List Wire)
+      → AreWiresOf (IsOwnBelow c) ws
       → AreWiresOf (IsBankWire (base n.tables c) t) bs → AreWiresOf (IsOwnBelow (suc c)) (ws ++ bs)
   own_more c t has ws bs before bank =
       joined_wires (IsOwnBelow c) (IsBankWire (base n.tables c) t) (IsOwnBelow (suc c)) ws bs before bank
-      (λ from to line one two. let low = one.low in starts_apart one.at_module c one.table t from to line one.has has (λ e. omega arith) one.wire two)
-      (λ from to line one two. let low = one.low in ends_apart one.at_module c one.table t from line to one.has has (λ e. omega arith) one.wire two)
-      (λ from to h. let low = h.low in record { at_module = h.at_module; table = h.table; low = omega arith; has = h.has; wire = h.wire })
+      (λ from to line one two. let low = one.low in starts_apart one.at_module c one.table t from to line one.has has
+      (λ e. omega arith) one.wire two)
+      (λ from to line one two. let low = one.low in ends_apart one.at_module c one.table t from line to one.has has
+      (λ e. omega arith) one.wire two)
+      (λ from to h. let low = h.low in record {
+        at_module = h.at_module;
+        table = h.table;
+        low = omega arith;
+        has = h.has;
+        wire = h.wire;
+      })
       (λ from to h. record { at_module = c; table = t; low = omega arith; has = has; wire = h })
       (own_either c t has)
 
@@ -111,7 +131,8 @@ module _ (n : Circuit) (modules : AreModules n) where
   own_list (suc c) within =
       let before = own_list c (omega arith) in
       let here = found n.tables c (omega arith) in
-      let bank = bank_list (base n.tables c) here.0 (reversible c here.0 here.1) (modules.square c here.0 here.1) (modules.some_lines c here.0 here.1) in
+      let bank = bank_list (base n.tables c) here.0 (reversible c here.0 here.1) (modules.square c here.0 here.1)
+      (modules.some_lines c here.0 here.1) in
       (before.0 ++ bank.0, own_more c here.0 here.1 before.0 bank.0 before.1 bank.1)
 
   -- ---- the wires between banks
@@ -129,11 +150,30 @@ module _ (n : Circuit) (modules : AreModules n) where
 
   -- one wire more in the list
   more_listed : (v : Wire) (vs : List Wire) (from to : Line) → IsBetweenOf vs from to → IsBetweenOf (v ∷ vs) from to
-  more_listed v vs from to h = record { out = h.out; into = h.into; table = h.table; listed = inr h.listed; wired = h.wired; has = h.has; leaves = h.leaves; ends = h.ends }
+  more_listed v vs from to h = record {
+    out = h.out;
+    into = h.into;
+    table = h.table;
+    listed = inr h.listed;
+    wired = h.wired;
+    has = h.has;
+    leaves = h.leaves;
+    ends = h.ends;
+  }
 
   -- one wire less, where a later one begins there
-  fewer_listed : (v : Wire) (vs : List Wire) (from to : Line) → (h : IsBetweenOf (v ∷ vs) from to) → IsSource vs h.out → IsBetweenOf vs from to
-  fewer_listed v vs from to h is = record { out = h.out; into = h.into; table = h.table; listed = is; wired = h.wired; has = h.has; leaves = h.leaves; ends = h.ends }
+  fewer_listed : (v : Wire) (vs : List Wire) (from to : Line) → (h : IsBetweenOf (v ∷ vs) from to) → IsSource vs h.out
+      → IsBetweenOf vs from to
+  fewer_listed v vs from to h is = record {
+    out = h.out;
+    into = h.into;
+    table = h.table;
+    listed = is;
+    wired = h.wired;
+    has = h.has;
+    leaves = h.leaves;
+    ends = h.ends;
+  }
 
   -- a list of the wires between banks, by the network's own list
   between_list : (vs : List Wire) → (ws : List Wire) × AreWiresOf (IsBetweenOf vs) ws
@@ -142,54 +182,97 @@ module _ (n : Circuit) (modules : AreModules n) where
     where
       -- the list's first wire begins where a later one does
       again : IsSource vs v.from → (from to : Line) → IsBetweenOf (v ∷ vs) from to → IsBetweenOf vs from to
-      again is from to h = elim h.listed [ inl same ↦ fewer_listed v vs from to h (subst (IsSource vs) same is) | inr there ↦ fewer_listed v vs from to h there ]
+      again is from to h = elim h.listed [
+        | inl same ↦ fewer_listed v vs from to h (subst (IsSource vs) same is)
+        | inr
+            there ↦ fewer_listed v vs from to h there
+      ]
 
       -- or it isn't one of the network's
       never : target n.wires v.from ≡ None → (from to : Line) → IsBetweenOf (v ∷ vs) from to → IsBetweenOf vs from to
       never none from to h =
           elim h.listed [
-            | inl same ↦ absurd (let none' = subst (λ x. target n.wires x ≡ None) same none in let wired = h.wired in cc)
+            | inl same ↦ absurd (let none' = subst (λ x. target n.wires x ≡ None) same none in let wired = h.wired in
+                cc)
             | inr there ↦ fewer_listed v vs from to h there
           ]
 
-      by_target : (IsSource vs v.from → ⊥) → (o : Option Line) → target n.wires v.from ≡ o → (ws : List Wire) → AreWiresOf (IsBetweenOf vs) ws
+      by_target : (IsSource vs v.from → ⊥) → (o : Option Line) → target n.wires v.from ≡ o → (ws : List Wire)
+          → AreWiresOf (IsBetweenOf vs) ws
           → (xs : List Wire) × AreWiresOf (IsBetweenOf (v ∷ vs)) xs
-      by_target new None is ws are = (ws, same_wires (IsBetweenOf vs) (IsBetweenOf (v ∷ vs)) ws are (more_listed v vs) (never is))
+      by_target new None is ws are = (
+        ws,
+        same_wires (IsBetweenOf vs) (IsBetweenOf (v ∷ vs)) ws are (more_listed v vs)
+            (never is),
+      )
       by_target new (Some into) is ws are =
           let there = output_at v.from into is in
           let t = there.0 in
-          let w : Wire = record { from = bank_output_line (base n.tables v.from.element) t v.from.line; to = bank_input_line (base n.tables into.element) into.line } in
-          let both = more_wire (IsBetweenOf vs) ws w are (no_from t into is there.1) (no_to t into is there.1) in
-          (ws ++ w ∷ [], same_wires (λ from to. IsBetweenOf vs from to ⊎ IsWire w from to) (IsBetweenOf (v ∷ vs)) (ws ++ w ∷ []) both (first t into is there.1) (second t into is there.1))
+          let w : Wire = record {
+            from = bank_output_line (base n.tables v.from.element) t v.from.line;
+            to = bank_input_line (base n.tables into.element) into.line;
+          } in
+          let both = more_wire (IsBetweenOf vs) ws w are (no_from t into is there.1) (no_to t into is there.1) in (
+            ws ++ w ∷ [],
+            same_wires (λ from to. IsBetweenOf vs from to ⊎ IsWire w from to) (IsBetweenOf (v ∷ vs))
+                (ws ++ w ∷ []) both (first t into is there.1) (second t into is there.1),
+          )
         where
-          output_at : (out into : Line) → target n.wires out ≡ Some into → (t : Table) × (slice_get n.tables out.element ≡ Some t)
-          output_at out into is = let h = output_table n.tables out.element out.line (modules.circuit.wired out into is).0 in (h.0, h.1)
+          output_at : (out into : Line) → target n.wires out ≡ Some into
+              → (t : Table) × (slice_get n.tables out.element ≡ Some t)
+          output_at out into is = let h = output_table n.tables out.element out.line
+              (modules.circuit.wired out into is).0 in (h.0, h.1)
 
-          no_from : (t : Table) (into : Line) → target n.wires v.from ≡ Some into → slice_get n.tables v.from.element ≡ Some t → (to : Line)
+          no_from : (t : Table) (into : Line) → target n.wires v.from ≡ Some into
+              → slice_get n.tables v.from.element ≡ Some t → (to : Line)
               → IsBetweenOf vs (bank_output_line (base n.tables v.from.element) t v.from.line) to → ⊥
           no_from t into is has to h =
-              let same = output_once n modules v.from h.out t h.table has h.has (wired_output n modules v.from into t is has) (wired_output n modules h.out h.into h.table h.wired h.has) h.leaves in
+              let same = output_once n modules v.from h.out t h.table has h.has
+              (wired_output n modules v.from into t is has) (wired_output n modules h.out h.into h.table h.wired
+              h.has) h.leaves in
               new (subst (IsSource vs) (sym same) h.listed)
 
-          no_to : (t : Table) (into : Line) → target n.wires v.from ≡ Some into → slice_get n.tables v.from.element ≡ Some t → (from : Line)
+          no_to : (t : Table) (into : Line) → target n.wires v.from ≡ Some into
+              → slice_get n.tables v.from.element ≡ Some t → (from : Line)
               → IsBetweenOf vs from (bank_input_line (base n.tables into.element) into.line) → ⊥
           no_to t into is has from h =
               let one = wired_input n modules v.from into is in
               let two = wired_input n modules h.out h.into h.wired in
               let same = input_once n modules into h.into one.0 two.0 one.1 two.1 one.2 two.2 h.ends in
               let back = (modules.circuit.one_to_one v.from into).0 is in
-              let back' = subst (λ x. source n.wires x ≡ Some h.out) (sym same) ((modules.circuit.one_to_one h.out h.into).0 h.wired) in
+              let back' = subst (λ x. source n.wires x ≡ Some h.out) (sym same)
+              ((modules.circuit.one_to_one h.out h.into).0 h.wired) in
               let line : v.from ≡ h.out = cc in
               new (subst (IsSource vs) (sym line) h.listed)
 
-          first : (t : Table) (into : Line) → target n.wires v.from ≡ Some into → slice_get n.tables v.from.element ≡ Some t → (from to : Line)
-              → IsBetweenOf vs from to ⊎ IsWire (record { from = bank_output_line (base n.tables v.from.element) t v.from.line; to = bank_input_line (base n.tables into.element) into.line }) from to → IsBetweenOf (v ∷ vs) from to
-          first t into is has from to (inl h) = more_listed v vs from to h
-          first t into is has from to (inr h) = record { out = v.from; into = into; table = t; listed = inl refl; wired = is; has = has; leaves = h.leaves; ends = h.ends }
-
-          second : (t : Table) (into : Line) → target n.wires v.from ≡ Some into → slice_get n.tables v.from.element ≡ Some t → (from to : Line)
+          first : (t : Table) (into : Line) → target n.wires v.from ≡ Some into
+              → slice_get n.tables v.from.element ≡ Some t → (from to : Line)
+              → IsBetweenOf vs from to ⊎ IsWire (record {
+                from = bank_output_line (base n.tables v.from.element) t
+                    v.from.line;
+                to = bank_input_line (base n.tables into.element) into.line;
+              }) from to
               → IsBetweenOf (v ∷ vs) from to
-              → IsBetweenOf vs from to ⊎ IsWire (record { from = bank_output_line (base n.tables v.from.element) t v.from.line; to = bank_input_line (base n.tables into.element) into.line }) from to
+          first t into is has from to (inl h) = more_listed v vs from to h
+          first t into is has from to (inr h) = record {
+            out = v.from;
+            into = into;
+            table = t;
+            listed = inl refl;
+            wired = is;
+            has = has;
+            leaves = h.leaves;
+            ends = h.ends;
+          }
+
+          second : (t : Table) (into : Line) → target n.wires v.from ≡ Some into
+              → slice_get n.tables v.from.element ≡ Some t → (from to : Line)
+              → IsBetweenOf (v ∷ vs) from to
+              → IsBetweenOf vs from to ⊎ IsWire (record {
+                from = bank_output_line (base n.tables v.from.element) t
+                    v.from.line;
+                to = bank_input_line (base n.tables into.element) into.line;
+              }) from to
           second t into is has from to h =
               elim h.listed [
                 | inl same ↦
@@ -198,15 +281,21 @@ module _ (n : Circuit) (modules : AreModules n) where
                     let has' = subst (λ (x : Line). slice_get n.tables x.element ≡ Some h.table) (sym same) h.has in
                     let tables : h.table ≡ t = cc in
                     inr (record {
-                      leaves = h.leaves ∙ (λ i. bank_output_line (base n.tables (sym same i).element) (tables i) (sym same i).line);
+                      leaves = h.leaves ∙ (λ i. bank_output_line (base n.tables (sym same i).element) (tables i)
+                          (sym same i).line);
                       ends = h.ends ∙ (λ i. bank_input_line (base n.tables (leads i).element) (leads i).line);
                     }))
                 | inr there ↦ inl (fewer_listed v vs from to h there)
               ]
 
-      by_case : IsSource vs v.from ⊎ (IsSource vs v.from → ⊥) → ((ws : List Wire) × AreWiresOf (IsBetweenOf vs) ws) → (xs : List Wire)
+      by_case : IsSource vs v.from ⊎ (IsSource vs v.from → ⊥) → ((ws : List Wire) × AreWiresOf (IsBetweenOf vs) ws)
+          → (xs : List Wire)
           × AreWiresOf (IsBetweenOf (v ∷ vs)) xs
-      by_case (inl is) rest = (rest.0, same_wires (IsBetweenOf vs) (IsBetweenOf (v ∷ vs)) rest.0 rest.1 (more_listed v vs) (again is))
+      by_case (inl is) rest = (
+        rest.0,
+        same_wires (IsBetweenOf vs) (IsBetweenOf (v ∷ vs)) rest.0 rest.1
+            (more_listed v vs) (again is),
+      )
       by_case (inr new) rest = by_target new (target n.wires v.from) refl rest.0 rest.1
 
   -- ---- all of them
@@ -223,10 +312,12 @@ module _ (n : Circuit) (modules : AreModules n) where
   output_in : (e o : ℕ) (t : Table) → slice_get n.tables e ≡ Some t → o < t.inputs
       → (base n.tables e ≤ column_at (base n.tables e) t.inputs (t.states - 1) + o)
       × (column_at (base n.tables e) t.inputs (t.states - 1) + o < base n.tables e + size_of t)
-  output_in e o t has low = let some = modules.some_states e t has in in_bank (base n.tables e) t (t.states - 1) o (omega arith) (omega arith)
+  output_in e o t has low = let some = modules.some_states e t has in in_bank (base n.tables e) t (t.states - 1) o
+      (omega arith) (omega arith)
 
   -- and so does its input line
-  input_in : (e i : ℕ) (t : Table) → slice_get n.tables e ≡ Some t → i < t.inputs → (base n.tables e ≤ base n.tables e + i)
+  input_in : (e i : ℕ) (t : Table) → slice_get n.tables e ≡ Some t → i < t.inputs
+      → (base n.tables e ≤ base n.tables e + i)
       × (base n.tables e + i < base n.tables e + size_of t)
   input_in e i t has low =
       let some = modules.some_states e t has in
@@ -241,13 +332,20 @@ module _ (n : Circuit) (modules : AreModules n) where
       elim (eqb_tells one.at_module two.out.element) [
         | inl same ↦
             (let tables = one_table n.tables one.at_module two.out.element one.table two.table same.1 one.has two.has in
-            let there = subst (λ m. IsBankWire (base n.tables m) one.table (bank_output_line (base n.tables two.out.element) two.table two.out.line) to) same.1 wire in
-            let own' = subst (λ (u : Table). IsBankWire (base n.tables two.out.element) u (bank_output_line (base n.tables two.out.element) two.table two.out.line) to) tables there in
-            output-no_wire (base n.tables two.out.element) two.table (reversible two.out.element two.table two.has) (modules.square two.out.element two.table two.has) two.out.line to row own')
+            let there = subst (λ m. IsBankWire (base n.tables m) one.table
+            (bank_output_line (base n.tables two.out.element) two.table two.out.line) to) same.1 wire in
+            let own' = subst (λ (u : Table). IsBankWire (base n.tables two.out.element) u
+            (bank_output_line (base n.tables two.out.element) two.table two.out.line) to) tables there in
+            output-no_wire (base n.tables two.out.element) two.table (reversible two.out.element two.table two.has)
+            (modules.square two.out.element two.table two.has) two.out.line to row own')
         | inr apart ↦
-            (let lines = bank_wire-IsWithinLines (base n.tables one.at_module) one.table (reversible one.at_module one.table one.has) (modules.square one.at_module one.table one.has) (bank_output_line (base n.tables two.out.element) two.table two.out.line) to wire in
+            (let lines = bank_wire-IsWithinLines (base n.tables one.at_module) one.table
+            (reversible one.at_module one.table one.has) (modules.square one.at_module one.table one.has)
+            (bank_output_line (base n.tables two.out.element) two.table two.out.line) to wire in
             let place = output_in two.out.element two.out.line two.table two.has row in
-            banks_apart n.tables one.at_module two.out.element one.table two.table (column_at (base n.tables two.out.element) two.table.inputs (two.table.states - 1) + two.out.line) one.has two.has apart.1 lines.from_low lines.from_high place.0 place.1)
+            banks_apart n.tables one.at_module two.out.element one.table two.table
+            (column_at (base n.tables two.out.element) two.table.inputs (two.table.states - 1) + two.out.line)
+            one.has two.has apart.1 lines.from_low lines.from_high place.0 place.1)
       ]
 
   -- and none ends where one does
@@ -260,18 +358,40 @@ module _ (n : Circuit) (modules : AreModules n) where
             (let tables = one_table n.tables one.at_module two.into.element one.table u same.1 one.has at_input.1 in
             let rows : one.table.inputs ≡ u.inputs = ap (λ (v : Table). v.inputs) tables in
             let row : two.into.line < one.table.inputs = subst (λ x. two.into.line < x) (sym rows) at_input.2 in
-            bank_wire-no_input (base n.tables one.at_module) one.table (reversible one.at_module one.table one.has) (modules.square one.at_module one.table one.has) from to one.wire two.into.line row (two.ends ∙ ap (λ m. bank_input_line (base n.tables m) two.into.line) (sym same.1)))
+            bank_wire-no_input (base n.tables one.at_module) one.table (reversible one.at_module one.table one.has)
+            (modules.square one.at_module one.table one.has) from to one.wire two.into.line row
+            (two.ends ∙ ap (λ m. bank_input_line (base n.tables m) two.into.line) (sym same.1)))
         | inr apart ↦
             (let wire = subst (λ x. IsBankWire (base n.tables one.at_module) one.table from x) two.ends one.wire in
-            let lines = bank_wire-IsWithinLines (base n.tables one.at_module) one.table (reversible one.at_module one.table one.has) (modules.square one.at_module one.table one.has) from (bank_input_line (base n.tables two.into.element) two.into.line) wire in
+            let lines = bank_wire-IsWithinLines (base n.tables one.at_module) one.table
+            (reversible one.at_module one.table one.has) (modules.square one.at_module one.table one.has) from
+            (bank_input_line (base n.tables two.into.element) two.into.line) wire in
             let place = input_in two.into.element two.into.line u at_input.1 at_input.2 in
-            banks_apart n.tables one.at_module two.into.element one.table u (base n.tables two.into.element + two.into.line) one.has at_input.1 apart.1 lines.to_low lines.to_high place.0 place.1)
+            banks_apart n.tables one.at_module two.into.element one.table u
+            (base n.tables two.into.element + two.into.line) one.has at_input.1 apart.1 lines.to_low lines.to_high
+            place.0 place.1)
       ]
 
   -- there are no others
   either : (from to : Line) → IsBoardWire n from to → Own from to ⊎ Between from to
-  either from to (own m t has wire) = inl (record { at_module = m; table = t; low = slice_get_within n.tables m t has; has = has; wire = wire })
-  either from to (between out into t wired has leaves ends) = inr (record { out = out; into = into; table = t; listed = leads-IsSource n.wires out into wired; wired = wired; has = has; leaves = leaves; ends = ends })
+  either from to (own m t has wire) = inl (record {
+    at_module = m;
+    table = t;
+    low = slice_get_within n.tables m t has;
+    has = has;
+    wire = wire;
+  })
+  either from to (between out into t wired has leaves ends) =
+      inr (record {
+        out = out;
+        into = into;
+        table = t;
+        listed = leads-IsSource n.wires out into wired;
+        wired = wired;
+        has = has;
+        leaves = leaves;
+        ends = ends;
+      })
 
   -- a list of the board's wires
   board_list : (ws : List Wire) × AreWiresOf (IsBoardWire n) ws
@@ -295,9 +415,16 @@ module _ (n : Circuit) (modules : AreModules n) where
   -- both ends are lines of the board
   pub within : (from to : Line) → IsBoardWire n from to → IsWithinBoard from to
   within from to (own m t has wire) =
-      let lines = bank_wire-IsWithinLines (base n.tables m) t (reversible m t has) (modules.square m t has) from to wire in
+      let lines = bank_wire-IsWithinLines (base n.tables m) t (reversible m t has) (modules.square m t has) from to wire
+      in
       let ends = bank_within n.tables m t has in
-      record { from_element = omega (arith, lines.from_high); from_line = lines.from_line; to_element = omega (arith, lines.to_high); to_line = lines.to_line }
+      record {
+        from_element = omega (arith, lines.from_high);
+        from_line = lines.from_line;
+        to_element = omega
+            (arith, lines.to_high);
+        to_line = lines.to_line;
+      }
   within from to (between out into t wired has leaves ends) =
       let row = wired_output n modules out into t wired has in
       let at_input = wired_input n modules out into wired in
@@ -305,7 +432,13 @@ module _ (n : Circuit) (modules : AreModules n) where
       let place' = input_in into.element into.line at_input.0 at_input.1 at_input.2 in
       let last = bank_within n.tables out.element t has in
       let last' = bank_within n.tables into.element at_input.0 at_input.1 in
-      rw (leaves, ends) (record { from_element = omega (arith, place.1); from_line = omega arith; to_element = omega (arith, place'.1); to_line = omega arith })
+      rw (leaves, ends) (record {
+        from_element = omega (arith, place.1);
+        from_line = omega arith;
+        to_element = omega
+            (arith, place'.1);
+        to_line = omega arith;
+      })
 
   -- the board
   made : (k : Circuit) × IsBoard n k
@@ -318,7 +451,8 @@ module _ (n : Circuit) (modules : AreModules n) where
             one_to_one = apart-IsOneToOne all.0 all.1.apart;
             wired = λ from to h.
                 let w = within from to (all.1.sound from to h) in (
-                  subst (λ x. from.line < x) (sym (rotary-outputs (size n.tables) from.element w.from_element)) w.from_line,
+                  subst (λ x. from.line < x) (sym (rotary-outputs (size n.tables) from.element w.from_element))
+                      w.from_line,
                   subst (λ x. to.line < x) (sym (rotary-inputs (size n.tables) to.element w.to_element)) w.to_line,
                 );
           };

@@ -15,7 +15,8 @@ output_in z line = (2 * z - 1) * (cell_line_count z + 1) + line
 -- it is within the cell
 pub output-within : (z line : ℕ) → 0 < z → line < cell_line_count z → output_in z line < cell_size z
 output-within z line some low =
-    let h : (2 * z - 1 + 1) * (cell_line_count z + 1) ≤ 2 * z * (cell_line_count z + 1) = mul-le-mul_right (cell_line_count z + 1) (omega arith) in
+    let h : (2 * z - 1 + 1) * (cell_line_count z + 1) ≤ 2 * z * (cell_line_count z + 1) =
+    mul-le-mul_right (cell_line_count z + 1) (omega arith) in
     omega arith
 
 -- an earlier tape ends where a later one begins, or before
@@ -25,7 +26,8 @@ later_tape b t (suc zero) some low = absurd (omega arith)
 later_tape b t (suc (suc u)) some low =
     elim (cases_lt t (suc u)) [
       | inl less ↦ (let h = later_tape b t (suc u) some less in omega arith)
-      | inr more ↦ (let same : t ≡ suc u = omega arith in subst (λ x. first_element b (suc x) ≤ first_element b (suc (suc u))) (sym same) (omega arith))
+      | inr more ↦ (let same : t ≡ suc u = omega arith in subst
+          (λ x. first_element b (suc x) ≤ first_element b (suc (suc u))) (sym same) (omega arith))
     ]
 
 -- where a place of a cell lies
@@ -34,10 +36,13 @@ pub record IsInTape (b : Layout) (t p x : ℕ) : Type 0 where
   pub high : cell_element b t p + x < first_element b (suc t)
 
 -- each place of a cell lies in its tape
-pub in_tape : (b : Layout) (t p x : ℕ) → 0 < t → p < cells_in b.limits t → x < cell_size (symbol_count_at b t) → IsInTape b t p x
+pub in_tape : (b : Layout) (t p x : ℕ) → 0 < t → p < cells_in b.limits t → x < cell_size (symbol_count_at b t)
+    → IsInTape b t p x
 in_tape b zero p x some cell within = absurd (omega arith)
 in_tape b (suc t) p x some cell within =
-    let h : (p + 1) * cell_size (symbol_count_at b (suc t)) ≤ cells_in b.limits (suc t) * cell_size (symbol_count_at b (suc t)) = mul-le-mul_right (cell_size (symbol_count_at b (suc t))) (omega arith) in
+    let h : (p + 1) * cell_size (symbol_count_at b (suc t)) ≤ cells_in b.limits (suc t)
+    * cell_size (symbol_count_at b (suc t)) = mul-le-mul_right (cell_size (symbol_count_at b (suc t))) (omega arith)
+    in
     record { low = omega arith; high = omega arith }
 
 -- the cells begin after the control
@@ -47,8 +52,10 @@ cells_after b (suc zero) some = omega arith
 cells_after b (suc (suc t)) some = let h = cells_after b (suc t) (omega arith) in omega arith
 
 -- two places of cells are one only where tape, cell and place in it are
-pub place_once : (b : Layout) (t u p q x y : ℕ) → 0 < t → 0 < u → p < cells_in b.limits t → q < cells_in b.limits u → x < cell_size (symbol_count_at b t)
-    → y < cell_size (symbol_count_at b u) → cell_element b t p + x ≡ cell_element b u q + y → (t ≡ u) × (p ≡ q) × (x ≡ y)
+pub place_once : (b : Layout) (t u p q x y : ℕ) → 0 < t → 0 < u → p < cells_in b.limits t → q < cells_in b.limits u
+    → x < cell_size (symbol_count_at b t)
+    → y < cell_size (symbol_count_at b u) → cell_element b t p + x ≡ cell_element b u q + y
+    → (t ≡ u) × (p ≡ q) × (x ≡ y)
 place_once b t u p q x y first second here there low high same =
     let one = in_tape b t p x first here low in
     let two = in_tape b u q y second there high in
@@ -61,10 +68,12 @@ place_once b t u p q x y first second here there low high same =
           ])
     ]
   where
-    by_tape : (u q y : ℕ) → u ≡ t → y < cell_size (symbol_count_at b u) → cell_element b t p + x ≡ cell_element b u q + y → (t ≡ u) × (p ≡ q) × (x ≡ y)
+    by_tape : (u q y : ℕ) → u ≡ t → y < cell_size (symbol_count_at b u)
+        → cell_element b t p + x ≡ cell_element b u q + y → (t ≡ u) × (p ≡ q) × (x ≡ y)
     by_tape u q y is high same =
         let high' : y < cell_size (symbol_count_at b t) = subst (λ n. y < cell_size (symbol_count_at b n)) is high in
-        let same' : cell_element b t p + x ≡ cell_element b t q + y = subst (λ n. cell_element b t p + x ≡ cell_element b n q + y) is same in
+        let same' : cell_element b t p + x ≡ cell_element b t q + y =
+        subst (λ n. cell_element b t p + x ≡ cell_element b n q + y) is same in
         let rows : p * cell_size (symbol_count_at b t) + x ≡ q * cell_size (symbol_count_at b t) + y = omega arith in
         let both = same_from_place p x q y (cell_size (symbol_count_at b t)) low high' rows in
         (sym is, both.0, both.1)

@@ -23,10 +23,12 @@ get_right (x ∷ xs) ys i (suc e) same = get_right xs ys i e (omega arith)
 
 -- the bars of a bank at rest are as many as its elements
 pub resting-length : (n k q : ℕ) → length (resting n k q) ≡ n * (k + 1)
-resting-length n k q = length-set (replicate (n * (k + 1)) vertical) (bottom_at 0 k q) horizontal ∙ length-replicate (n * (k + 1)) vertical
+resting-length n k q = length-set (replicate (n * (k + 1)) vertical) (bottom_at 0 k q) horizontal
+    ∙ length-replicate (n * (k + 1)) vertical
 
 -- a bank rests wherever it stands
-rests_at : (old new : List ℕ) (a b n k q : ℕ) → ((x : ℕ) → x < n * (k + 1) → slice_get new (b + x) ≡ slice_get old (a + x)) → IsResting old a n k (Some q)
+rests_at : (old new : List ℕ) (a b n k q : ℕ) → ((x : ℕ) → x < n * (k + 1)
+    → slice_get new (b + x) ≡ slice_get old (a + x)) → IsResting old a n k (Some q)
     → IsResting new b n k (Some q)
 rests_at old new a b n k q same rests = record {
   columns = λ j there. record {
@@ -54,7 +56,8 @@ bars-length (t ∷ ts) (q ∷ qs) h =
     omega arith
 
 -- each bank rests in its module's state
-pub bars-rest : (ts : List Table) (qs : List ℕ) (m : ℕ) (t : Table) (q : ℕ) → length qs ≡ length ts → slice_get ts m ≡ Some t → slice_get qs m ≡ Some q
+pub bars-rest : (ts : List Table) (qs : List ℕ) (m : ℕ) (t : Table) (q : ℕ) → length qs ≡ length ts
+    → slice_get ts m ≡ Some t → slice_get qs m ≡ Some q
     → q < t.states → IsResting (bars_of ts qs) (base ts m) t.states t.inputs (Some q)
 bars-rest [] qs m t q h has at_q low = absurd (cc)
 bars-rest (u ∷ ts) [] m t q h has at_q low = absurd (cc)
@@ -62,11 +65,16 @@ bars-rest (u ∷ ts) (r ∷ qs) zero t q h has at_q low =
     let tables : u ≡ t = cc in
     let states : r ≡ q = cc in
     let here = resting-IsResting t.states t.inputs q low in
-    let there : IsResting (resting u.states u.inputs r) 0 t.states t.inputs (Some q) = subst (λ (v : Table). IsResting (resting v.states v.inputs r) 0 t.states t.inputs (Some q)) (sym tables) (subst (λ x. IsResting (resting t.states t.inputs x) 0 t.states t.inputs (Some q)) (sym states) here) in
+    let there : IsResting (resting u.states u.inputs r) 0 t.states t.inputs (Some q) =
+    subst (λ (v : Table). IsResting (resting v.states v.inputs r) 0 t.states t.inputs (Some q)) (sym tables)
+    (subst (λ x. IsResting (resting t.states t.inputs x) 0 t.states t.inputs (Some q)) (sym states) here) in
     let sizes : u.states * (u.inputs + 1) ≡ t.states * (t.inputs + 1) = ap size_of tables in
     let count = resting-length u.states u.inputs r in
-    rests_at (resting u.states u.inputs r) (bars_of (u ∷ ts) (r ∷ qs)) 0 0 t.states t.inputs q (λ x within. get_left (resting u.states u.inputs r) (bars_of ts qs) (0 + x) (omega arith)) there
+    rests_at (resting u.states u.inputs r) (bars_of (u ∷ ts) (r ∷ qs)) 0 0 t.states t.inputs q
+    (λ x within. get_left (resting u.states u.inputs r) (bars_of ts qs) (0 + x) (omega arith)) there
 bars-rest (u ∷ ts) (r ∷ qs) (suc m) t q h has at_q low =
     let rest = bars-rest ts qs m t q (omega arith) has at_q low in
     let count = resting-length u.states u.inputs r in
-    rests_at (bars_of ts qs) (bars_of (u ∷ ts) (r ∷ qs)) (base ts m) (size_of u + base ts m) t.states t.inputs q (λ x within. get_right (resting u.states u.inputs r) (bars_of ts qs) (base ts m + x) (size_of u + base ts m + x) (omega arith)) rest
+    rests_at (bars_of ts qs) (bars_of (u ∷ ts) (r ∷ qs)) (base ts m) (size_of u + base ts m) t.states t.inputs q
+    (λ x within. get_right (resting u.states u.inputs r) (bars_of ts qs) (base ts m + x) (size_of u + base ts m + x)
+    (omega arith)) rest

@@ -1,5 +1,6 @@
 -- A board at its start stands for its network's start.
-use Rattle.std.specs.Prelude.{◌≡◌, ℕ, ◌+◌, ◌*◌, ◌<◌, ◌≤◌, ℤ, pos, negsuc, ◌-ℤ◌, Bool, true, false, List, [], ◌∷◌, ◌++◌, length, All, map, replicate, Option, Some, slice_get, if◌then◌else◌, refl}
+use Rattle.std.specs.Prelude.{◌≡◌, ℕ, ◌+◌, ◌*◌, ◌<◌, ◌≤◌, ℤ, pos, negsuc, ◌-ℤ◌, Bool, true, false, List, [], ◌∷◌, ◌++◌}
+use Rattle.std.specs.Prelude.{length, All, map, replicate, Option, Some, slice_get, if◌then◌else◌, refl}
 use Rattle.std.specs.List.{range_with_len}
 use Rattle.std.specs.Option.{option_map_or}
 use Rattle.std.specs.Ordering.{int_eq}
@@ -20,7 +21,8 @@ use Rattle.bn_quad.specs.Quadruples.{Rule, Quadruples}
 use Rattle.bn_circuits.specs.Situations.{Situation}
 use Rattle.bn_network.specs.Cells.{Plain, Head, cell_table, state_number}
 use Rattle.bn_network.specs.Controls.{ControlState, symbol_count}
-use Rattle.bn_network.specs.Networks.{IsNetwork, IsTape, cells_in, first_cell, left_of, cell_of, start_cells, network_start}
+use Rattle.bn_network.specs.Networks.{IsNetwork, IsTape, cells_in, first_cell, left_of, cell_of, start_cells}
+use Rattle.bn_network.specs.Networks.{network_start}
 use Rattle.bn_network.specs.Moments.{HasHeads}
 use Rattle.bn_board_spec.specs.Boards.{StandsFor, board_start}
 use Rattle.bn_board_spec.proofs.StartedLemmas.{bars-length, bars-rest, get_left, get_right}
@@ -35,7 +37,8 @@ none_below : AreBelow [] []
 none_below e t q h k = absurd (cc)
 
 -- so many equal tables, and others behind them
-row_below : (c : ℕ) (u : Table) (rest : List Table) (qs more : List ℕ) → length qs ≡ c → ((e q : ℕ) → slice_get qs e ≡ Some q → q < u.states)
+row_below : (c : ℕ) (u : Table) (rest : List Table) (qs more : List ℕ) → length qs ≡ c
+    → ((e q : ℕ) → slice_get qs e ≡ Some q → q < u.states)
     → AreBelow rest more → AreBelow (replicate c u ++ rest) (qs ++ more)
 row_below zero u rest [] more count each below e t q h k = below e t q h k
 row_below zero u rest (p ∷ qs) more count each below e t q h k = absurd (omega arith)
@@ -45,17 +48,20 @@ row_below (suc c) u rest (p ∷ qs) more count each below zero t q h k =
     let here : p ≡ q = cc in
     let low = each zero p refl in
     subst (λ (v : Table). q < v.states) same (subst (λ x. x < u.states) here low)
-row_below (suc c) u rest (p ∷ qs) more count each below (suc e) t q h k = row_below c u rest qs more (omega arith) (λ i. each (suc i)) below e t q h k
+row_below (suc c) u rest (p ∷ qs) more count each below (suc e) t q h k =
+    row_below c u rest qs more (omega arith) (λ i. each (suc i)) below e t q h k
 
 -- the states of a tape's cells
-each_below : (f : ℕ → ℕ) (k : ℕ) → ((j : ℕ) → f j < k) → (a n e q : ℕ) → slice_get (map f (range_with_len a n)) e ≡ Some q → q < k
+each_below : (f : ℕ → ℕ) (k : ℕ) → ((j : ℕ) → f j < k) → (a n e q : ℕ)
+    → slice_get (map f (range_with_len a n)) e ≡ Some q → q < k
 each_below f k low a zero e q h = absurd (cc)
 each_below f k low a (suc n) zero q h = let same : f a ≡ q = cc in subst (λ x. x < k) same (low a)
 each_below f k low a (suc n) (suc e) q h = each_below f k low (a + 1) n e q h
 
 letter_low : (z : ℕ) (word : List ℕ) → 0 < z → All (λ s. s < z) word → (p : ℤ) → letter_at word p < z
 letter_low z word some all (pos zero) = some
-letter_low z word some all (pos (suc k)) = elim (cases_lt k (length word)) [ inl low ↦ all k 0 low | inr high ↦ (let none = get_or_past word k 0 high in subst (λ v. v < z) (sym none) some) ]
+letter_low z word some all (pos (suc k)) = elim (cases_lt k (length word))
+    [ inl low ↦ all k 0 low | inr high ↦ (let none = get_or_past word k 0 high in subst (λ v. v < z) (sym none) some) ]
 letter_low z word some all (negsuc k) = some
 
 -- a cell's state is one of its table's
@@ -64,10 +70,14 @@ state_low z s true low = omega arith
 state_low z s false low = omega arith
 
 -- at the start too
-start_below : (z left right : ℕ) (word : List ℕ) → 0 < z → All (λ s. s < z) word → (e q : ℕ) → slice_get (start_cells z left word right) e ≡ Some q
+start_below : (z left right : ℕ) (word : List ℕ) → 0 < z → All (λ s. s < z) word → (e q : ℕ)
+    → slice_get (start_cells z left word right) e ≡ Some q
     → q < 2 * z
 start_below z left right word some all e q h =
-    each_below (λ j. state_number z (cell_of (word_tape word) (pos j -ℤ pos left))) (2 * z) (λ j. state_low z (cell (word_tape word) (pos j -ℤ pos left)) (int_eq (pos j -ℤ pos left) (word_tape word).head) (subst (λ v. v < z) (sym (cell-word word (pos j -ℤ pos left))) (letter_low z word some all (pos j -ℤ pos left)))) 0 (left + right + 1) e q h
+    each_below (λ j. state_number z (cell_of (word_tape word) (pos j -ℤ pos left))) (2 * z)
+    (λ j. state_low z (cell (word_tape word) (pos j -ℤ pos left)) (int_eq (pos j -ℤ pos left) (word_tape word).head)
+    (subst (λ v. v < z) (sym (cell-word word (pos j -ℤ pos left)))
+    (letter_low z word some all (pos j -ℤ pos left)))) 0 (left + right + 1) e q h
 
 -- the state of one of a tape's cells
 map_get : (f : ℕ → ℕ) (a n i e : ℕ) → i < n → e ≡ a + i → slice_get (map f (range_with_len a n)) i ≡ Some (f e)
@@ -78,7 +88,8 @@ map_get f a (suc n) (suc i) e low same = map_get f (a + 1) n i e (omega arith) (
 -- at the start
 start_get : (z left right : ℕ) (word : List ℕ) (p : ℕ) → p < left + right + 1
     → slice_get (start_cells z left word right) p ≡ Some (state_number z (cell_of (word_tape word) (pos p -ℤ pos left)))
-start_get z left right word p low = map_get (λ j. state_number z (cell_of (word_tape word) (pos j -ℤ pos left))) 0 (left + right + 1) p p low (omega arith)
+start_get z left right word p low = map_get (λ j. state_number z (cell_of (word_tape word) (pos j -ℤ pos left))) 0
+    (left + right + 1) p p low (omega arith)
 
 -- a cell whose state has a number from the heads on has the head
 has_head : (z s : ℕ) (b : Bool) → s < z → z ≤ state_number z (if b then Head s else Plain s) → b ≡ true
@@ -91,28 +102,33 @@ no_letters z k d low = absurd (omega arith)
 
 -- a tape's cells at the start
 pub start_length : (z left right : ℕ) (word : List ℕ) → length (start_cells z left word right) ≡ left + right + 1
-start_length z left right word = length-map-range_with_len (λ j. state_number z (cell_of (word_tape word) (pos j -ℤ pos left))) 0 (left + right + 1)
+start_length z left right word = length-map-range_with_len (λ j. state_number z
+    (cell_of (word_tape word) (pos j -ℤ pos left))) 0 (left + right + 1)
 
-module _ (rules : List (Rule ℕ)) (states x y z : ℕ) (l : Limits) (names : List ControlState) (n : Circuit) (firsts awaited : List (Option (ℕ × ℕ))) where
+module _ (rules : List (Rule ℕ)) (states x y z : ℕ) (l : Limits) (names : List ControlState) (n : Circuit)
+    (firsts awaited : List (Option (ℕ × ℕ))) where
   -- the machine, by its parts
   abbrev m : Quadruples
   m = machine rules states x y z l names n firsts awaited
 
-  module _ (network : IsNetwork m l names n) (word : List ℕ) (some : 0 < length names) (first : 0 < x) (second : 0 < y) (third : 0 < z) (letters_low : All (λ s. s < x) word) where
+  module _ (network : IsNetwork m l names n) (word : List ℕ) (some : 0 < length names) (first : 0 < x) (second : 0 < y)
+      (third : 0 < z) (letters_low : All (λ s. s < x) word) where
     -- the network's start
     abbrev start : Situation
     start = network_start m l word
 
     -- its states, tape after tape
     abbrev nested : List ℕ
-    nested = 0 ∷ (start_cells x l.left word l.right ++ (start_cells y 0 [] l.steps ++ (start_cells z 0 [] l.output ++ [])))
+    nested = 0 ∷ (start_cells x l.left word l.right ++ (start_cells y 0 [] l.steps
+        ++ (start_cells z 0 [] l.output ++ [])))
 
     start_nested : start.states ≡ nested
     start_nested =
         let one = start_cells x l.left word l.right in
         let two = start_cells y 0 [] l.steps in
         let three = start_cells z 0 [] l.output in
-        let h : one ++ two ++ three ≡ one ++ (two ++ (three ++ [])) = append_assoc one two three ∙ ap (λ r. one ++ (two ++ r)) (sym (append-nil three)) in
+        let h : one ++ two ++ three ≡ one ++ (two ++ (three ++ [])) =
+        append_assoc one two three ∙ ap (λ r. one ++ (two ++ r)) (sym (append-nil three)) in
         ap (λ r. 0 ∷ r) h
 
     -- each state is one of its module's
@@ -123,9 +139,13 @@ module _ (rules : List (Rule ℕ)) (states x y z : ℕ) (l : Limits) (names : Li
         let count = network.is_control.states in
         subst (λ (v : Table). q < v.states) same (omega arith)
     all_below (suc e) t q h k =
-        row_below (cells_in l 1) (cell_table x) _ (start_cells x l.left word l.right) _ (start_length x l.left l.right word) (start_below x l.left l.right word first letters_low)
-        (row_below (cells_in l 2) (cell_table y) _ (start_cells y 0 [] l.steps) _ (let c = start_length y 0 l.steps [] in omega arith) (start_below y 0 l.steps [] second (no_letters y))
-        (row_below (cells_in l 3) (cell_table z) [] (start_cells z 0 [] l.output) [] (let c = start_length z 0 l.output [] in omega arith) (start_below z 0 l.output [] third (no_letters z)) none_below)) e t q h k
+        row_below (cells_in l 1) (cell_table x) _ (start_cells x l.left word l.right) _
+        (start_length x l.left l.right word) (start_below x l.left l.right word first letters_low)
+        (row_below (cells_in l 2) (cell_table y) _ (start_cells y 0 [] l.steps) _
+        (let c = start_length y 0 l.steps [] in omega arith) (start_below y 0 l.steps [] second (no_letters y))
+        (row_below (cells_in l 3) (cell_table z) [] (start_cells z 0 [] l.output) []
+        (let c = start_length z 0 l.output [] in omega arith) (start_below z 0 l.output [] third (no_letters z))
+        none_below)) e t q h k
 
     -- the length of three lists
     three_lengths : {X : Type 0} (a b c : List X) → length (a ++ (b ++ (c ++ []))) ≡ length a + length b + length c
@@ -141,12 +161,15 @@ module _ (rules : List (Rule ℕ)) (states x y z : ℕ) (l : Limits) (names : Li
         let one = start_length x l.left l.right word in
         let two = start_length y 0 l.steps [] in
         let three = start_length z 0 l.output [] in
-        let left = three_lengths (start_cells x l.left word l.right) (start_cells y 0 [] l.steps) (start_cells z 0 [] l.output) in
-        let right = three_lengths (replicate (cells_in l 1) (cell_table x)) (replicate (cells_in l 2) (cell_table y)) (replicate (cells_in l 3) (cell_table z)) in
+        let left = three_lengths (start_cells x l.left word l.right) (start_cells y 0 [] l.steps)
+        (start_cells z 0 [] l.output) in
+        let right = three_lengths (replicate (cells_in l 1) (cell_table x)) (replicate (cells_in l 2) (cell_table y))
+        (replicate (cells_in l 3) (cell_table z)) in
         let first = length-replicate (cells_in l 1) (cell_table x) in
         let second = length-replicate (cells_in l 2) (cell_table y) in
         let third = length-replicate (cells_in l 3) (cell_table z) in
-        let tables : length n.tables ≡ length (tables_in rules states x y z l names n firsts awaited network.control) = ap length (tables_are rules states x y z l names n firsts awaited network) in
+        let tables : length n.tables ≡ length (tables_in rules states x y z l names n firsts awaited network.control) =
+        ap length (tables_are rules states x y z l names n firsts awaited network) in
         let starts : length start.states ≡ length nested = ap length start_nested in
         omega arith
 
@@ -156,7 +179,9 @@ module _ (rules : List (Rule ℕ)) (states x y z : ℕ) (l : Limits) (names : Li
       count = counts;
       bars = bars-length n.tables start.states counts;
       rests = λ e t q has at_q.
-          let low = all_below e t q (subst (λ ts. slice_get ts e ≡ Some t) (tables_are rules states x y z l names n firsts awaited network) has) (subst (λ qs. slice_get qs e ≡ Some q) start_nested at_q) in
+          let low = all_below e t q (subst (λ ts. slice_get ts e ≡ Some t)
+          (tables_are rules states x y z l names n firsts awaited network) has)
+          (subst (λ qs. slice_get qs e ≡ Some q) start_nested at_q) in
           (low, bars-rest n.tables start.states e t q counts has at_q low);
       admissible =
           let control = has_control rules states x y z l names n firsts awaited network in
@@ -175,13 +200,15 @@ module _ (rules : List (Rule ℕ)) (states x y z : ℕ) (l : Limits) (names : Li
 
     -- the state of each cell
     start_at : (t p : ℕ) → 0 < t → t ≤ 3 → p < cells_in l t
-        → slice_get nested (first_cell l t + p) ≡ Some (state_number (symbol_count m t) (cell_of (word_tape (word_on t)) (pos p -ℤ pos (left_of l t))))
+        → slice_get nested (first_cell l t + p) ≡ Some (state_number (symbol_count m t)
+        (cell_of (word_tape (word_on t)) (pos p -ℤ pos (left_of l t))))
     start_at zero p low high within = absurd (omega arith)
     start_at (suc zero) p low high within =
         let one = start_cells x l.left word l.right in
         let count = start_length x l.left l.right word in
         let place : first_cell l 1 + p ≡ suc p = omega arith in
-        ap (slice_get nested) place ∙ get_left one (start_cells y 0 [] l.steps ++ (start_cells z 0 [] l.output ++ [])) p (omega arith) ∙ start_get x l.left l.right word p within
+        ap (slice_get nested) place ∙ get_left one (start_cells y 0 [] l.steps ++ (start_cells z 0 [] l.output ++ [])) p
+        (omega arith) ∙ start_get x l.left l.right word p within
     start_at (suc (suc zero)) p low high within =
         let one = start_cells x l.left word l.right in
         let two = start_cells y 0 [] l.steps in
@@ -189,7 +216,8 @@ module _ (rules : List (Rule ℕ)) (states x y z : ℕ) (l : Limits) (names : Li
         let count = start_length x l.left l.right word in
         let count' = start_length y 0 l.steps [] in
         let place : first_cell l 2 + p ≡ suc (cells_in l 1 + p) = omega arith in
-        ap (slice_get nested) place ∙ get_right one (two ++ rest) p (cells_in l 1 + p) (omega arith) ∙ get_left two rest p (omega arith) ∙ start_get y 0 l.steps [] p (omega arith)
+        ap (slice_get nested) place ∙ get_right one (two ++ rest) p (cells_in l 1 + p) (omega arith)
+        ∙ get_left two rest p (omega arith) ∙ start_get y 0 l.steps [] p (omega arith)
     start_at (suc (suc (suc zero))) p low high within =
         let one = start_cells x l.left word l.right in
         let two = start_cells y 0 [] l.steps in
@@ -198,7 +226,9 @@ module _ (rules : List (Rule ℕ)) (states x y z : ℕ) (l : Limits) (names : Li
         let count' = start_length y 0 l.steps [] in
         let count'' = start_length z 0 l.output [] in
         let place : first_cell l 3 + p ≡ suc (cells_in l 1 + (cells_in l 2 + p)) = omega arith in
-        ap (slice_get nested) place ∙ get_right one (two ++ (three ++ [])) (cells_in l 2 + p) (cells_in l 1 + (cells_in l 2 + p)) (omega arith) ∙ get_right two (three ++ []) p (cells_in l 2 + p) (omega arith) ∙ get_left three [] p (omega arith) ∙ start_get z 0 l.output [] p (omega arith)
+        ap (slice_get nested) place ∙ get_right one (two ++ (three ++ [])) (cells_in l 2 + p)
+        (cells_in l 1 + (cells_in l 2 + p)) (omega arith) ∙ get_right two (three ++ []) p (cells_in l 2 + p)
+        (omega arith) ∙ get_left three [] p (omega arith) ∙ start_get z 0 l.output [] p (omega arith)
     start_at (suc (suc (suc (suc t)))) p low high within = absurd (omega arith)
 
     -- the letters are the tape's
@@ -210,14 +240,20 @@ module _ (rules : List (Rule ℕ)) (states x y z : ℕ) (l : Limits) (names : Li
     word_low (suc (suc (suc (suc t)))) low high = absurd (omega arith)
 
     -- the cell with the head is that at position 0
-    head_at : (t p i : ℕ) → IsTape t → p < cells_in l t → slice_get start.states (first_cell l t + p) ≡ Some i → symbol_count m t ≤ i → p ≡ left_of l t
+    head_at : (t p i : ℕ) → IsTape t → p < cells_in l t → slice_get start.states (first_cell l t + p) ≡ Some i
+        → symbol_count m t ≤ i → p ≡ left_of l t
     head_at t p i tape within has high =
         let here = start_at t p tape.low tape.high within in
-        let there : slice_get nested (first_cell l t + p) ≡ Some i = subst (λ qs. slice_get qs (first_cell l t + p) ≡ Some i) start_nested has in
-        let same : state_number (symbol_count m t) (cell_of (word_tape (word_on t)) (pos p -ℤ pos (left_of l t))) ≡ i = same_Some _ _ (sym here ∙ there) in
+        let there : slice_get nested (first_cell l t + p) ≡ Some i =
+        subst (λ qs. slice_get qs (first_cell l t + p) ≡ Some i) start_nested has in
+        let same : state_number (symbol_count m t) (cell_of (word_tape (word_on t)) (pos p -ℤ pos (left_of l t))) ≡ i =
+        same_Some _ _ (sym here ∙ there) in
         let lows = word_low t tape.low tape.high in
-        let symbol : cell (word_tape (word_on t)) (pos p -ℤ pos (left_of l t)) < symbol_count m t = subst (λ v. v < symbol_count m t) (sym (cell-word (word_on t) (pos p -ℤ pos (left_of l t)))) (letter_low (symbol_count m t) (word_on t) lows.0 lows.1 (pos p -ℤ pos (left_of l t))) in
-        let told = has_head (symbol_count m t) (cell (word_tape (word_on t)) (pos p -ℤ pos (left_of l t))) (int_eq (pos p -ℤ pos (left_of l t)) (pos 0)) symbol (subst (λ v. symbol_count m t ≤ v) (sym same) high) in
+        let symbol : cell (word_tape (word_on t)) (pos p -ℤ pos (left_of l t)) < symbol_count m t =
+        subst (λ v. v < symbol_count m t) (sym (cell-word (word_on t) (pos p -ℤ pos (left_of l t))))
+        (letter_low (symbol_count m t) (word_on t) lows.0 lows.1 (pos p -ℤ pos (left_of l t))) in
+        let told = has_head (symbol_count m t) (cell (word_tape (word_on t)) (pos p -ℤ pos (left_of l t)))
+        (int_eq (pos p -ℤ pos (left_of l t)) (pos 0)) symbol (subst (λ v. symbol_count m t ≤ v) (sym same) high) in
         let place = (Decides-int_eq (pos p -ℤ pos (left_of l t)) (pos 0)).0 told in
         at_zero p (left_of l t) place
       where
@@ -235,9 +271,12 @@ module _ (rules : List (Rule ℕ)) (states x y z : ℕ) (l : Limits) (names : Li
     -- one head a tape at the start
     pub heads : HasHeads m l start
     heads = record {
-      one = λ t p q i j tape here there has is low high. head_at t p i tape here has low ∙ sym (head_at t q j tape there is high);
+      one = λ t p q i j tape here there has is low high. head_at t p i tape here has low
+          ∙ sym (head_at t q j tape there is high);
       carried = λ t p q i tape here there place has. absurd (elim place [
-        | inl at_right ↦ (let e : 0 ≡ first_cell l t + p = (let h : Enter 0 0 ≡ Enter _ _ = at_right in cc) in let some = first_some t tape.low tape.high in omega arith)
-        | inr at_left ↦ (let e : 0 ≡ first_cell l t + p = (let h : Enter 0 0 ≡ Enter _ _ = at_left in cc) in let some = first_some t tape.low tape.high in omega arith)
+        | inl at_right ↦ (let e : 0 ≡ first_cell l t + p = (let h : Enter 0 0 ≡ Enter _ _ = at_right in cc) in let
+            some = first_some t tape.low tape.high in omega arith)
+        | inr at_left ↦ (let e : 0 ≡ first_cell l t + p = (let h : Enter 0 0 ≡ Enter _ _ = at_left in cc) in let
+            some = first_some t tape.low tape.high in omega arith)
       ]);
     }

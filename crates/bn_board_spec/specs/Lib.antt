@@ -6,3 +6,4 @@ pub mod Flats
 pub mod BoardMoments
 pub mod Readings
 pub mod LayoutLaws
+pub mod Spans

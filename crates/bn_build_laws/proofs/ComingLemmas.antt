@@ -106,7 +106,7 @@ module _ (f : Build) (is : IsBuild f) (test : Situation
   -- ---- the end
 
   -- what is owed of an end
-  abbrev Ended : Situation → Configuration ℕ → Exit → Type 0
+  abbrev pub Ended : Situation → Configuration ℕ → Exit → Type 0
   Ended s c e = (n : ℕ) × (t : Situation) × Travels f.network test n (48 * build_elements f) s t
       × (run_cost f.network (n + 1) s ≤ 48 * build_elements f) × IsAtEnd f.network t × EndsSo f t c e
       × ((n ≡ 0) ⊎ (test t ≡ false))
@@ -132,7 +132,7 @@ module _ (f : Build) (is : IsBuild f) (test : Situation
       s c e now ends stop in
       (last.0, last.1, last.2, last.3, last.4, early none last.5, last.6)
 
-  ended : (s : Situation) (c : Configuration ℕ) (e : Exit) → IsMomentOf f.machine f.limits f.names f.network s c
+  pub ended : (s : Situation) (c : Configuration ℕ) (e : Exit) → IsMomentOf f.machine f.limits f.names f.network s c
       → EndsAt (rooms_of f.limits) f.machine.rules (final_state_of f.machine.rules) c e → Ended s c e
   ended s c e now (ends_final final same) =
       early_end s c e now (ends_final final same) (subst (IsEarlyStop f.machine c) (sym same) tt) (λ other. cc)

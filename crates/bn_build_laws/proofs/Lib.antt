@@ -9,3 +9,8 @@ pub mod ThereLemmas
 pub mod BackLemmas
 pub mod StartLemmas
 pub mod InverseLemmas
+pub mod FitLemmas
+pub mod PieceLemmas
+pub mod LeftLemmas
+pub mod OnceLemmas
+pub mod MomentLemmas

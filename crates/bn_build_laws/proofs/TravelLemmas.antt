@@ -53,7 +53,7 @@ denied : (b : Bool) → not b ≡ true → b ≡ false
 denied true h = absurd (cc)
 denied false h = refl
 
-one_of : (b : Bool) → b ≡ true → one_if b ≡ 1
+pub one_of : (b : Bool) → b ≡ true → one_if b ≡ 1
 one_of true h = refl
 one_of false h = absurd (cc)
 
@@ -149,7 +149,7 @@ module _ (f : Build) (test : Situation → Bool) (modules : AreModules f.network
       (stride.moves + rest.0, rest.1, subst (Leg (stride.moves + rest.0) s t c rest.1) count whole, omega arith)
 
   -- from the last moment to the end, which is none
-  leaving : (m : ℕ) (s t : Situation) (c : Config) → StandsFor f.network s c
+  pub leaving : (m : ℕ) (s t : Situation) (c : Config) → StandsFor f.network s c
       → Passes (Turns f.network) (λ x. not (test x)) m s t
       → (m ≡ 0) ⊎ (test t ≡ false) → c.steps + run_cost f.network m s ≤ clock → (d : Config) × Leg m s t c d 0
   leaving zero s t c stands path quiet room = (c, subst (λ z. Leg 0 s z c c 0) path (no_leg s c stands))
@@ -163,7 +163,7 @@ module _ (f : Build) (test : Situation → Bool) (modules : AreModules f.network
     pub counted : tally (is_moment f.layout) f.circuit (step_cost f.network t) c ≡ 0
     pub stands : (StandsFor f.network t e × ((x i : ℕ) → t.place ≢ Enter x i)) ⊎ IsLoose f.network t e
 
-  at_end : (t : Situation) (c : Config) (p : Place) → t.place ≡ p → StandsFor f.network t c → IsAtEnd f.network t
+  pub at_end : (t : Situation) (c : Config) (p : Place) → t.place ≡ p → StandsFor f.network t c → IsAtEnd f.network t
       → c.steps + step_cost f.network t ≤ clock
       → (e : Config) × Ending t c e
   at_end t c (Left e o) is stands ended room =

@@ -9,7 +9,8 @@ use Rattle.bn_machine.specs.Outcome.{Limits}
 use Rattle.bn_quad.specs.Quadruples.{Configuration, Quadruples, initial_of}
 use Rattle.bn_network.specs.Controls.{ControlState, Begin}
 use Rattle.bn_network.specs.Networks.{IsControlAt, ShowsTapes, elements_by}
-use Rattle.bn_board_spec.specs.Boards.{IsBoard, StandsFor}
+use Rattle.bn_network.specs.Starts.{start_from}
+use Rattle.bn_board_spec.specs.Boards.{IsBoard, StandsFor, board_start}
 use Rattle.bn_board_spec.specs.Layouts.{Layout, IsLayout}
 use Rattle.bn_board_laws.specs.NetworkMoments.{IsUniformNetwork}
 
@@ -32,6 +33,10 @@ pub record IsBuild (f : Build) : Type 0 where
 -- how many elements its board has
 abbrev pub build_elements : Build → ℕ
 build_elements f = elements_by f.machine f.limits (length f.names)
+
+-- the board at the start of c, with no step made
+abbrev pub start_of : Build → Configuration ℕ → Config
+start_of f c = board_start f.network.tables (start_from f.machine f.limits c)
 
 -- The board at d, standing for the situation s, is at the start of c: c is in the initial state, whatever stands on its
 -- tapes, and wherever in the window its heads are; the cells show its tapes, the control is in its first state, the

@@ -1,11 +1,12 @@
 -- What holds of the build of any uniform machine of quadruples. `Laws` at the end is the contract of this crate's one
 -- function.
-use Rattle.std.specs.Prelude.{◌≡◌, ℕ, ◌+◌, ◌*◌, ◌≤◌, List, []}
+use Rattle.std.specs.Prelude.{◌≡◌, ℕ, ◌+◌, ◌*◌, ◌≤◌, List, [], Some}
 use Rattle.bn_lists.specs.Runs.{Reaches}
 use Rattle.bn_circuits.specs.Circuits.{clock, Goes, IsStuck}
 use Rattle.bn_circuits.specs.Situations.{Situation}
 use Rattle.bn_circuits.specs.Stepping.{back, run}
 use Rattle.bn_circuits.specs.declared.config.Config.{Config}
+use Rattle.bn_circuits.specs.declared.place.Place.TheVariants.{Left}
 use Rattle.bn_machine.specs.Outcome.{Limits}
 use Rattle.bn_quad.specs.Quadruples.{Configuration, Quadruples, IsQuadMachine, initial_of, inverse_of}
 use Rattle.bn_quad.specs.Calls.{IsUniformMachine}
@@ -13,10 +14,11 @@ use Rattle.bn_bennett_laws.specs.Steps.{Exit, Finished}
 use Rattle.bn_network.specs.Moments.{HasLetters}
 use Rattle.bn_network.specs.Networks.{network_start}
 use Rattle.bn_board_spec.specs.Boards.{board_start}
+use Rattle.bn_board_spec.specs.Layouts.{moment_at}
 use Rattle.bn_board_laws.specs.NetworkMoments.{machine_start}
 use Rattle.bn_build_laws.specs.Builds.{Build, IsBuild, IsStart, build_elements}
 use Rattle.bn_network.specs.Starts.{AreInputs, FitsWindow, start_from, words_on}
-use Rattle.bn_build_laws.specs.Runs.{EndsInWindow, BuildRunsTo}
+use Rattle.bn_build_laws.specs.Runs.{EndsInWindow, BuildRunsTo, HasLeft, ShowsMoment}
 
 -- ---- builds and their starts
 
@@ -83,6 +85,22 @@ BuildsTellTheirMachine =
     → (t : ℕ) (x : Config) → Reaches (Goes f.circuit) t at_start x → IsStuck f.circuit x
     → t + 48 * build_elements f ≤ clock → Told f c s at_start t x
 
+-- wherever the clock runs out: it has room for the steps that lead from one step of the machine to the next
+abbrev pub BuildsAreLeftByTheirMachine : Type 0
+BuildsAreLeftByTheirMachine =
+    (f : Build) → IsBuild f → 48 * build_elements f ≤ clock → (c : Configuration ℕ) (s : Situation) (at_start : Config)
+    → IsStart f c s at_start → (t : ℕ) (x : Config) → Reaches (Goes f.circuit) t at_start x
+    → (e l : ℕ) → x.place ≡ Left e l → HasLeft f c x.place x.states
+
+-- the same of the moments that the layout finds, and of the start
+abbrev pub BuildsShowTheirMachine : Type 0
+BuildsShowTheirMachine =
+    (f : Build) → IsBuild f → 48 * build_elements f ≤ clock → (c : Configuration ℕ) (s : Situation) (at_start : Config)
+    → IsStart f c s at_start
+    → ((t : ℕ) (x : Config) → Reaches (Goes f.circuit) t at_start x → (a : ℕ) → moment_at f.layout x ≡ Some a
+    → ShowsMoment f c a x.states)
+    × ShowsMoment f c (initial_of f.machine.rules) at_start.states
+
 abbrev pub BuildsEndOnce : Type 0
 BuildsEndOnce =
     ((f : Build) → IsBuild f → (c : Configuration ℕ) (m n : ℕ) (d b : Configuration ℕ) (e g : Exit)
@@ -120,6 +138,11 @@ pub record Laws : Type 0 where
   -- The converse: where the board makes t steps and then no more, the machine's own run has ended, and the board has
   -- run to that exit.
   pub builds_tell_their_machine : BuildsTellTheirMachine
+  -- Wherever the signal has left, the machine's own run has ended, and the board was left by that exit.
+  pub builds_are_left_by_their_machine : BuildsAreLeftByTheirMachine
+  -- Wherever its layout finds a moment, the machine's own run has come to a configuration in that state, whose tapes
+  -- the cells spell; and at the start they spell those of the start.
+  pub builds_show_their_machine : BuildsShowTheirMachine
   -- The machine's own run in the window ends once, so there is one exit; and the board's run to an exit has one cost,
   -- and ends in one configuration.
   pub builds_end_once : BuildsEndOnce

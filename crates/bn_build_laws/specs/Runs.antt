@@ -1,16 +1,17 @@
 -- A run of a build from a start to its end: of the machine in the window, and of the board (this project's own
 -- profile).
-use Rattle.std.specs.Prelude.{◌≡◌, ℕ, ◌+◌, ◌*◌, ◌≤◌}
+use Rattle.std.specs.Prelude.{◌≡◌, ℕ, ◌+◌, ◌*◌, ◌≤◌, List}
 use Rattle.bn_lists.specs.Runs.{Reaches}
 use Rattle.bn_circuits.specs.Circuits.{Goes, IsStuck}
 use Rattle.bn_circuits.specs.Situations.{Situation, Turns, IsAtEnd}
 use Rattle.bn_circuits.specs.Stepping.{run}
 use Rattle.bn_circuits.specs.declared.config.Config.{Config}
+use Rattle.bn_circuits.specs.declared.place.Place.{Place}
 use Rattle.bn_quad.specs.Quadruples.{Configuration, QuadruplesRunTo, final_state_of}
 use Rattle.bn_bennett_laws.specs.Stages.{rooms_of}
 use Rattle.bn_bennett_laws.specs.Steps.{EndsAt, Exit}
 use Rattle.bn_rsm.specs.RunCosts.{run_cost}
-use Rattle.bn_board_spec.specs.Layouts.{moments}
+use Rattle.bn_board_spec.specs.Layouts.{moments, spelled_by, spelled_config}
 use Rattle.bn_build_laws.specs.Builds.{Build, build_elements}
 use Rattle.bn_build_laws.specs.Exits.{BoardLeaves}
 
@@ -38,3 +39,20 @@ pub record BuildRunsTo (f : Build) (start : Situation) (at_start : Config) (n : 
   pub ended : IsStuck f.circuit (run f.circuit at_start cost)
   pub leaves : BoardLeaves f (run f.circuit at_start cost).place (run f.circuit at_start cost).states d e
   pub count : moments f.layout f.circuit cost at_start ≡ n + 1
+
+-- The board is at a moment of state a: n steps of the machine's own run from c in the window lead to a configuration in
+-- that state, and the cells spell its tapes.
+pub record ShowsMoment (f : Build) (c : Configuration ℕ) (a : ℕ) (states : List ℕ) : Type 0 where
+  pub steps : ℕ
+  pub config : Configuration ℕ
+  pub runs : Reaches (QuadruplesRunTo (rooms_of f.limits) f.machine) steps c config
+  pub state : config.state ≡ a
+  pub spells : spelled_by f.layout states ≡ spelled_config f.limits config
+
+-- The signal has left: the machine's own run from c in the window has ended, and the board was left by that exit.
+pub record HasLeft (f : Build) (c : Configuration ℕ) (p : Place) (states : List ℕ) : Type 0 where
+  pub steps : ℕ
+  pub final : Configuration ℕ
+  pub exit : Exit
+  pub ends : EndsInWindow f c steps final exit
+  pub leaves : BoardLeaves f p states final exit

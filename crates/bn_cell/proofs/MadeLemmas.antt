@@ -27,13 +27,17 @@ module _ (z : ℕ) (size : IsCellSize z) (ms : List RsmMove) (is : ms ≡ rows (
 
   -- they are sound
   pub sound : AreSound (2 * z) (2 * z + 8) ms
-  sound = subst (λ l. AreSound (2 * z) (2 * z + 8) l) (sym is) (moves_sound (cell_table z) (cells-reversible z) (rows (cell_table z) (2 * z)) refl (rows_moves (cell_table z) (cells-reversible z)))
+  sound = subst (λ l. AreSound (2 * z) (2 * z + 8) l) (sym is)
+      (moves_sound (cell_table z) (cells-reversible z) (rows (cell_table z) (2 * z)) refl
+      (rows_moves (cell_table z) (cells-reversible z)))
 
   -- and make the cell
   pub is_cell : (m : Machine) → IsMadeOf m (2 * z) (2 * z + 8) ms → IsCellOf z m
   is_cell m made = record {
     states = made.states;
     lines = made.lines;
-    goes = λ q i. ap (λ l. go_by (map move_of l) q i) (made.moves ∙ is) ∙ moves_go (cell_table z) (cells-reversible z) (rows (cell_table z) (2 * z)) (rows_moves (cell_table z) (cells-reversible z)) q i;
+    goes = λ q i. ap (λ l. go_by (map move_of l) q i) (made.moves ∙ is)
+        ∙ moves_go (cell_table z) (cells-reversible z) (rows (cell_table z) (2 * z))
+        (rows_moves (cell_table z) (cells-reversible z)) q i;
     moves = ap length made.moves ∙ counted;
   }

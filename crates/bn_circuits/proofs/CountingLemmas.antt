@@ -1,9 +1,11 @@
 -- Counts along a run.
-use Rattle.std.specs.Prelude.{◌≡◌, ℕ, ◌+◌, ◌<◌, Bool, true, false, not, refl}
+use Rattle.std.specs.Prelude.{◌≡◌, ℕ, ◌+◌, ◌<◌, ◌≤◌, Bool, true, false, not, Option, Some, None, refl}
+use Rattle.std.specs.Option.{option_map_or}
 use Rattle.std.proofs.Common.{zero, suc, arith, ap, ◌∙◌}
 use Rattle.bn_lists.specs.Runs.{Reaches, Passes}
 use Rattle.bn_circuits.specs.Circuits.{Circuit, Goes}
 use Rattle.bn_circuits.proofs.StepLemmas.{Goes-next}
+use Rattle.bn_circuits.specs.Stepping.{next}
 use Rattle.bn_circuits.specs.declared.config.Config.{Config}
 use Rattle.bn_circuits.specs.Counting.{tally, one_if, TalliesAdd}
 
@@ -16,7 +18,8 @@ module _ (k : Circuit) (test : Config → Bool) where
   unfolding tally
   tally-more t c d g = rw (Goes-next k c d g) refl
 
-  tally-joins : (m n : ℕ) (c d : Config) → Reaches (Goes k) m c d → tally test k (m + n) c ≡ tally test k m c + tally test k n d
+  tally-joins : (m n : ℕ) (c d : Config) → Reaches (Goes k) m c d
+      → tally test k (m + n) c ≡ tally test k m c + tally test k n d
   tally-joins zero n c d path =
       let none = tally-zero c in
       let count : zero + n ≡ n = omega arith in
@@ -34,7 +37,8 @@ module _ (k : Circuit) (test : Config → Bool) where
   denied true h = absurd (cc)
   denied false h = refl
 
-  tally-once : (n : ℕ) (c d : Config) → Passes (Goes k) (λ x. not (test x)) (suc n) c d → tally test k (suc n) c ≡ one_if (test d)
+  tally-once : (n : ℕ) (c d : Config) → Passes (Goes k) (λ x. not (test x)) (suc n) c d
+      → tally test k (suc n) c ≡ one_if (test d)
   tally-once zero c d path =
       let y = path.0 in
       let whole = tally-more 0 c y path.1 in
@@ -48,9 +52,27 @@ module _ (k : Circuit) (test : Config → Bool) where
       let rest = tally-once n y d path.3 in
       omega arith
 
-once : (k : Circuit) (test : Config → Bool) (n : ℕ) (c d : Config) → 0 < n → Passes (Goes k) (λ x. not (test x)) n c d → tally test k n c ≡ one_if (test d)
+once : (k : Circuit) (test : Config → Bool) (n : ℕ) (c d : Config) → 0 < n → Passes (Goes k) (λ x. not (test x)) n c d
+    → tally test k n c ≡ one_if (test d)
 once k test zero c d some path = absurd (omega arith)
 once k test (suc n) c d some path = tally-once k test n c d path
 
 pub tallies-add : TalliesAdd
 tallies-add = (λ k test m n c d path. tally-joins k test m n c d path, once)
+
+-- ---- counts and lengths
+
+-- a test holds of as many configurations as there are, at most
+pub one_low : (b : Bool) → one_if b ≤ 1
+one_low true = omega arith
+one_low false = omega arith
+
+pub tally_low : (test : Config → Bool) (k : Circuit) (t : ℕ) (c : Config) → tally test k t c ≤ t
+unfolding tally
+tally_low test k zero c = omega arith
+tally_low test k (suc t) c = by (λ d. tally_low test k t d) (next k c)
+  where
+    by : ((d : Config) → tally test k t d ≤ t) → (x : Option Config)
+        → option_map_or (λ d. one_if (test d) + tally test k t d) x 0 ≤ suc t
+    by rest None = omega arith
+    by rest (Some d) = let more = rest d in let here = one_low (test d) in omega (arith, more, here)

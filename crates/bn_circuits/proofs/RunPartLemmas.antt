@@ -6,13 +6,16 @@ use Rattle.bn_lists.proofs.RunsLemmas.{before_by, before_gives, runs_more}
 use Rattle.bn_circuits.specs.Circuits.{Circuit, Goes, IsCircuit, IsConfig, IsStuck, IsFirst}
 use Rattle.bn_circuits.specs.Stepping.{run, back, previous, places, places_back}
 use Rattle.bn_circuits.proofs.StepLemmas.{previous-Goes, previous-IsConfig, Goes-previous}
-use Rattle.bn_circuits.proofs.RunLemmas.{Reaches-run, Reaches-back, run-first, run-zero, run_makes, places-Goes, places-stuck, places-zero}
-use Rattle.bn_circuits.proofs.RunLemmas.{back-zero, back_composes, back-first, places_back-zero, places_back-Goes, places_back-first}
+use Rattle.bn_circuits.proofs.RunLemmas.{Reaches-run, Reaches-back, run-first, run-zero, run_makes, places-Goes}
+use Rattle.bn_circuits.proofs.RunLemmas.{places-stuck, places-zero}
+use Rattle.bn_circuits.proofs.RunLemmas.{back-zero, back_composes, back-first, places_back-zero, places_back-Goes}
+use Rattle.bn_circuits.proofs.RunLemmas.{places_back-first}
 use Rattle.bn_circuits.specs.declared.config.Config.{Config}
 use Rattle.bn_circuits.specs.RunParts.{RunsUndoInPart, PathsPassBetween, PlacesAreThoseOfRuns}
 use Rattle.bn_circuits.specs.RunParts.{ArePlacesOfRunBack, PlacesAreThoseOfRunsBack}
 
-pub runs_split : {S : Type 0} (step : S → S → Type 0) (r s p : ℕ) (x z : S) → p ≡ r + s → Reaches step p x z → (y : S) × Reaches step r x y × Reaches step s y z
+pub runs_split : {S : Type 0} (step : S → S → Type 0) (r s p : ℕ) (x z : S) → p ≡ r + s → Reaches step p x z
+    → (y : S) × Reaches step r x y × Reaches step s y z
 runs_split step zero s p x z sum path = let e : p ≡ s = omega arith in (x, refl, subst (λ n. Reaches step n x z) e path)
 runs_split step (suc r) s zero x z sum path = absurd (omega arith)
 runs_split step (suc r) s (suc p) x z sum path =
@@ -32,31 +35,48 @@ paths-between k test (suc (suc n)) (suc zero) c d path some few =
     let there : run k c 1 ≡ path.0 = run-first k c path.0 0 path.1 ∙ run-zero k path.0 in
     ap test there ∙ path.2
 paths-between k test (suc (suc n)) (suc (suc t)) c d path some few =
-    ap test (run-first k c path.0 (suc t) path.1) ∙ paths-between k test (suc n) (suc t) path.0 d path.3 (omega arith) (omega arith)
+    ap test (run-first k c path.0 (suc t) path.1) ∙ paths-between k test (suc n) (suc t) path.0 d path.3 (omega arith)
+    (omega arith)
 
 -- a path cut in two
-pub passes_split : {S : Type 0} (step : S → S → Type 0) (test : S → Bool) (r s p : ℕ) (x z : S) → p ≡ r + s → Passes step test p x z
+pub passes_split : {S : Type 0} (step : S → S → Type 0) (test : S → Bool) (r s p : ℕ) (x z : S) → p ≡ r + s
+    → Passes step test p x z
     → (y : S) × Passes step test r x y × Passes step test s y z × (0 < r → 0 < s → test y ≡ true)
-passes_split step test zero s p x z sum path = let e : p ≡ s = omega arith in (x, refl, subst (λ n. Passes step test n x z) e path, λ some _. absurd (omega arith))
+passes_split step test zero s p x z sum path = let e : p ≡ s =
+    omega arith in (x, refl, subst (λ n. Passes step test n x z) e path, λ some _. absurd (omega arith))
 passes_split step test (suc r) s zero x z sum path = absurd (omega arith)
 passes_split step test (suc r) s (suc p) x z sum path =
     let rest = passes_split step test r s p path.0 z (omega arith) path.3 in (
       rest.0,
-      (path.0, path.1, before_by r (test path.0 ≡ true) (λ more. before_gives p (test path.0 ≡ true) (omega arith) path.2), rest.1),
+      (
+        path.0,
+        path.1,
+        before_by r (test path.0 ≡ true) (λ more. before_gives p (test path.0 ≡ true) (omega arith)
+            path.2),
+        rest.1,
+      ),
       rest.2,
-      λ _ more. middle r rest.0 rest.1 (λ some. rest.3 some more) (λ none. before_gives p (test path.0 ≡ true) (omega arith) path.2),
+      λ _ more. middle r rest.0 rest.1 (λ some. rest.3 some more)
+          (λ none. before_gives p (test path.0 ≡ true) (omega arith) path.2),
     )
   where
-    middle : (r : ℕ) (y : _) → Passes step test r path.0 y → (0 < r → test y ≡ true) → (r ≡ 0 → test path.0 ≡ true) → test y ≡ true
+    middle : (r : ℕ) (y : _) → Passes step test r path.0 y → (0 < r → test y ≡ true) → (r ≡ 0 → test path.0 ≡ true)
+        → test y ≡ true
     middle zero y part later here = subst (λ v. test v ≡ true) part (here refl)
     middle (suc r) y part later here = later (omega arith)
 
 -- a test that says yes where another does holds along the same path
-pub passes_weaker : {S : Type 0} (step : S → S → Type 0) (test weaker : S → Bool) → ((x : S) → test x ≡ true → weaker x ≡ true)
+pub passes_weaker : {S : Type 0} (step : S → S → Type 0) (test weaker : S → Bool)
+    → ((x : S) → test x ≡ true → weaker x ≡ true)
     → (n : ℕ) (x z : S) → Passes step test n x z → Passes step weaker n x z
 passes_weaker step test weaker implies zero x z path = path
-passes_weaker step test weaker implies (suc n) x z path =
-    (path.0, path.1, before_by n (weaker path.0 ≡ true) (λ more. implies path.0 (before_gives n (test path.0 ≡ true) more path.2)), passes_weaker step test weaker implies n path.0 z path.3)
+passes_weaker step test weaker implies (suc n) x z path = (
+  path.0,
+  path.1,
+  before_by n (weaker path.0 ≡ true) (λ more. implies path.0
+      (before_gives n (test path.0 ≡ true) more path.2)),
+  passes_weaker step test weaker implies n path.0 z path.3,
+)
 
 -- a run of n steps has counted n steps
 pub steps_of_run : (k : Circuit) (n : ℕ) (c d : Config) → Reaches (Goes k) n c d → d.steps ≡ c.steps + n
@@ -81,13 +101,21 @@ places_reach k (suc n) (suc t) c d path within ended =
     at zero low later = ap (λ (x : Config). Some x.place) (sym (run-first k c path.0 0 path.1 ∙ run-zero k path.0))
     at (suc j) low later =
         let count : suc (j + 1) ≡ suc j + 1 = omega arith in
-        later j (omega arith) ∙ ap (λ (x : Config). Some x.place) (sym (run-first k c path.0 (j + 1) path.1)) ∙ ap (λ n. Some (run k c n).place) count
+        later j (omega arith) ∙ ap (λ (x : Config). Some x.place) (sym (run-first k c path.0 (j + 1) path.1))
+        ∙ ap (λ n. Some (run k c n).place) count
 
 pub places-of_runs : PlacesAreThoseOfRuns
 places-of_runs k t c =
     let made = run_makes k c t in
     let told = places_reach k made.made t c (run k c t) made.reaches made.within made.ended in
-    record { count = made.made; all = told.0; within = made.within; reaches = made.reaches; ended = made.ended; each = told.1 }
+    record {
+      count = made.made;
+      all = told.0;
+      within = made.within;
+      reaches = made.reaches;
+      ended = made.ended;
+      each = told.1;
+    }
 
 -- the first step of a run back
 back-begins : (k : Circuit) (circuit : IsCircuit k) (c d : Config) (t : ℕ) → Goes k c d → back k d (suc t) ≡ back k c t
@@ -106,7 +134,8 @@ module _ (k : Circuit) (circuit : IsCircuit k) where
         count = rest.count + 1;
         all = ap length told ∙ ap suc rest.all ∙ (omega arith);
         within = let w = rest.within in omega arith;
-        reaches = subst (λ x. Reaches (Goes k) (rest.count + 1) x d) (sym there) (runs_more (Goes k) rest.count (back k c t) c d rest.reaches g);
+        reaches = subst (λ x. Reaches (Goes k) (rest.count + 1) x d) (sym there)
+            (runs_more (Goes k) rest.count (back k c t) c d rest.reaches g);
         ended = λ fewer. subst (IsFirst k) (sym there) (rest.ended (omega arith));
         each = λ i low. ap (λ ps. slice_get ps i) told ∙ at i low;
       }
@@ -142,8 +171,10 @@ module _ (k : Circuit) (circuit : IsCircuit k) where
       }
   back_told (suc t) d config = by_step (previous k d) refl (λ c of_circuit. back_told t c of_circuit)
     where
-      by_step : (o : Option Config) → previous k d ≡ o → ((c : Config) → IsConfig k c → ArePlacesOfRunBack k t c) → ArePlacesOfRunBack k (suc t) d
-      by_step None none rest = back_from_start (suc t) d config (λ c g. let some = Goes-previous k circuit c d g in let no = none in cc)
+      by_step : (o : Option Config) → previous k d ≡ o → ((c : Config) → IsConfig k c → ArePlacesOfRunBack k t c)
+          → ArePlacesOfRunBack k (suc t) d
+      by_step None none rest = back_from_start (suc t) d config
+          (λ c g. let some = Goes-previous k circuit c d g in let no = none in cc)
       by_step (Some c) some rest =
           let g : Goes k c d = previous-Goes k circuit c d config some in
           back_from_step t c d g (rest c (previous-IsConfig k circuit c d config g))

@@ -1,5 +1,6 @@
 -- The bars of a column at rest.
-use Rattle.std.proofs.Common.{◌≡◌, ℕ, zero, suc, ◌+◌, ◌-◌, ◌<◌, ◌≤◌, Bool, true, false, List, [], ◌∷◌, ◌++◌, length, replicate, Some, slice_get, refl, sym, ap, subst, ◌∙◌, arith}
+use Rattle.std.proofs.Common.{◌≡◌, ℕ, zero, suc, ◌+◌, ◌-◌, ◌<◌, ◌≤◌, Bool, true, false, List, [], ◌∷◌, ◌++◌, length}
+use Rattle.std.proofs.Common.{replicate, Some, slice_get, refl, sym, ap, subst, ◌∙◌, arith}
 use Rattle.bn_circuits.specs.Circuits.{IsConfig}
 use Rattle.bn_circuits.specs.declared.place.Place.TheVariants.{Enter}
 use Rattle.bn_element.specs.Rotary.{vertical}
@@ -44,9 +45,13 @@ resting-IsAtRest s k marked is =
     }
 
 -- the start is a configuration of the column
-pub start-IsConfig : (net : Parts Rotary) (k row side : ℕ) (marked : Bool) (s : List ℕ) → IsColumnNet net k → s ≡ resting k marked → 1 ≤ row → row ≤ k → side < 4 → IsConfig (rotary_circuit net) (record { states = s; place = Enter (row - 1) side; steps = 0 })
+pub start-IsConfig : (net : Parts Rotary) (k row side : ℕ) (marked : Bool) (s : List ℕ) → IsColumnNet net k
+    → s ≡ resting k marked → 1 ≤ row → row ≤ k → side < 4 → IsConfig (rotary_circuit net)
+    (record { states = s; place = Enter (row - 1) side; steps = 0 })
 start-IsConfig net k row side marked s column is first last at_side =
     let count : length net.elements ≡ k + 1 = column.elements in
     let within : row - 1 < length net.elements = omega arith in
     let table = rotary-table_at net.elements (row - 1) within in
-    bars-IsConfig net (record { states = s; place = Enter (row - 1) side; steps = 0 }) (ap length is ∙ resting-length k marked ∙ sym count) (λ e q has. resting-bars k marked e q (subst (λ x. slice_get x e ≡ Some q) is has)) (rw table at_side) (omega arith)
+    bars-IsConfig net (record { states = s; place = Enter (row - 1) side; steps = 0 })
+    (ap length is ∙ resting-length k marked ∙ sym count) (λ e q has. resting-bars k marked e q
+    (subst (λ x. slice_get x e ≡ Some q) is has)) (rw table at_side) (omega arith)

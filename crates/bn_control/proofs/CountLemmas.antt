@@ -1,5 +1,6 @@
 -- How many states are of a kind.
-use Rattle.std.proofs.Common.{◌≡◌, ◌⊎◌, inl, inr, slice_get, ℕ, zero, suc, ◌+◌, List, [], ◌∷◌, ◌++◌, length, Some, refl, sym, ap, subst, ◌∙◌, length-append}
+use Rattle.std.proofs.Common.{◌≡◌, ◌⊎◌, inl, inr, slice_get, ℕ, zero, suc, ◌+◌, List, [], ◌∷◌, ◌++◌, length, Some, refl}
+use Rattle.std.proofs.Common.{sym, ap, subst, ◌∙◌, length-append}
 use Rattle.std.proofs.lemmas.Bool.Decides.{eqb_tells}
 use Rattle.bn_quad.specs.Quadruples.{Quadruples}
 use Rattle.bn_network.specs.Controls.{ControlState, Begin, End, Reads, Shifts, Writes, Occurs, IsNumbering}
@@ -11,15 +12,19 @@ use Rattle.bn_lists.proofs.ApartLemmas.{IsApart, same_length, joined, apart_plac
 use Rattle.bn_control.specs.Shown.{IsCount}
 
 -- a list without repeats tells its places
-one_place_each : (l : List ControlState) → IsApart l → (i j : ℕ) (q : ControlState) → slice_get l i ≡ Some q → slice_get l j ≡ Some q → i ≡ j
+one_place_each : (l : List ControlState) → IsApart l → (i j : ℕ) (q : ControlState) → slice_get l i ≡ Some q
+    → slice_get l j ≡ Some q → i ≡ j
 one_place_each [] a i j q e d = absurd (cc)
 one_place_each (x ∷ l) a zero zero q e d = refl
-one_place_each (x ∷ l) a zero (suc j) q e d = let same : x ≡ q = cc in absurd (a.0 (subst (λ y. Has l y) (sym same) (member_at l j q d)))
-one_place_each (x ∷ l) a (suc i) zero q e d = let same : x ≡ q = cc in absurd (a.0 (subst (λ y. Has l y) (sym same) (member_at l i q e)))
+one_place_each (x ∷ l) a zero (suc j) q e d = let same : x ≡ q =
+    cc in absurd (a.0 (subst (λ y. Has l y) (sym same) (member_at l j q d)))
+one_place_each (x ∷ l) a (suc i) zero q e d = let same : x ≡ q =
+    cc in absurd (a.0 (subst (λ y. Has l y) (sym same) (member_at l i q e)))
 one_place_each (x ∷ l) a (suc i) (suc j) q e d = ap suc (one_place_each l a.1 i j q e d)
 
 -- a list of all states of a kind counts them
-of_list : (P : ControlState → Type 0) (l : List ControlState) → IsApart l → ((q : ControlState) → P q → Has l q) → ((q : ControlState) → Has l q → P q) → IsCount P (length l)
+of_list : (P : ControlState → Type 0) (l : List ControlState) → IsApart l → ((q : ControlState) → P q → Has l q)
+    → ((q : ControlState) → Has l q → P q) → IsCount P (length l)
 of_list P l a each only = record {
   names = l;
   each = λ q h. place_of l q (each q h);
@@ -40,7 +45,8 @@ one_count P x is only = of_list P (x ∷ []) ((λ h. h), tt) (λ q h. inl (only 
     back q (inr h) = absurd h
 
 -- the same kind in other words
-pub same_count : (P Q : ControlState → Type 0) (n : ℕ) → ((q : ControlState) → P q → Q q) → ((q : ControlState) → Q q → P q) → IsCount P n → IsCount Q n
+pub same_count : (P Q : ControlState → Type 0) (n : ℕ) → ((q : ControlState) → P q → Q q)
+    → ((q : ControlState) → Q q → P q) → IsCount P n → IsCount Q n
 same_count P Q n forth back c = record {
   names = c.names;
   each = λ q h. c.each q (back q h);
@@ -50,7 +56,8 @@ same_count P Q n forth back c = record {
 }
 
 -- two kinds that share no state
-pub both_count : (P Q : ControlState → Type 0) (n k : ℕ) → ((q : ControlState) → P q → Q q → ⊥) → IsCount P n → IsCount Q k → IsCount (λ q. P q ⊎ Q q) (n + k)
+pub both_count : (P Q : ControlState → Type 0) (n k : ℕ) → ((q : ControlState) → P q → Q q → ⊥) → IsCount P n
+    → IsCount Q k → IsCount (λ q. P q ⊎ Q q) (n + k)
 both_count P Q n k far a b =
     subst (IsCount (λ q. P q ⊎ Q q)) long (of_list (λ q. P q ⊎ Q q) (a.names ++ b.names) apart each only)
   where
@@ -64,7 +71,8 @@ both_count P Q n k far a b =
     second q h = let at = place_of b.names q h in b.only at.0 q at.1
 
     apart : IsApart (a.names ++ b.names)
-    apart = joined a.names b.names (apart_places a.names a.once) (apart_places b.names b.once) (λ q h g. far q (first q h) (second q g))
+    apart = joined a.names b.names (apart_places a.names a.once) (apart_places b.names b.once)
+        (λ q h g. far q (first q h) (second q g))
 
     each : (q : ControlState) → P q ⊎ Q q → Has (a.names ++ b.names) q
     each q (inl h) = let at = a.each q h in in_front a.names b.names q (member_at a.names at.0 q at.1)
@@ -74,12 +82,16 @@ both_count P Q n k far a b =
     only q h = elim (of_two a.names b.names q h) [ inl x ↦ inl (first q x) | inr y ↦ inr (second q y) ]
 
 -- a numbering is as long as the states are many
-pub numbering_count : (m : Quadruples) (n : ℕ) → IsCount (Occurs m) n → (names : List ControlState) → IsNumbering m names → n ≡ length names
+pub numbering_count : (m : Quadruples) (n : ℕ) → IsCount (Occurs m) n → (names : List ControlState)
+    → IsNumbering m names → n ≡ length names
 numbering_count m n c names numbering =
     sym c.counted
-    ∙ same_length c.names names (apart_places c.names c.once) (apart_places names (λ i j x e d. one_place by_key keys_ordered names numbering.rising_keys i j x e d))
-    (λ x h. let at = place_of c.names x h in let there = numbering.each x (c.only at.0 x at.1) in member_at names there.0 x there.1)
-    (λ x h. let at = place_of names x h in let there = c.each x (numbering.only at.0 x at.1) in member_at c.names there.0 x there.1)
+    ∙ same_length c.names names (apart_places c.names c.once) (apart_places names
+    (λ i j x e d. one_place by_key keys_ordered names numbering.rising_keys i j x e d))
+    (λ x h. let at = place_of c.names x h in let there = numbering.each x (c.only at.0 x at.1) in member_at names
+    there.0 x there.1)
+    (λ x h. let at = place_of names x h in let there = c.each x (numbering.only at.0 x at.1) in member_at c.names
+    there.0 x there.1)
 
 -- ---- a state is of a kind that has been counted, or it isn't
 
@@ -115,7 +127,11 @@ decoded (Shifts n t) = refl
 decoded (Writes a t u) = refl
 
 states_same : (q r : ControlState) → (q ≡ r) ⊎ (q ≡ r → ⊥)
-states_same q r = elim (lists_same (code q) (code r)) [ inl e ↦ inl (sym (decoded q) ∙ ap decode e ∙ decoded r) | inr ne ↦ inr (λ e. ne (ap code e)) ]
+states_same q r = elim (lists_same (code q) (code r)) [
+  | inl e ↦ inl (sym (decoded q) ∙ ap decode e ∙ decoded r)
+  | inr ne
+      ↦ inr (λ e. ne (ap code e))
+]
 
 among : (q : ControlState) (l : List ControlState) → Has l q ⊎ (Has l q → ⊥)
 among q [] = inr (λ h. h)

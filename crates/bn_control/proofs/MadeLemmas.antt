@@ -1,5 +1,6 @@
 -- The parts of a control make it.
-use Rattle.std.proofs.Common.{◌≡◌, slice_get, ℕ, zero, suc, ◌<◌, List, [], ◌∷◌, All, length, map, Option, Some, None, refl, sym, ap, subst, ◌∙◌, arith}
+use Rattle.std.proofs.Common.{◌≡◌, slice_get, ℕ, zero, suc, ◌<◌, List, [], ◌∷◌, All, length, map, Option, Some, None}
+use Rattle.std.proofs.Common.{refl, sym, ap, subst, ◌∙◌, arith}
 use Rattle.std.proofs.lemmas.List.{length-map}
 use Rattle.std.proofs.lemmas.Option.{slice_get_within}
 use Rattle.bn_quad.specs.Quadruples.{Quadruples}
@@ -12,8 +13,10 @@ use Rattle.bn_control.specs.Controlled.{Controlled, IsControlOf, IsWithinLimits,
 use Rattle.bn_control.specs.Made.{IsDraft, AreFirsts, AreAwaited}
 use Rattle.bn_control.proofs.SearchLemmas.{named_at, kept_at}
 
-module _ (m : Quadruples) (limits : IsWithinLimits m) (d : Draft) (draft : IsDraft m d) (rsm : Machine) (table : IsControlTable m (map name_of d.states.items) (machine_table rsm))
-    (fs : List (Option (ℕ × ℕ))) (firsts : AreFirsts m d.states.items m.states fs) (os : List (Option (ℕ × ℕ))) (awaited : AreAwaited m d.states.items os) (tapes : All IsTapeAwaited os) where
+module _ (m : Quadruples) (limits : IsWithinLimits m) (d : Draft) (draft : IsDraft m d) (rsm : Machine)
+    (table : IsControlTable m (map name_of d.states.items) (machine_table rsm))
+    (fs : List (Option (ℕ × ℕ))) (firsts : AreFirsts m d.states.items m.states fs) (os : List (Option (ℕ × ℕ)))
+    (awaited : AreAwaited m d.states.items os) (tapes : All IsTapeAwaited os) where
   pub parts_kept : IsKept rsm d.symbols fs os
   parts_kept =
       let few = limits.states in
@@ -26,7 +29,8 @@ module _ (m : Quadruples) (limits : IsWithinLimits m) (d : Draft) (draft : IsDra
         awaited_tapes = tapes;
       }
 
-  forth : (n a t : ℕ) → slice_get os n ≡ Some (Some (a, t)) → (q : ControlState) × (slice_get (map name_of d.states.items) n ≡ Some q) × IsAwaiting m q a t
+  forth : (n a t : ℕ) → slice_get os n ≡ Some (Some (a, t)) → (q : ControlState)
+      × (slice_get (map name_of d.states.items) n ≡ Some q) × IsAwaiting m q a t
   forth n a t e =
       let low = slice_get_within os n (Some (a, t)) e in
       let count = awaited.counted in
@@ -39,7 +43,8 @@ module _ (m : Quadruples) (limits : IsWithinLimits m) (d : Draft) (draft : IsDra
       first_of (x ∷ l) zero low = (x, refl)
       first_of (x ∷ l) (suc n) low = first_of l n (omega arith)
 
-  back : (n a t : ℕ) (q : ControlState) → slice_get (map name_of d.states.items) n ≡ Some q → IsAwaiting m q a t → slice_get os n ≡ Some (Some (a, t))
+  back : (n a t : ℕ) (q : ControlState) → slice_get (map name_of d.states.items) n ≡ Some q → IsAwaiting m q a t
+      → slice_get os n ≡ Some (Some (a, t))
   back n a t q e h =
       let x = kept_at d.states.items n q e in
       let low = slice_get_within d.states.items n x.0 x.1 in
@@ -51,11 +56,13 @@ module _ (m : Quadruples) (limits : IsWithinLimits m) (d : Draft) (draft : IsDra
       there (x ∷ l) zero low = (x, refl)
       there (x ∷ l) (suc n) low = there l n (omega arith)
 
-      by : (o : Option (Option (ℕ × ℕ))) → slice_get os n ≡ o → (x : State) → slice_get d.states.items n ≡ Some x → IsAwaiting m (name_of x) a t → n < length os → slice_get os n ≡ Some (Some (a, t))
+      by : (o : Option (Option (ℕ × ℕ))) → slice_get os n ≡ o → (x : State) → slice_get d.states.items n ≡ Some x
+          → IsAwaiting m (name_of x) a t → n < length os → slice_get os n ≡ Some (Some (a, t))
       by (Some p) f x g h low = f ∙ ap (λ v. Some v) (((awaited.each n x p g f).tells a t).1 h)
       by None f x g h low = absurd (let some = there os n low in let e = sym f ∙ some.1 in cc)
 
-  pub parts_make : (v : Controlled) → v ≡ record { machine = rsm; symbols = d.symbols; firsts = fs; awaited = os } → (names : List ControlState) × IsControlOf m names v
+  pub parts_make : (v : Controlled) → v ≡ record { machine = rsm; symbols = d.symbols; firsts = fs; awaited = os }
+      → (names : List ControlState) × IsControlOf m names v
   parts_make v is = (
     map name_of d.states.items,
     subst (IsControlOf m (map name_of d.states.items)) (sym is) (record {

@@ -3,7 +3,8 @@ use Rattle.std.specs.Prelude.{ℕ, List, [], ◌∷◌, ◌++◌}
 use Rattle.bn_machine.specs.declared.quint.Side.{Side}
 use Rattle.bn_quad.specs.Quadruples.{Rule}
 use Rattle.bn_network.specs.declared.cell_line.CellLine.TheVariants.{Answer, DoneWrite}
-use Rattle.bn_network.specs.Controls.{ControlState, ControlLine, ControlMove, Tape, reads_of, shifts_of, writes_of, to_read, to_shift, to_write, done_line}
+use Rattle.bn_network.specs.Controls.{ControlState, ControlLine, ControlMove, Tape, reads_of, shifts_of, writes_of}
+use Rattle.bn_network.specs.Controls.{to_read, to_shift, to_write, done_line}
 use Rattle.bn_control.specs.declared.command.Command.{Command}
 use Rattle.bn_control.specs.declared.named.NamedMove.{NamedMove}
 use Rattle.bn_control.specs.States.{name_of}

@@ -13,7 +13,8 @@ module _ (m : Quadruples) (ss : List State) where
   pub none_numbered : (vs : List Move) → vs ≡ [] → AreNumbered m ss [] vs
   none_numbered vs is = subst (AreNumbered m ss []) (sym is) (record { only = λ v h. absurd h; each = λ x h. absurd h })
 
-  pub one_numbered : (xs : List NamedMove) (vs : List Move) (x : NamedMove) (v : Move) → AreNumbered m ss xs vs → IsNumbered m ss x v → AreNumbered m ss (xs ++ x ∷ []) (vs ++ v ∷ [])
+  pub one_numbered : (xs : List NamedMove) (vs : List Move) (x : NamedMove) (v : Move) → AreNumbered m ss xs vs
+      → IsNumbered m ss x v → AreNumbered m ss (xs ++ x ∷ []) (vs ++ v ∷ [])
   one_numbered xs vs x v far here = record { only = only; each = each }
     where
       only : (w : Move) → Has (vs ++ v ∷ []) w → (y : NamedMove) × Has (xs ++ x ∷ []) y × IsNumbered m ss y w
@@ -36,7 +37,10 @@ module _ (m : Quadruples) (ss : List State) where
           last (inl e) = (v, behind vs (v ∷ []) v (inl refl), subst (λ z. IsNumbered m ss z v) (sym e) here)
           last (inr h) = absurd h
 
-  pub next_numbered : (xs : List NamedMove) (k : ℕ) (d : NamedMove) (vs ws : List Move) (v : Move) → k < length xs → ws ≡ vs ++ v ∷ [] → AreNumbered m ss (take k xs) vs → IsNumbered m ss (get_or xs k d) v → AreNumbered m ss (take (k + 1) xs) ws
+  pub next_numbered : (xs : List NamedMove) (k : ℕ) (d : NamedMove) (vs ws : List Move) (v : Move) → k < length xs
+      → ws ≡ vs ++ v ∷ [] → AreNumbered m ss (take k xs) vs → IsNumbered m ss (get_or xs k d) v
+      → AreNumbered m ss (take (k + 1) xs) ws
   next_numbered xs k d vs ws v low is far here =
       let more = take_more xs k d low in
-      subst (λ l. AreNumbered m ss l ws) (sym more) (subst (AreNumbered m ss (take k xs ++ get_or xs k d ∷ [])) (sym is) (one_numbered (take k xs) vs (get_or xs k d) v far here))
+      subst (λ l. AreNumbered m ss l ws) (sym more) (subst (AreNumbered m ss (take k xs ++ get_or xs k d ∷ [])) (sym is)
+      (one_numbered (take k xs) vs (get_or xs k d) v far here))

@@ -1,5 +1,6 @@
 -- The quadruples of a machine as the program keeps them, one by one, and their commands.
-use Rattle.std.proofs.Common.{◌≡◌, get_or, ℕ, suc, ◌+◌, ◌<◌, ◌≤◌, List, [], ◌∷◌, ◌++◌, length, map, Option, Some, None, refl, sym, ap, subst, ◌∙◌, arith, length-append}
+use Rattle.std.proofs.Common.{◌≡◌, get_or, ℕ, suc, ◌+◌, ◌<◌, ◌≤◌, List, [], ◌∷◌, ◌++◌, length, map, Option, Some, None}
+use Rattle.std.proofs.Common.{refl, sym, ap, subst, ◌∙◌, arith, length-append}
 use Rattle.std.proofs.lemmas.List.{length-map, get_or-map}
 use Rattle.std.proofs.lemmas.Option.{slice_get-get_or}
 use Rattle.bn_lists.specs.Lists.{nth}
@@ -16,7 +17,8 @@ use Rattle.bn_network.proofs.UniformLemmas.{silent}
 use Rattle.bn_control.specs.declared.command.Command.{Command}
 use Rattle.bn_control.specs.declared.state.Symbols.{Symbols}
 use Rattle.bn_control.specs.States.{IsProper, symbols_of}
-use Rattle.bn_control.specs.Commands.{sending_of, commands_by, read_command, read_commands, shift_command, shift_commands, write_command, write_commands, written}
+use Rattle.bn_control.specs.Commands.{sending_of, commands_by, read_command, read_commands, shift_command}
+use Rattle.bn_control.specs.Commands.{shift_commands, write_command, write_commands, written}
 use Rattle.bn_control.specs.Entries.{IsFirstSent}
 use Rattle.bn_control.proofs.NamesLemmas.{NamedCommand, command_of, read_names, shift_names, write_names}
 use Rattle.bn_control.proofs.CommandLemmas.{commands_are}
@@ -30,7 +32,8 @@ pub record IsRuleAt (m : Quadruples) (i : ℕ) (q : Quad) : Type 0 where
 no_rule : Rule ℕ
 no_rule = record { from = 0; one = Move way.Stay; two = Move way.Stay; three = Move way.Stay; to = 0 }
 
-pub rule_at : (m : Quadruples) (quads : List Quad) (i : ℕ) (d : Quad) → quads ≡ map quad_of m.rules → i < length quads → IsRuleAt m i (get_or quads i d)
+pub rule_at : (m : Quadruples) (quads : List Quad) (i : ℕ) (d : Quad) → quads ≡ map quad_of m.rules → i < length quads
+    → IsRuleAt m i (get_or quads i d)
 rule_at m quads i d is low =
     let count : length quads ≡ length m.rules = ap length is ∙ length-map m.rules quad_of in
     let few : i < length m.rules = omega arith in
@@ -74,13 +77,19 @@ commands_proper n r =
     let wc = symbols_of (written (act_of r.two)) (written (act_of r.one)) in
     let wb = symbols_of (written (act_of r.one)) None in
     joined (read_commands r) (shift_commands n r ++ write_commands r)
-    (joined (read_command r.from sa 1 (read_of r.one)) (read_command r.from sb 2 (read_of r.two) ++ read_command r.from sc 3 (read_of r.three)) (read_proper r.from sa 1 (read_of r.one))
-    (joined (read_command r.from sb 2 (read_of r.two)) (read_command r.from sc 3 (read_of r.three)) (read_proper r.from sb 2 (read_of r.two)) (read_proper r.from sc 3 (read_of r.three))))
+    (joined (read_command r.from sa 1 (read_of r.one)) (read_command r.from sb 2 (read_of r.two)
+    ++ read_command r.from sc 3 (read_of r.three)) (read_proper r.from sa 1 (read_of r.one))
+    (joined (read_command r.from sb 2 (read_of r.two)) (read_command r.from sc 3 (read_of r.three))
+    (read_proper r.from sb 2 (read_of r.two)) (read_proper r.from sc 3 (read_of r.three))))
     (joined (shift_commands n r) (write_commands r)
-    (joined (shift_command n 1 (act_of r.one)) (shift_command n 2 (act_of r.two) ++ shift_command n 3 (act_of r.three)) (shift_proper n 1 (act_of r.one))
-    (joined (shift_command n 2 (act_of r.two)) (shift_command n 3 (act_of r.three)) (shift_proper n 2 (act_of r.two)) (shift_proper n 3 (act_of r.three))))
-    (joined (write_command r.to wc 3 (act_of r.three)) (write_command r.to wb 2 (act_of r.two) ++ write_command r.to sa 1 (act_of r.one)) (write_proper r.to wc 3 (act_of r.three) (omega arith))
-    (joined (write_command r.to wb 2 (act_of r.two)) (write_command r.to sa 1 (act_of r.one)) (write_proper r.to wb 2 (act_of r.two) (omega arith)) (write_proper r.to sa 1 (act_of r.one) (omega arith)))))
+    (joined (shift_command n 1 (act_of r.one)) (shift_command n 2 (act_of r.two) ++ shift_command n 3 (act_of r.three))
+    (shift_proper n 1 (act_of r.one))
+    (joined (shift_command n 2 (act_of r.two)) (shift_command n 3 (act_of r.three)) (shift_proper n 2 (act_of r.two))
+    (shift_proper n 3 (act_of r.three))))
+    (joined (write_command r.to wc 3 (act_of r.three)) (write_command r.to wb 2 (act_of r.two)
+    ++ write_command r.to sa 1 (act_of r.one)) (write_proper r.to wc 3 (act_of r.three) (omega arith))
+    (joined (write_command r.to wb 2 (act_of r.two)) (write_command r.to sa 1 (act_of r.one))
+    (write_proper r.to wb 2 (act_of r.two) (omega arith)) (write_proper r.to sa 1 (act_of r.one) (omega arith)))))
 
 -- ---- how many commands there are
 
@@ -108,10 +117,19 @@ commands_few n r =
     let sc = symbols_of (read_of r.one) (read_of r.two) in
     let wc = symbols_of (written (act_of r.two)) (written (act_of r.one)) in
     let wb = symbols_of (written (act_of r.one)) None in
-    let reads = three_few (read_command r.from sa 1 (read_of r.one)) (read_command r.from sb 2 (read_of r.two)) (read_command r.from sc 3 (read_of r.three)) (read_few r.from sa 1 (read_of r.one)) (read_few r.from sb 2 (read_of r.two)) (read_few r.from sc 3 (read_of r.three)) in
-    let shifts = three_few (shift_command n 1 (act_of r.one)) (shift_command n 2 (act_of r.two)) (shift_command n 3 (act_of r.three)) (shift_few n 1 (act_of r.one)) (shift_few n 2 (act_of r.two)) (shift_few n 3 (act_of r.three)) in
-    let writes = three_few (write_command r.to wc 3 (act_of r.three)) (write_command r.to wb 2 (act_of r.two)) (write_command r.to sa 1 (act_of r.one)) (write_few r.to wc 3 (act_of r.three)) (write_few r.to wb 2 (act_of r.two)) (write_few r.to sa 1 (act_of r.one)) in
-    sum (length (read_commands r)) (length (shift_commands n r)) (length (write_commands r)) (length (commands_by n r)) (length (shift_commands n r ++ write_commands r)) reads shifts writes (length-append (read_commands r) (shift_commands n r ++ write_commands r)) (length-append (shift_commands n r) (write_commands r))
+    let reads = three_few (read_command r.from sa 1 (read_of r.one)) (read_command r.from sb 2 (read_of r.two))
+    (read_command r.from sc 3 (read_of r.three)) (read_few r.from sa 1 (read_of r.one))
+    (read_few r.from sb 2 (read_of r.two)) (read_few r.from sc 3 (read_of r.three)) in
+    let shifts = three_few (shift_command n 1 (act_of r.one)) (shift_command n 2 (act_of r.two))
+    (shift_command n 3 (act_of r.three)) (shift_few n 1 (act_of r.one)) (shift_few n 2 (act_of r.two))
+    (shift_few n 3 (act_of r.three)) in
+    let writes = three_few (write_command r.to wc 3 (act_of r.three)) (write_command r.to wb 2 (act_of r.two))
+    (write_command r.to sa 1 (act_of r.one)) (write_few r.to wc 3 (act_of r.three))
+    (write_few r.to wb 2 (act_of r.two)) (write_few r.to sa 1 (act_of r.one)) in
+    sum (length (read_commands r)) (length (shift_commands n r)) (length (write_commands r)) (length (commands_by n r))
+    (length (shift_commands n r ++ write_commands r)) reads shifts writes
+    (length-append (read_commands r) (shift_commands n r ++ write_commands r))
+    (length-append (shift_commands n r) (write_commands r))
   where
     sum : (a b c all more : ℕ) → a ≤ 3 → b ≤ 3 → c ≤ 3 → all ≡ a + more → more ≡ b + c → all ≤ 9
     sum a b c all more x y z e f = omega arith
@@ -126,17 +144,28 @@ module _ (m : Quadruples) (u : IsUniformMachine m) (n : ℕ) (r : Rule ℕ) (her
     pub sent : IsFirstSent m r.from first.sending
 
   first_name : (rs : List (ℕ × ℕ)) (ss : List (ℕ × Side)) → reads_of r ≡ rs → shifts_of r ≡ ss
-      → (c : NamedCommand) × ((cs : List NamedCommand) × (read_names r.from [] rs ++ (shift_names n ss ++ write_names r.to (writes_of r)) ≡ c ∷ cs) × IsFirstOf n r rs ss c.0)
+      → (c : NamedCommand) × ((cs : List NamedCommand) × (read_names r.from [] rs
+      ++ (shift_names n ss ++ write_names r.to (writes_of r)) ≡ c ∷ cs) × IsFirstOf n r rs ss c.0)
   first_name [] [] er es = absurd (u.uniform.active.none n r here (silent r er es))
   first_name [] (p ∷ ss) er es = (_, (_, refl, refl))
   first_name (p ∷ rs) ss er es = (_, (_, refl, refl))
 
-  with_first : (cs : List Command) → (c : NamedCommand) (ns : List NamedCommand) → map command_of cs ≡ c ∷ ns → AreProper cs → IsFirstOf n r (reads_of r) (shifts_of r) c.0 → HasFirst cs
+  with_first : (cs : List Command) → (c : NamedCommand) (ns : List NamedCommand) → map command_of cs ≡ c ∷ ns
+      → AreProper cs → IsFirstOf n r (reads_of r) (shifts_of r) c.0 → HasFirst cs
   with_first [] c ns e proper first = absurd (cc)
   with_first (d ∷ ds) c ns e proper first =
       let same : command_of d ≡ c = cc in
       let sent : sending_of d.sending ≡ c.0 = ap (λ (x : NamedCommand). x.0) same in
-      record { first = d; rest = ds; begins = refl; sent = record { entry = leaves n r here refl (subst (IsFirstOf n r (reads_of r) (shifts_of r)) (sym sent) first); proper = proper.0 } }
+      record {
+        first = d;
+        rest = ds;
+        begins = refl;
+        sent = record {
+          entry = leaves n r here refl (subst (IsFirstOf n r (reads_of r) (shifts_of r)) (sym sent) first);
+          proper = proper.0;
+        };
+      }
 
   pub has_first : HasFirst (commands_by n r)
-  has_first = let name = first_name (reads_of r) (shifts_of r) refl refl in with_first (commands_by n r) name.0 name.1.0 (commands_are n r ∙ name.1.1) (commands_proper n r) name.1.2
+  has_first = let name = first_name (reads_of r) (shifts_of r) refl refl in with_first (commands_by n r) name.0 name.1.0
+      (commands_are n r ∙ name.1.1) (commands_proper n r) name.1.2

@@ -1,5 +1,6 @@
 -- The moves of a control in numbers, in order and each once, make its table.
-use Rattle.std.proofs.Common.{◌≡◌, get_or, slice_get, ℕ, suc, ◌<◌, List, [], ◌∷◌, length, map, Some, refl, sym, ap, subst, ◌∙◌, arith, Contains}
+use Rattle.std.proofs.Common.{◌≡◌, get_or, slice_get, ℕ, suc, ◌<◌, List, [], ◌∷◌, length, map, Some, refl, sym, ap}
+use Rattle.std.proofs.Common.{subst, ◌∙◌, arith, Contains}
 use Rattle.std.specs.List.{Any}
 use Rattle.std.specs.List.Sorted.{IsStrictlySortedBy}
 use Rattle.std.specs.Ordering.{nat_cmp, ordering_then, MatchOrdering}
@@ -59,7 +60,8 @@ tied_moves v w e =
     λ i. record { state = one i; line = two i; next = three i; out = four i }
 
 -- moves that leave different pairs, by their places
-apart_by : (vs : List Move) → ((i j : ℕ) (v w : Move) → i < j → slice_get vs i ≡ Some v → slice_get vs j ≡ Some w → LeaveApart (rsm_move v) (rsm_move w)) → AreApart (map rsm_move vs)
+apart_by : (vs : List Move) → ((i j : ℕ) (v w : Move) → i < j → slice_get vs i ≡ Some v → slice_get vs j ≡ Some w
+    → LeaveApart (rsm_move v) (rsm_move w)) → AreApart (map rsm_move vs)
 apart_by [] far = tt
 apart_by (v ∷ vs) far = (heads, apart_by vs (λ i j x y low e d. far (suc i) (suc j) x y (omega arith) e d))
   where
@@ -69,9 +71,11 @@ apart_by (v ∷ vs) far = (heads, apart_by vs (λ i j x y low e d. far (suc i) (
         let at = place_of vs found.0 found.1 in
         subst (LeaveApart (rsm_move v)) found.2 (far 0 (suc at.0) v found.0 (omega arith) refl at.1)
 
-module _ (m : Quadruples) (u : IsUniformMachine m) (is : IsQuadMachine m) (xs : List NamedMove) (moves : AreMoves m xs) (ss : List State) (ordered : AreOrdered m ss)
+module _ (m : Quadruples) (u : IsUniformMachine m) (is : IsQuadMachine m) (xs : List NamedMove) (moves : AreMoves m xs)
+    (ss : List State) (ordered : AreOrdered m ss)
     (raw vs : List Move) (numbers : AreNumbered m ss xs raw)
-    (strict : IsStrictlySortedBy cmp_moves vs) (all : (v : Move) → Contains raw v → Any (λ w. cmp_moves v w ≡ Equal) vs) (only : (v : Move) → Contains vs v → Contains raw v) where
+    (strict : IsStrictlySortedBy cmp_moves vs) (all : (v : Move) → Contains raw v → Any (λ w. cmp_moves v w ≡ Equal) vs)
+    (only : (v : Move) → Contains vs v → Contains raw v) where
   abbrev names : List ControlState
   names = map name_of ss
 
@@ -99,7 +103,8 @@ module _ (m : Quadruples) (u : IsUniformMachine m) (is : IsQuadMachine m) (xs : 
   goes_by v h = (there.1.goes v.state v.line v.next v.out).1 (numbered_move v h)
 
   one_number : (i j : ℕ) (q r : ControlState) → slice_get names i ≡ Some q → slice_get names j ≡ Some r → q ≡ r → i ≡ j
-  one_number i j q r e d same = one_place by_key keys_ordered names ordered.numbering.rising_keys i j r (e ∙ ap (λ v. Some v) same) d
+  one_number i j q r e d same = one_place by_key keys_ordered names ordered.numbering.rising_keys i j r
+      (e ∙ ap (λ v. Some v) same) d
 
   -- each of them is kept
   kept_move : (n j r o : ℕ) → NumberedGoes m names n j r o → Has vs (record { state = n; line = j; next = r; out = o })
@@ -107,17 +112,21 @@ module _ (m : Quadruples) (u : IsUniformMachine m) (is : IsQuadMachine m) (xs : 
       let kept = moves.each g.state g.line g.move g.goes in
       let number = numbers.each kept.move kept.member in
       let v = number.0 in
-      let state : number.0.state ≡ n = one_number number.0.state n (name_of kept.move.state) g.state number.2.state g.from kept.state in
+      let state : number.0.state ≡ n = one_number number.0.state n (name_of kept.move.state) g.state number.2.state
+      g.from kept.state in
       let line : number.0.line ≡ j = number.2.line ∙ ap (in_number m) kept.line ∙ g.enters in
-      let next : number.0.next ≡ r = one_number number.0.next r (name_of kept.move.to.state) g.move.0 number.2.next g.to (ap (λ k. k.0) kept.to) in
+      let next : number.0.next ≡ r = one_number number.0.next r (name_of kept.move.to.state) g.move.0 number.2.next g.to
+      (ap (λ k. k.0) kept.to) in
       let out : number.0.out ≡ o = number.2.out ∙ ap (λ k. out_number m k.1) kept.to ∙ g.exits in
       let tie = all number.0 (contained raw number.0 number.1) in
       let here : slice_get vs tie.0 ≡ Some tie.1 = slice_get-get_or vs tie.0 tie.1 tie.2 ∙ ap (λ y. Some y) tie.3 in
       let same : tie.1 ≡ number.0 = sym (tied_moves number.0 tie.1 tie.4) in
-      let exact : number.0 ≡ record { state = n; line = j; next = r; out = o } = λ i. record { state = state i; line = line i; next = next i; out = out i } in
+      let exact : number.0 ≡ record { state = n; line = j; next = r; out = o } =
+      λ i. record { state = state i; line = line i; next = next i; out = out i } in
       subst (λ w. Has vs w) (same ∙ exact) (member_at vs tie.0 tie.1 here)
 
-  far : (i j : ℕ) (v w : Move) → i < j → slice_get vs i ≡ Some v → slice_get vs j ≡ Some w → LeaveApart (rsm_move v) (rsm_move w)
+  far : (i j : ℕ) (v w : Move) → i < j → slice_get vs i ≡ Some v → slice_get vs j ≡ Some w
+      → LeaveApart (rsm_move v) (rsm_move w)
   far i j v w low e d state line =
       let one = goes_by v (member_at vs i v e) in
       let two = goes_by w (member_at vs j w d) in
@@ -134,20 +143,26 @@ module _ (m : Quadruples) (u : IsUniformMachine m) (is : IsQuadMachine m) (xs : 
   are_moves : AreMovesOf there.0 (map rsm_move vs)
   are_moves = record {
     apart = apart_by vs far;
-    each = λ q i r o e. mapped rsm_move vs (record { state = q; line = i; next = r; out = o }) (kept_move q i r o ((there.1.goes q i r o).0 e));
-    only = λ w h. (let found = from_mapped rsm_move vs w h in subst (λ (x : RsmMove). there.0.go x.state x.line ≡ Some (x.next, x.out)) found.2 (goes_by found.0 found.1));
+    each = λ q i r o e. mapped rsm_move vs (record { state = q; line = i; next = r; out = o })
+        (kept_move q i r o ((there.1.goes q i r o).0 e));
+    only = λ w h. (let found = from_mapped rsm_move vs w h in subst
+        (λ (x : RsmMove). there.0.go x.state x.line ≡ Some (x.next, x.out)) found.2 (goes_by found.0 found.1));
   }
 
   -- the moves make a machine
-  pub control_sound : (n : ℕ) (k : ℕ) (ms : List RsmMove) → n ≡ length ss → k ≡ control_lines m → ms ≡ map rsm_move vs → AreSound n k ms
+  pub control_sound : (n : ℕ) (k : ℕ) (ms : List RsmMove) → n ≡ length ss → k ≡ control_lines m → ms ≡ map rsm_move vs
+      → AreSound n k ms
   control_sound n k ms states lines value =
       let count : there.0.states ≡ n = there.1.states ∙ length-map ss name_of ∙ sym states in
       let wide : there.0.inputs ≡ k = there.1.inputs ∙ sym lines in
-      let all_sound = moves_sound there.0 there.1.reversible (map rsm_move vs) (there.1.outputs ∙ sym there.1.inputs) are_moves in
-      subst (λ l. AreSound n k l) (sym value) (subst (λ j. AreSound n j (map rsm_move vs)) wide (subst (λ j. AreSound j there.0.inputs (map rsm_move vs)) count all_sound))
+      let all_sound = moves_sound there.0 there.1.reversible (map rsm_move vs) (there.1.outputs ∙ sym there.1.inputs)
+      are_moves in
+      subst (λ l. AreSound n k l) (sym value) (subst (λ j. AreSound n j (map rsm_move vs)) wide
+      (subst (λ j. AreSound j there.0.inputs (map rsm_move vs)) count all_sound))
 
   -- which has the control's table
-  pub control_table : (r : Machine) (n : ℕ) (k : ℕ) (ms : List RsmMove) → n ≡ length ss → k ≡ control_lines m → ms ≡ map rsm_move vs → IsMadeOf r n k ms → IsControlTable m names (machine_table r)
+  pub control_table : (r : Machine) (n : ℕ) (k : ℕ) (ms : List RsmMove) → n ≡ length ss → k ≡ control_lines m
+      → ms ≡ map rsm_move vs → IsMadeOf r n k ms → IsControlTable m names (machine_table r)
   control_table r n k ms states lines value made = record {
     states = made.states ∙ states ∙ sym (length-map ss name_of);
     inputs = made.lines ∙ lines;
@@ -160,4 +175,5 @@ module _ (m : Quadruples) (u : IsUniformMachine m) (is : IsQuadMachine m) (xs : 
   }
     where
       same : (q i : ℕ) → (machine_table r).go q i ≡ there.0.go q i
-      same q i = ap (λ l. go_by (map move_of l) q i) (made.moves ∙ value) ∙ moves_go there.0 there.1.reversible (map rsm_move vs) are_moves q i
+      same q i = ap (λ l. go_by (map move_of l) q i) (made.moves ∙ value)
+          ∙ moves_go there.0 there.1.reversible (map rsm_move vs) are_moves q i

@@ -2,7 +2,8 @@
 use Rattle.std.proofs.Common.{◌≡◌, get_or, slice_get, ℕ, suc, ◌-◌, List, length, Some, sym, subst, arith}
 use Rattle.bn_quad.specs.Quadruples.{Quadruples, IsQuadMachine}
 use Rattle.bn_network.specs.declared.cell_line.CellLine.{CellLine}
-use Rattle.bn_network.specs.declared.cell_line.CellLine.TheVariants.{Read, Write, ShiftRight, ShiftLeft, Answer, DoneWrite, DoneRight, DoneLeft}
+use Rattle.bn_network.specs.declared.cell_line.CellLine.TheVariants.{Read, Write, ShiftRight, ShiftLeft, Answer}
+use Rattle.bn_network.specs.declared.cell_line.CellLine.TheVariants.{DoneWrite, DoneRight, DoneLeft}
 use Rattle.bn_network.specs.Cells.{IsLineOf}
 use Rattle.bn_network.proofs.LineLemmas.{IsLine, outside, tape, IsReply, IsCommand, IsInLine, IsOutLine}
 use Rattle.bn_network.proofs.GoingLemmas.{sound}
@@ -34,14 +35,19 @@ command_line z ShiftLeft h = tt
 command_line z _ h = absurd h
 
 -- a line of a kind whose symbols are in range
-line_within : (zs : List ℕ) (IsKind : ℕ → CellLine → Type 0) → ((z : ℕ) (l : CellLine) → IsKind z l → IsLineOf z l) → length zs ≡ 3 → (x : Line) → IsLine zs IsKind (line_of x) → IsWithin zs x
+line_within : (zs : List ℕ) (IsKind : ℕ → CellLine → Type 0) → ((z : ℕ) (l : CellLine) → IsKind z l → IsLineOf z l)
+    → length zs ≡ 3 → (x : Line) → IsLine zs IsKind (line_of x) → IsWithin zs x
 line_within zs IsKind kinds three Outside h = tt
 line_within zs IsKind kinds three (Tape t l) (outside e) = absurd (cc)
 line_within zs IsKind kinds three (Tape t l) (tape j k few kind e) =
     let place : t ≡ suc j = cc in
     let same : l ≡ k = cc in
-    let at : t - 1 ≡ j = omega arith in
-    (omega arith, omega arith, subst (λ n. IsLineOf (get_or zs n 0) l) (sym at) (subst (IsLineOf (get_or zs j 0)) (sym same) (kinds (get_or zs j 0) k kind)))
+    let at : t - 1 ≡ j = omega arith in (
+      omega arith,
+      omega arith,
+      subst (λ n. IsLineOf (get_or zs n 0) l) (sym at)
+          (subst (IsLineOf (get_or zs j 0)) (sym same) (kinds (get_or zs j 0) k kind)),
+    )
 
 pub in_within : (m : Quadruples) → length m.symbols ≡ 3 → (x : Line) → IsInLine m (line_of x) → IsWithin m.symbols x
 in_within m three x h = line_within m.symbols IsReply reply_line three x h
@@ -50,7 +56,8 @@ pub out_within : (m : Quadruples) → length m.symbols ≡ 3 → (x : Line) → 
 out_within m three x h = line_within m.symbols IsCommand command_line three x h
 
 module _ (m : Quadruples) (is : IsQuadMachine m) (ss : List State) (ordered : AreOrdered m ss) where
-  pub move_numbers : (xs : List NamedMove) → AreMoves m xs → (n : ℕ) (x : NamedMove) → slice_get xs n ≡ Some x → HasNumbers ss m.symbols x
+  pub move_numbers : (xs : List NamedMove) → AreMoves m xs → (n : ℕ) (x : NamedMove) → slice_get xs n ≡ Some x
+      → HasNumbers ss m.symbols x
   move_numbers xs moves n x e =
       let going = moves.only x (member_at xs n x e) in
       let one = sound m is (name_of x.state) (line_of x.line) (sending_of x.to) going.goes in

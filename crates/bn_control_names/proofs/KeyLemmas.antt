@@ -53,7 +53,8 @@ same_order End (Writes b v w) h k = refl
 same_order (Reads a n s) Begin h k = refl
 same_order (Reads a n s) End h k = refl
 same_order (Reads a n s) (Reads b m v) h k =
-    ap (ordering_then (nat_cmp a b)) ((λ i. ordering_then (nat_cmp (h i) (k i)) (cmp_symbols s v)) ∙ ap (ordering_then (nat_cmp (length (listed s)) (length (listed v)))) (same_symbols s v))
+    ap (ordering_then (nat_cmp a b)) ((λ i. ordering_then (nat_cmp (h i) (k i)) (cmp_symbols s v))
+    ∙ ap (ordering_then (nat_cmp (length (listed s)) (length (listed v)))) (same_symbols s v))
 same_order (Reads a n s) (Shifts j v) h k = refl
 same_order (Reads a n s) (Writes b v w) h k = refl
 same_order (Shifts n t) Begin h k = refl
@@ -66,4 +67,5 @@ same_order (Writes a t u) End h k = refl
 same_order (Writes a t u) (Reads b m v) h k = refl
 same_order (Writes a t u) (Shifts j v) h k = refl
 same_order (Writes a t u) (Writes b v w) h k =
-    ap (ordering_then (nat_cmp a b)) ((λ i. ordering_then (falling t.0 v.0 h k i) (cmp_symbols u w)) ∙ ap (ordering_then (nat_cmp (3 - t.0) (3 - v.0))) (same_symbols u w))
+    ap (ordering_then (nat_cmp a b)) ((λ i. ordering_then (falling t.0 v.0 h k i) (cmp_symbols u w))
+    ∙ ap (ordering_then (nat_cmp (3 - t.0) (3 - v.0))) (same_symbols u w))

@@ -1,5 +1,6 @@
 -- A list with one more element at the end, where that is new.
-use Rattle.std.proofs.Common.{◌≡◌, ◌<◌, ◌≤◌, ◌+◌, ◌∷◌, ◌++◌, ◌∙◌, ℕ, suc, zero, Bool, true, List, [], length, Some, refl, ap, inl, inr, arith, if◌then◌else◌, slice_get, get_or, length-append}
+use Rattle.std.proofs.Common.{◌≡◌, ◌<◌, ◌≤◌, ◌+◌, ◌∷◌, ◌++◌, ◌∙◌, ℕ, suc, zero, Bool, true, List, [], length, Some}
+use Rattle.std.proofs.Common.{refl, ap, inl, inr, arith, if◌then◌else◌, slice_get, get_or, length-append}
 use Rattle.std.specs.Bool.{Decides}
 use Rattle.std.specs.List.{list_all, list_any}
 use Rattle.std.proofs.lemmas.Bool.{cases_Bool}
@@ -10,7 +11,8 @@ use Rattle.bn_csv.specs.NumberingLaws.{AreApart}
 use Rattle.bn_csv.proofs.NumberingLemmas.{number_stays, one_number, some_number}
 
 -- a look-up in front of what was added
-pub front : {X : Type 0} (xs more : List X) (other : X) (n : ℕ) → n < length xs → get_or (xs ++ more) n other ≡ get_or xs n other
+pub front : {X : Type 0} (xs more : List X) (other : X) (n : ℕ) → n < length xs
+    → get_or (xs ++ more) n other ≡ get_or xs n other
 front [] more other n h = absurd (omega arith)
 front (x ∷ xs) more other zero h = refl
 front (x ∷ xs) more other (suc n) h = front xs more other n (omega arith)
@@ -28,7 +30,8 @@ module _ {X : Type 0} (same : X → X → Bool) where
   ]
 
   -- a number stays
-  pub new_stays : (xs : List X) (later x : X) (n : ℕ) → slice_get xs n ≡ Some x → slice_get (with_new xs later) n ≡ Some x
+  pub new_stays : (xs : List X) (later x : X) (n : ℕ) → slice_get xs n ≡ Some x
+      → slice_get (with_new xs later) n ≡ Some x
   new_stays xs later x n at = let (more, grown) = new_grows xs later in rw grown (number_stays xs more n x at)
 
   -- there is one more at most
@@ -39,7 +42,8 @@ module _ {X : Type 0} (same : X → X → Bool) where
   ]
 
   -- a test that all pass and the new one too
-  pub new_all : (test : X → Bool) (xs : List X) (x : X) → list_all test xs ≡ true → test x ≡ true → list_all test (with_new xs x) ≡ true
+  pub new_all : (test : X → Bool) (xs : List X) (x : X) → list_all test xs ≡ true → test x ≡ true
+      → list_all test (with_new xs x) ≡ true
   new_all test xs x all here = elim (cases_Bool (list_any (same x) xs)) [
     | inl hit ↦ rw hit all
     | inr miss ↦ rw (miss, list_all-append test xs (x ∷ []), all, here) refl
@@ -57,7 +61,8 @@ module _ {X : Type 0} (same : X → X → Bool) (decides : (a b : X) → Decides
   pub last_number : (xs : List X) (x : X) → (n : ℕ) × (slice_get (with_new same xs x) n ≡ Some x)
   last_number xs x = some_number same decides x (with_new same xs x) (new_there xs x)
 
-  pub first_number : (xs : List X) (x later : X) → (n : ℕ) × (slice_get (with_new same (with_new same xs x) later) n ≡ Some x)
+  pub first_number : (xs : List X) (x later : X) → (n : ℕ) × (slice_get (with_new same (with_new same xs x) later) n
+      ≡ Some x)
   first_number xs x later =
       let (n, at) = last_number xs x in
       (n, new_stays same (with_new same xs x) later x n at)

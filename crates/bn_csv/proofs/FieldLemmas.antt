@@ -7,7 +7,8 @@ abbrev pub StandAt : {X : Type 0} → List X → ℕ → List X → Type 0
 StandAt xs place [] = ⊤
 StandAt xs place (y ∷ ys) = (slice_get xs place ≡ Some y) × StandAt xs (suc place) ys
 
-behind : {X : Type 0} (x : X) (xs : List X) (place : ℕ) (ys : List X) → StandAt (x ∷ xs) (suc place) ys → StandAt xs place ys
+behind : {X : Type 0} (x : X) (xs : List X) (place : ℕ) (ys : List X) → StandAt (x ∷ xs) (suc place) ys
+    → StandAt xs place ys
 behind x xs place [] h = tt
 behind x xs place (y ∷ ys) h = (h.0, behind x xs (suc place) ys h.1)
 

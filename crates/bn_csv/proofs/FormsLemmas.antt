@@ -8,7 +8,8 @@ use Rattle.bn_csv.specs.Lines.{is_plain, is_plain_byte}
 use Rattle.bn_csv.proofs.NumberingLemmas.{both_true}
 
 -- an element of a list whose elements all pass
-pub all-at : {X : Type 0} (test : X → Bool) (xs : List X) (n : ℕ) (x : X) → list_all test xs ≡ true → slice_get xs n ≡ Some x → test x ≡ true
+pub all-at : {X : Type 0} (test : X → Bool) (xs : List X) (n : ℕ) (x : X) → list_all test xs ≡ true
+    → slice_get xs n ≡ Some x → test x ≡ true
 all-at test [] n x h e = cc e
 all-at test (y ∷ ys) zero x h e = let at : y ≡ x = cc in rw (← at) (both_true (test y) (list_all test ys) h).0
 all-at test (y ∷ ys) (suc n) x h e = all-at test ys n x (both_true (test y) (list_all test ys) h).1 e
@@ -21,11 +22,13 @@ plain-symbol-byte b e = grind (arith, nat_tests)
 
 all-plain-name : (name : List ℕ) → list_all is_name_byte name ≡ true → list_all is_plain_byte name ≡ true
 all-plain-name [] e = e
-all-plain-name (b ∷ rest) e = let (here, later) = both_true (is_name_byte b) (list_all is_name_byte rest) e in rw (plain-name-byte b here) (all-plain-name rest later)
+all-plain-name (b ∷ rest) e = let (here, later) = both_true (is_name_byte b) (list_all is_name_byte rest) e in rw
+    (plain-name-byte b here) (all-plain-name rest later)
 
 all-plain-symbol : (symbol : List ℕ) → list_all is_symbol_byte symbol ≡ true → list_all is_plain_byte symbol ≡ true
 all-plain-symbol [] e = e
-all-plain-symbol (b ∷ rest) e = let (here, later) = both_true (is_symbol_byte b) (list_all is_symbol_byte rest) e in rw (plain-symbol-byte b here) (all-plain-symbol rest later)
+all-plain-symbol (b ∷ rest) e = let (here, later) = both_true (is_symbol_byte b) (list_all is_symbol_byte rest) e in rw
+    (plain-symbol-byte b here) (all-plain-symbol rest later)
 
 pub plain-state-name : (name : List ℕ) → is_state_name name ≡ true → is_plain name ≡ true
 plain-state-name [] e = absurd (false≢true e)

@@ -1,5 +1,6 @@
 -- The lines of plain entries are what csv writes of them, and are read as these entries again.
-use Rattle.std.proofs.Common.{◌≡◌, ◌<◌, ◌≤◌, ◌+◌, ◌∷◌, ◌++◌, ◌∙◌, ◌==◌, ℕ, suc, zero, Bool, true, false, List, [], length, map, take, Some, refl, sym, ap, arith, append_assoc, length-append, get_or, All}
+use Rattle.std.proofs.Common.{◌≡◌, ◌<◌, ◌≤◌, ◌+◌, ◌∷◌, ◌++◌, ◌∙◌, ◌==◌, ℕ, suc, zero, Bool, true, false, List, []}
+use Rattle.std.proofs.Common.{length, map, take, Some, refl, sym, ap, arith, append_assoc, length-append, get_or, All}
 use Rattle.std.specs.List.{join_with_byte, list_all, list_any}
 use Rattle.std.proofs.lemmas.Bool.{false≢true}
 use Rattle.std.proofs.lemmas.Bool.Decides.{nat_tests}
@@ -23,7 +24,8 @@ setup flexible = with_flexible default_writer flexible
 plain-byte : (flexible : Bool) (b : ℕ) → is_plain_byte b ≡ true → needs_byte (setup flexible) b ≡ false
 plain-byte flexible b e = grind (arith, nat_tests)
 
-plain-bytes : (flexible : Bool) (field : List ℕ) → list_all is_plain_byte field ≡ true → list_any (needs_byte (setup flexible)) field ≡ false
+plain-bytes : (flexible : Bool) (field : List ℕ) → list_all is_plain_byte field ≡ true
+    → list_any (needs_byte (setup flexible)) field ≡ false
 plain-bytes flexible [] e = refl
 plain-bytes flexible (b ∷ rest) e =
     let (head, tail) = both_true (is_plain_byte b) (list_all is_plain_byte rest) e in
@@ -33,7 +35,8 @@ plain-text : (flexible : Bool) (field : List ℕ) → is_plain field ≡ true �
 plain-text flexible [] e = absurd (false≢true e)
 plain-text flexible (b ∷ rest) e = rw (plain-bytes flexible (b ∷ rest) e) refl
 
-plain-body : (flexible : Bool) (field : List ℕ) (rest : List (List ℕ)) → is_plain field ≡ true → list_all is_plain rest ≡ true
+plain-body : (flexible : Bool) (field : List ℕ) (rest : List (List ℕ)) → is_plain field ≡ true
+    → list_all is_plain rest ≡ true
     → field_text (setup flexible) field ++ fields_text (setup flexible) rest ≡ join_with_byte 44 (field ∷ rest)
 unfolding fields_text
 plain-body flexible field [] e h = append-nil _ ∙ plain-text flexible field e
@@ -46,13 +49,15 @@ not-empty : (field : List ℕ) → is_plain field ≡ true → (length field == 
 not-empty [] e = cc e
 not-empty (b ∷ rest) e = grind (arith, nat_tests)
 
-shows : (flexible : Bool) (field : List ℕ) (rest : List (List ℕ)) → is_plain field ≡ true → is_blank (setup flexible) (field ∷ rest) ≡ false
+shows : (flexible : Bool) (field : List ℕ) (rest : List (List ℕ)) → is_plain field ≡ true
+    → is_blank (setup flexible) (field ∷ rest) ≡ false
 unfolding is_blank
 shows flexible field [] e = ap (λ (t : List ℕ). length t == 0) (plain-text flexible field e) ∙ not-empty field e
 shows flexible field (next ∷ rest) e = refl
 
 -- csv writes a plain entry as its line
-pub row_text-plain : (flexible : Bool) (fields : List (List ℕ)) → is_plain_entry fields ≡ true → row_text (setup flexible) fields ≡ line_of fields
+pub row_text-plain : (flexible : Bool) (fields : List (List ℕ)) → is_plain_entry fields ≡ true
+    → row_text (setup flexible) fields ≡ line_of fields
 unfolding line_of
 row_text-plain flexible [] e = cc e
 row_text-plain flexible (field ∷ rest) e =
@@ -71,7 +76,8 @@ strip-low (a ∷ b ∷ []) h = refl
 strip-low (a ∷ b ∷ c ∷ rest) h =
     let low : (a == 0xEF) ≡ false = grind (arith, nat_tests) in rw low refl
 
-line-low : (fields : List (List ℕ)) (tail : List ℕ) → is_plain_entry fields ≡ true → first_of (line_of fields ++ tail) < 128
+line-low : (fields : List (List ℕ)) (tail : List ℕ) → is_plain_entry fields ≡ true
+    → first_of (line_of fields ++ tail) < 128
 unfolding line_of
 line-low [] tail e = absurd (false≢true e)
 line-low ([] ∷ rest) tail e = absurd (false≢true e)
@@ -82,7 +88,8 @@ line-read : (fields : List (List ℕ)) (tail : List ℕ) → is_plain_entry fiel
     → next_record default_config st.StartRecord [] [] (line_of fields ++ tail) ≡ Some (fields, st.StartRecord, tail)
 line-read [] tail e = cc e
 line-read (field ∷ rest) tail e =
-    ap (λ (t : List ℕ). next_record default_config st.StartRecord [] [] (t ++ tail)) (sym (row_text-plain false (field ∷ rest) e))
+    ap (λ (t : List ℕ). next_record default_config st.StartRecord [] [] (t ++ tail))
+    (sym (row_text-plain false (field ∷ rest) e))
     ∙ read-write (field ∷ rest) tail
 
 line-length : (fields : List (List ℕ)) → 0 < length (line_of fields)
@@ -96,27 +103,38 @@ lines-read n [] h e = none_at_end default_config n
 lines-read zero (row ∷ rows) h e = absurd (omega arith)
 lines-read (suc n) (row ∷ rows) h e =
     let (head, tail) = both_true (is_plain_entry row) (list_all is_plain_entry rows) e in
-    let shorter : length (lines_of rows) < n = omega (arith, length-append (line_of row) (lines_of rows), line-length row, h) in
-    one_more default_config n st.StartRecord (line_of row ++ lines_of rows) (row, st.StartRecord, lines_of rows) (line-read row (lines_of rows) head)
+    let shorter : length (lines_of rows) < n = omega (
+      arith,
+      length-append (line_of row) (lines_of rows),
+      line-length
+          row,
+      h,
+    ) in
+    one_more default_config n st.StartRecord (line_of row ++ lines_of rows) (row, st.StartRecord, lines_of rows)
+    (line-read row (lines_of rows) head)
     ∙ ap (λ (t : List (List (List ℕ))). row ∷ t) (lines-read n rows shorter tail)
 
 lines-low : (rows : List (List (List ℕ))) → list_all is_plain_entry rows ≡ true → first_of (lines_of rows) < 128
 unfolding lines_of
 lines-low [] e = omega arith
-lines-low (row ∷ rows) e = line-low row (lines_of rows) (both_true (is_plain_entry row) (list_all is_plain_entry rows) e).0
+lines-low (row ∷ rows) e = line-low row (lines_of rows) (both_true (is_plain_entry row) (list_all is_plain_entry rows)
+    e).0
 
 -- reading the lines of plain entries gives these entries
-pub entries_of-lines_of : (rows : List (List (List ℕ))) → list_all is_plain_entry rows ≡ true → entries_of (lines_of rows) ≡ rows
+pub entries_of-lines_of : (rows : List (List (List ℕ))) → list_all is_plain_entry rows ≡ true
+    → entries_of (lines_of rows) ≡ rows
 unfolding entries_of
 entries_of-lines_of rows e =
     rw (strip-low (lines_of rows) (lines-low rows e)) (lines-read _ rows (omega arith) e)
 
 -- the lines of entries with one more
-pub lines_of-push : (rows : List (List (List ℕ))) (row : List (List ℕ)) → lines_of (rows ++ row ∷ []) ≡ lines_of rows ++ line_of row
+pub lines_of-push : (rows : List (List (List ℕ))) (row : List (List ℕ))
+    → lines_of (rows ++ row ∷ []) ≡ lines_of rows ++ line_of row
 unfolding lines_of
 lines_of-push [] row = append-nil (line_of row)
 lines_of-push (first ∷ rows) row =
-    ap (λ (t : List ℕ). line_of first ++ t) (lines_of-push rows row) ∙ sym (append_assoc (line_of first) (lines_of rows) (line_of row))
+    ap (λ (t : List ℕ). line_of first ++ t) (lines_of-push rows row)
+    ∙ sym (append_assoc (line_of first) (lines_of rows) (line_of row))
 
 -- the lines of no entries
 pub lines_of-nil : lines_of [] ≡ []
@@ -126,7 +144,8 @@ lines_of-nil = refl
 -- Entries of the elements of a list, written one after another.
 module _ {X : Type 0} (entry : X → List (List ℕ)) where
   -- the line of one more element
-  pub lines_of-more : (xs : List X) (i : ℕ) (x : X) (before after : List ℕ) → i < length xs → before ≡ lines_of (map entry (take i xs))
+  pub lines_of-more : (xs : List X) (i : ℕ) (x : X) (before after : List ℕ) → i < length xs
+      → before ≡ lines_of (map entry (take i xs))
       → after ≡ before ++ line_of (entry (get_or xs i x)) → after ≡ lines_of (map entry (take (i + 1) xs))
   lines_of-more xs i x before after inside so_far now =
       now
@@ -136,7 +155,8 @@ module _ {X : Type 0} (entry : X → List (List ℕ)) where
       ∙ ap (λ (ys : List X). lines_of (map entry ys)) (sym (take_more xs i x inside))
 
   -- the lines of all
-  pub lines_of-all : (xs : List X) (i : ℕ) (text : List ℕ) → length xs ≤ i → text ≡ lines_of (map entry (take i xs)) → text ≡ lines_of (map entry xs)
+  pub lines_of-all : (xs : List X) (i : ℕ) (text : List ℕ) → length xs ≤ i → text ≡ lines_of (map entry (take i xs))
+      → text ≡ lines_of (map entry xs)
   lines_of-all xs i text past e = e ∙ ap (λ (ys : List X). lines_of (map entry ys)) (take_all i xs past)
 
   -- they need no quotes where the entry of no good element does

@@ -1,5 +1,7 @@
 -- Laws of numbering by first appearance.
-use Rattle.std.proofs.Common.{◌≡◌, ◌≤◌, ◌&&◌, ◌∷◌, ◌++◌, ◌∙◌, ◌||◌, ℕ, suc, zero, Bool, true, false, not, List, [], length, Some, refl, sym, ap, inl, inr, arith, if◌then◌else◌, filter, slice_get, append_assoc, nat_eq, get_or, length-append}
+use Rattle.std.proofs.Common.{◌≡◌, ◌≤◌, ◌&&◌, ◌∷◌, ◌++◌, ◌∙◌, ◌||◌, ℕ, suc, zero, Bool, true, false, not, List, []}
+use Rattle.std.proofs.Common.{length, Some, refl, sym, ap, inl, inr, arith, if◌then◌else◌, filter, slice_get}
+use Rattle.std.proofs.Common.{append_assoc, nat_eq, get_or, length-append}
 use Rattle.std.specs.Prelude.{bytes_eq, Contains}
 use Rattle.std.specs.Bool.{Decides}
 use Rattle.std.specs.List.{AllZip, list_all, list_any}
@@ -13,7 +15,8 @@ use Rattle.bn_csv.specs.Numbering.{AreNumbered, AreNumberedByFirst, firsts, firs
 use Rattle.bn_csv.specs.NumberingLaws.{AreApart}
 
 -- a number stays when names are added behind
-pub number_stays : {X : Type 0} (xs ys : List X) (n : ℕ) (x : X) → slice_get xs n ≡ Some x → slice_get (xs ++ ys) n ≡ Some x
+pub number_stays : {X : Type 0} (xs ys : List X) (n : ℕ) (x : X) → slice_get xs n ≡ Some x
+    → slice_get (xs ++ ys) n ≡ Some x
 number_stays [] ys n x e = cc e
 number_stays (z ∷ zs) ys zero x e = e
 number_stays (z ∷ zs) ys (suc n) x e = number_stays zs ys n x e
@@ -41,7 +44,8 @@ module _ {X : Type 0} (same : X → X → Bool) (decides : (a b : X) → Decides
   ]
 
   -- what is filtered out is none of the others
-  any-filter : (x y : X) (zs : List X) → same y x ≡ false → list_any (same y) (filter (λ z. not (same x z)) zs) ≡ list_any (same y) zs
+  any-filter : (x y : X) (zs : List X) → same y x ≡ false → list_any (same y) (filter (λ z. not (same x z)) zs)
+      ≡ list_any (same y) zs
   any-filter x y [] ne = refl
   any-filter x y (z ∷ zs) ne = elim (cases_Bool (same x z)) [
     | inl hit ↦
@@ -69,7 +73,8 @@ module _ {X : Type 0} (same : X → X → Bool) (decides : (a b : X) → Decides
 
   -- one more element: it is new, or the first appearances stay
   pub firsts-push : (xs : List X) (y : X)
-      → firsts_by same (xs ++ y ∷ []) ≡ (if list_any (same y) (firsts_by same xs) then firsts_by same xs else firsts_by same xs ++ y ∷ [])
+      → firsts_by same (xs ++ y ∷ []) ≡ (if list_any (same y) (firsts_by same xs) then firsts_by same xs else firsts_by
+      same xs ++ y ∷ [])
   unfolding firsts_by
   firsts-push [] y = refl
   firsts-push (x ∷ xs) y = elim (cases_Bool (list_any (same y) (firsts_by same xs))) [
@@ -78,8 +83,10 @@ module _ {X : Type 0} (same : X → X → Bool) (decides : (a b : X) → Decides
         rw (push-old x y xs any) (ap (λ (t : List X). x ∷ filter (λ z. not (same x z)) t) before)
     | inr none ↦
         let before : firsts_by same (xs ++ y ∷ []) ≡ firsts_by same xs ++ y ∷ [] = firsts-push xs y ∙ rw none refl in
-        let kept : filter (λ z. not (same x z)) (firsts_by same (xs ++ y ∷ [])) ≡ filter (λ z. not (same x z)) (firsts_by same xs) ++ filter (λ z. not (same x z)) (y ∷ []) =
-        ap (λ (t : List X). filter (λ z. not (same x z)) t) before ∙ filter-append (λ z. not (same x z)) (firsts_by same xs) (y ∷ []) in
+        let kept : filter (λ z. not (same x z)) (firsts_by same (xs ++ y ∷ []))
+        ≡ filter (λ z. not (same x z)) (firsts_by same xs) ++ filter (λ z. not (same x z)) (y ∷ []) =
+        ap (λ (t : List X). filter (λ z. not (same x z)) t) before
+        ∙ filter-append (λ z. not (same x z)) (firsts_by same xs) (y ∷ []) in
         elim (cases_Bool (same y x)) [
           | inl hit ↦
               let also : same x y ≡ true = (decides x y).1 (sym ((decides y x).0 hit)) in
@@ -94,13 +101,19 @@ module _ {X : Type 0} (same : X → X → Bool) (decides : (a b : X) → Decides
   firsts-append xs [] = ([], rw (append-nil xs, append-nil (firsts_by same xs)) refl)
   firsts-append xs (y ∷ ys) =
       let (zs, rest) = firsts-append (xs ++ y ∷ []) ys in
-      let all : firsts_by same (xs ++ y ∷ ys) ≡ firsts_by same (xs ++ y ∷ []) ++ zs = ap (λ (t : List X). firsts_by same t) (sym (append_assoc xs (y ∷ []) ys)) ∙ rest in
+      let all : firsts_by same (xs ++ y ∷ ys) ≡ firsts_by same (xs ++ y ∷ []) ++ zs =
+      ap (λ (t : List X). firsts_by same t) (sym (append_assoc xs (y ∷ []) ys)) ∙ rest in
       elim (cases_Bool (list_any (same y) (firsts_by same xs))) [
         | inl any ↦ (zs, all ∙ ap (λ (t : List X). t ++ zs) (firsts-push xs y ∙ rw any refl))
-        | inr none ↦ (y ∷ zs, all ∙ ap (λ (t : List X). t ++ zs) (firsts-push xs y ∙ rw none refl) ∙ append_assoc (firsts_by same xs) (y ∷ []) zs)
+        | inr none ↦ (
+          y ∷ zs,
+          all ∙ ap (λ (t : List X). t ++ zs) (firsts-push xs y ∙ rw none refl)
+              ∙ append_assoc (firsts_by same xs) (y ∷ []) zs,
+        )
       ]
 
-  any-kept : (test : X → Bool) (y : X) (zs : List X) → list_any (same y) zs ≡ false → list_any (same y) (filter test zs) ≡ false
+  any-kept : (test : X → Bool) (y : X) (zs : List X) → list_any (same y) zs ≡ false
+      → list_any (same y) (filter test zs) ≡ false
   any-kept test y [] e = refl
   any-kept test y (z ∷ zs) e = elim (cases_Bool (same y z)) [
     | inl hit ↦ let miss : true ≡ false = rw hit at e in cc
@@ -127,7 +140,11 @@ module _ {X : Type 0} (same : X → X → Bool) (decides : (a b : X) → Decides
   pub apart-firsts : (xs : List X) → AreApart same decides (firsts_by same xs)
   unfolding firsts_by
   apart-firsts [] = tt
-  apart-firsts (x ∷ xs) = (none-filter x (firsts_by same xs), apart-filter (λ z. not (same x z)) (firsts_by same xs) (apart-firsts xs))
+  apart-firsts (x ∷ xs) = (
+    none-filter x (firsts_by same xs),
+    apart-filter (λ z. not (same x z)) (firsts_by same xs)
+        (apart-firsts xs),
+  )
 
   pub any-at : (y : X) (zs : List X) (n : ℕ) → slice_get zs n ≡ Some y → list_any (same y) zs ≡ true
   any-at y [] n e = cc e
@@ -139,7 +156,8 @@ module _ {X : Type 0} (same : X → X → Bool) (decides : (a b : X) → Decides
   ]
 
   -- elements that are apart have one number each
-  pub one_number : (zs : List X) (m n : ℕ) (x : X) → AreApart same decides zs → slice_get zs m ≡ Some x → slice_get zs n ≡ Some x → m ≡ n
+  pub one_number : (zs : List X) (m n : ℕ) (x : X) → AreApart same decides zs → slice_get zs m ≡ Some x
+      → slice_get zs n ≡ Some x → m ≡ n
   one_number [] m n x h a b = cc a
   one_number (z ∷ zs) zero zero x h a b = refl
   one_number (z ∷ zs) zero (suc n) x h a b =
@@ -163,15 +181,18 @@ pub firsts_push : (names : List (List ℕ)) (name : List ℕ) → firsts (names 
 firsts_push names name = firsts-push bytes_eq bytes_eq-Decides names name
 
 -- what is in a list, by the test
-any-from-contains : (name : List ℕ) (names : List (List ℕ)) → Contains names name → list_any (bytes_eq name) names ≡ true
+any-from-contains : (name : List ℕ) (names : List (List ℕ)) → Contains names name
+    → list_any (bytes_eq name) names ≡ true
 any-from-contains name names (k, within, at) =
     list_any_at (bytes_eq name) names k name within ((bytes_eq-Decides name (get_or names k name)).1 (sym at))
 
 -- the first appearances of a list of names are a numbering of them
 pub firsts_number : (names : List (List ℕ)) → AreNumbered names (firsts names)
 firsts_number names = record {
-  each = λ name h. some_number bytes_eq bytes_eq-Decides name (firsts names) (any-firsts bytes_eq bytes_eq-Decides name names ∙ any-from-contains name names h);
-  apart = λ name m n a b. one_number bytes_eq bytes_eq-Decides (firsts names) m n name (apart-firsts bytes_eq bytes_eq-Decides names) a b;
+  each = λ name h. some_number bytes_eq bytes_eq-Decides name (firsts names)
+      (any-firsts bytes_eq bytes_eq-Decides name names ∙ any-from-contains name names h);
+  apart = λ name m n a b. one_number bytes_eq bytes_eq-Decides (firsts names) m n name
+      (apart-firsts bytes_eq bytes_eq-Decides names) a b;
   grows = λ name. firsts_push names name;
 }
 
@@ -181,7 +202,8 @@ AreNumbersOf numbered numbers xs = AllZip (λ n x. slice_get numbered n ≡ Some
 
 module _ {X : Type 0} (same : X → X → Bool) (decides : (a b : X) → Decides (same a b) (a ≡ b)) where
   -- two elements are the same where their numbers are
-  same_number : (zs : List X) → AreApart same decides zs → (m n : ℕ) (x y : X) → slice_get zs m ≡ Some x → slice_get zs n ≡ Some y
+  same_number : (zs : List X) → AreApart same decides zs → (m n : ℕ) (x y : X) → slice_get zs m ≡ Some x
+      → slice_get zs n ≡ Some y
       → nat_eq m n ≡ same x y
   same_number zs apart m n x y a b = elim (cases_Bool (same x y)) [
     | inl hit ↦
@@ -196,7 +218,8 @@ module _ {X : Type 0} (same : X → X → Bool) (decides : (a b : X) → Decides
     ]
   ]
 
-  filter_numbers : (zs : List X) → AreApart same decides zs → (n : ℕ) (x : X) → slice_get zs n ≡ Some x → (ns : List ℕ) (xs : List X)
+  filter_numbers : (zs : List X) → AreApart same decides zs → (n : ℕ) (x : X) → slice_get zs n ≡ Some x
+      → (ns : List ℕ) (xs : List X)
       → AreNumbersOf zs ns xs → AreNumbersOf zs (filter (λ m. not (nat_eq n m)) ns) (filter (λ y. not (same x y)) xs)
   filter_numbers zs apart n x at [] [] h = tt
   filter_numbers zs apart n x at [] (y ∷ ys) h = absurd h
@@ -212,11 +235,15 @@ module _ {X : Type 0} (same : X → X → Bool) (decides : (a b : X) → Decides
   firsts_numbers zs apart [] [] h = tt
   firsts_numbers zs apart [] (y ∷ ys) h = absurd h
   firsts_numbers zs apart (m ∷ ms) [] h = absurd h
-  firsts_numbers zs apart (m ∷ ms) (y ∷ ys) h =
-      (h.0, filter_numbers zs apart m y h.0 (firsts_by nat_eq ms) (firsts_by same ys) (firsts_numbers zs apart ms ys h.1))
+  firsts_numbers zs apart (m ∷ ms) (y ∷ ys) h = (
+    h.0,
+    filter_numbers zs apart m y h.0 (firsts_by nat_eq ms) (firsts_by same ys)
+        (firsts_numbers zs apart ms ys h.1),
+  )
 
   -- the numbers of the elements behind a front are those from its length on
-  in_order : (front rest : List X) → AreApart same decides (front ++ rest) → (ns : List ℕ) → AreNumbersOf (front ++ rest) ns rest
+  in_order : (front rest : List X) → AreApart same decides (front ++ rest) → (ns : List ℕ)
+      → AreNumbersOf (front ++ rest) ns rest
       → ns ≡ numbers_from (length front) (length rest)
   unfolding numbers_from
   in_order front [] apart [] h = refl
@@ -232,7 +259,8 @@ module _ {X : Type 0} (same : X → X → Bool) (decides : (a b : X) → Decides
       rw (here, later, longer) refl
 
   -- numbers given by first appearance are all numbers below their count, and appear in order
-  pub numbered-by-first : (ns : List ℕ) (xs : List X) → AreNumbersOf (firsts_by same xs) ns xs → AreNumberedByFirst ns (length (firsts_by same xs))
+  pub numbered-by-first : (ns : List ℕ) (xs : List X) → AreNumbersOf (firsts_by same xs) ns xs
+      → AreNumberedByFirst ns (length (firsts_by same xs))
   numbered-by-first ns xs h =
       let apart = apart-firsts same decides xs in
       in_order [] (firsts_by same xs) apart (firsts_by nat_eq ns) (firsts_numbers (firsts_by same xs) apart ns xs h)
@@ -250,7 +278,8 @@ module _ {X : Type 0} (same : X → X → Bool) (decides : (a b : X) → Decides
   unfolding firsts_by
   length-firsts [] = omega arith
   length-firsts (x ∷ xs) =
-      let kept : length (filter (λ z. not (same x z)) (firsts_by same xs)) ≤ length (firsts_by same xs) = filter-shorter (λ z. not (same x z)) (firsts_by same xs) in
+      let kept : length (filter (λ z. not (same x z)) (firsts_by same xs)) ≤ length (firsts_by same xs) =
+      filter-shorter (λ z. not (same x z)) (firsts_by same xs) in
       let rest : length (firsts_by same xs) ≤ length xs = length-firsts xs in
       omega arith
 
@@ -261,7 +290,8 @@ module _ {X : Type 0} (same : X → X → Bool) (decides : (a b : X) → Decides
     | inr miss ↦ rw miss (ap (λ (n : ℕ). suc n) (all-stay u zs (rw miss at e)))
   ]
 
-  one-out : (u : X) (zs : List X) → AreApart same decides zs → length zs ≤ suc (length (filter (λ z. not (same u z)) zs))
+  one-out : (u : X) (zs : List X) → AreApart same decides zs → length zs
+      ≤ suc (length (filter (λ z. not (same u z)) zs))
   one-out u [] h = omega arith
   one-out u (z ∷ zs) h = elim (cases_Bool (same u z)) [
     | inl hit ↦
@@ -284,11 +314,13 @@ module _ {X : Type 0} (same : X → X → Bool) (decides : (a b : X) → Decides
   ]
 
   -- elements that are apart, each of them among others, are no more than those
-  pub no_more_than : (us zs : List X) → AreApart same decides zs → list_all (λ z. list_any (same z) us) zs ≡ true → length zs ≤ length us
+  pub no_more_than : (us zs : List X) → AreApart same decides zs → list_all (λ z. list_any (same z) us) zs ≡ true
+      → length zs ≤ length us
   no_more_than [] [] h e = omega arith
   no_more_than [] (z ∷ zs) h e = absurd (false≢true e)
   no_more_than (u ∷ us) zs h e =
       let shorter : length zs ≤ suc (length (filter (λ z. not (same u z)) zs)) = one-out u zs h in
       let rest : length (filter (λ z. not (same u z)) zs) ≤ length us =
-      no_more_than us (filter (λ z. not (same u z)) zs) (apart-filter same decides (λ z. not (same u z)) zs h) (in-others u us zs e) in
+      no_more_than us (filter (λ z. not (same u z)) zs) (apart-filter same decides (λ z. not (same u z)) zs h)
+      (in-others u us zs e) in
       omega arith

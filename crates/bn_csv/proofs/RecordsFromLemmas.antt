@@ -1,5 +1,6 @@
 -- From one csv record after another to all records of some bytes.
-use Rattle.std.proofs.Common.{◌≡◌, ◌<◌, ◌⊎◌, ◌∷◌, ◌++◌, ◌∙◌, ℕ, suc, zero, List, [], length, Option, Some, None, refl, sym, ap, inl, inr, arith}
+use Rattle.std.proofs.Common.{◌≡◌, ◌<◌, ◌⊎◌, ◌∷◌, ◌++◌, ◌∙◌, ℕ, suc, zero, List, [], length, Option, Some, None, refl}
+use Rattle.std.proofs.Common.{sym, ap, inl, inr, arith}
 use Rattle.std.proofs.lemmas.Bool.{cases_Bool}
 use Rattle.csv.specs.Machine.{Read, ends_at_end, field_after, fields_after, is_end, next_record, step}
 use Rattle.csv.specs.Reading.{records_from}
@@ -8,7 +9,8 @@ use Rattle.csv.specs.declared.parser.State.{State}
 use Rattle.csv.specs.declared.parser.State.TheVariants as st
 
 -- a read takes a byte, or it takes the last record at the end of the bytes
-pub takes : (c : Config) (s : State) (fields : List (List ℕ)) (field bytes : List ℕ) (p : Read) → next_record c s fields field bytes ≡ Some p
+pub takes : (c : Config) (s : State) (fields : List (List ℕ)) (field bytes : List ℕ) (p : Read)
+    → next_record c s fields field bytes ≡ Some p
     → (length p.2 < length bytes) ⊎ ((p.1 ≡ st.StartRecord) × (p.2 ≡ []))
 unfolding next_record
 takes c s fields field [] p e = elim (cases_Bool (ends_at_end s)) [
@@ -24,7 +26,8 @@ takes c s fields field (b ∷ rest) p e = elim (cases_Bool (is_end (step c s b).
       let same : p.2 ≡ rest = cc in
       inl (rw same (omega arith))
   | inr goes ↦
-      elim (takes c (step c s b).0 (fields_after (step c s b).1 fields field) (field_after (step c s b).1 b field) rest p (rw goes at e)) [
+      elim (takes c (step c s b).0 (fields_after (step c s b).1 fields field) (field_after (step c s b).1 b field) rest
+      p (rw goes at e)) [
         | inl less ↦ inl (omega arith)
         | inr last ↦ inr last
       ]
@@ -42,7 +45,8 @@ pub one_more : (c : Config) (n : ℕ) (s : State) (bytes : List ℕ) (p : Read) 
 unfolding records_from
 one_more c n s bytes p e = rw e refl
 
-pub no_more : (c : Config) (n : ℕ) (s : State) (bytes : List ℕ) → next_record c s [] [] bytes ≡ None → records_from c n s bytes ≡ []
+pub no_more : (c : Config) (n : ℕ) (s : State) (bytes : List ℕ) → next_record c s [] [] bytes ≡ None
+    → records_from c n s bytes ≡ []
 unfolding records_from
 no_more c zero s bytes e = refl
 no_more c (suc n) s bytes e = rw e refl
@@ -53,7 +57,8 @@ found_or_none None = inl refl
 found_or_none (Some p) = inr (p, refl)
 
 -- counts of turns above the number of bytes give the same records
-pub enough : (c : Config) (m n : ℕ) (s : State) (bytes : List ℕ) → length bytes < m → length bytes < n → records_from c m s bytes ≡ records_from c n s bytes
+pub enough : (c : Config) (m n : ℕ) (s : State) (bytes : List ℕ) → length bytes < m → length bytes < n
+    → records_from c m s bytes ≡ records_from c n s bytes
 enough c zero n s bytes h k = absurd (omega arith)
 enough c (suc m) zero s bytes h k = absurd (omega arith)
 enough c (suc m) (suc n) s bytes h k = elim (found_or_none (next_record c s [] [] bytes)) [

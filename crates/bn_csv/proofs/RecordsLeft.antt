@@ -1,5 +1,6 @@
 -- From one csv record after another to all records of some bytes.
-use Rattle.std.proofs.Common.{◌≡◌, ◌+◌, ◌<◌, ◌∷◌, ◌∙◌, ℕ, suc, zero, true, false, List, [], length, Option, Some, None, Bor, refl, sym, ap, inl, inr, arith, slice_get}
+use Rattle.std.proofs.Common.{◌≡◌, ◌+◌, ◌<◌, ◌∷◌, ◌∙◌, ℕ, suc, zero, true, false, List, [], length, Option, Some, None}
+use Rattle.std.proofs.Common.{Bor, refl, sym, ap, inl, inr, arith, slice_get}
 use Rattle.std.proofs.lemmas.Bool.{cases_Bool}
 use Rattle.std.specs.Prelude.{◌&&◌, not, is_none, is_some}
 use Rattle.csv.specs.declared.reader.Headers.{Headers}
@@ -31,7 +32,8 @@ left_more s bytes p is =
       | inr last ↦ rw (last.0, last.1) (none_at_end default_config (length bytes) ∙ sym (none_at_end default_config _))
     ]))
 
-left_none : (s : State) (bytes : List ℕ) → next_record default_config s [] [] bytes ≡ None → records_left s (Some bytes) ≡ []
+left_none : (s : State) (bytes : List ℕ) → next_record default_config s [] [] bytes ≡ None
+    → records_left s (Some bytes) ≡ []
 unfolding records_left
 left_none s bytes none = no_more default_config _ s bytes none
 
@@ -39,7 +41,8 @@ known_bytes : (o : Option (List ℕ)) → is_some o ≡ true → (bytes : List �
 known_bytes None h = cc h
 known_bytes (Some bytes) h = (bytes, refl)
 
-reached_one : (a b : State) (bytes z : List ℕ) (fields : List (List ℕ)) → Reached default_config a bytes (fields ∷ []) b z
+reached_one : (a b : State) (bytes z : List ℕ) (fields : List (List ℕ))
+    → Reached default_config a bytes (fields ∷ []) b z
     → records_left a (Some bytes) ≡ fields ∷ records_left b (Some z)
 unfolding Reached
 reached_one a b bytes z fields h =
@@ -47,16 +50,19 @@ reached_one a b bytes z fields h =
     rw (left_more a bytes p is, rest.0, rest.1, same) refl
 
 -- a read that found a record takes it from those that are left
-pub left-read : (a b : Reader (Bor (List ℕ))) (fields : List (List ℕ)) → IsReading a → ReadRecord (λ (s : Bor (List ℕ)). Some s.now) a b true fields
+pub left-read : (a b : Reader (Bor (List ℕ))) (fields : List (List ℕ)) → IsReading a
+    → ReadRecord (λ (s : Bor (List ℕ)). Some s.now) a b true fields
     → (left_of a ≡ fields ∷ left_of b) × (is_some (unread b) ≡ true)
 unfolding Reached
 left-read a b fields h r =
     let (bytes, known) = known_bytes (unread a) h.known in
-    let m = rows-more (λ (s : Bor (List ℕ)). Some s.now) a b fields default_config a.state bytes bytes [] h.plain known (refl, refl) r in
+    let m = rows-more (λ (s : Bor (List ℕ)). Some s.now) a b fields default_config a.state bytes bytes [] h.plain known
+    (refl, refl) r in
     (rw (known, m.1) (reached_one a.state b.state bytes m.0 fields m.2), rw m.1 refl)
 
 -- a read that found none: none is left
-pub left-end : (a b : Reader (Bor (List ℕ))) (fields : List (List ℕ)) → IsReading a → ReadRecord (λ (s : Bor (List ℕ)). Some s.now) a b false fields
+pub left-end : (a b : Reader (Bor (List ℕ))) (fields : List (List ℕ)) → IsReading a
+    → ReadRecord (λ (s : Bor (List ℕ)). Some s.now) a b false fields
     → left_of a ≡ []
 left-end a b fields h r =
     let (bytes, known) = known_bytes (unread a) h.known in

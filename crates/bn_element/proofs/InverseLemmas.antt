@@ -29,7 +29,12 @@ no_line_of_first line far =
       low_differs 3 line far,
       high_differs line 1 (omega arith),
       high_differs line 3 far,
-    ) (rw (low_differs 0 line (omega arith), low_differs 1 line (omega arith), low_differs 2 line (omega arith), low_differs 3 line far) refl)
+    ) (rw (
+      low_differs 0 line (omega arith),
+      low_differs 1 line (omega arith),
+      low_differs 2 line (omega arith),
+      low_differs 3 line far,
+    ) refl)
 
 no_line_of_second : (line : ℕ) → 3 < line → rotary.back 1 line ≡ exchanged_pair (rotary.go 1 (exchanged line))
 no_line_of_second line far =
@@ -40,7 +45,12 @@ no_line_of_second line far =
       low_differs 3 line far,
       high_differs line 1 (omega arith),
       high_differs line 3 far,
-    ) (rw (low_differs 0 line (omega arith), low_differs 1 line (omega arith), low_differs 2 line (omega arith), low_differs 3 line far) refl)
+    ) (rw (
+      low_differs 0 line (omega arith),
+      low_differs 1 line (omega arith),
+      low_differs 2 line (omega arith),
+      low_differs 3 line far,
+    ) refl)
 
 -- no bar has such a state
 no_state : (state line : ℕ) → 1 < state → rotary.back state line ≡ exchanged_pair (rotary.go state (exchanged line))

@@ -13,7 +13,8 @@ words-of-text bytes h = ap (λ t. if t then slice_split (λ b. b == 0) bytes els
 
 -- none
 pub words-of-none : (bytes : List ℕ) → (IsUtf8 bytes → ⊥) → words_of bytes ≡ []
-words-of-none bytes h = ap (λ t. if t then slice_split (λ b. b == 0) bytes else []) (is_none (cases_Bool (is_utf8 bytes)))
+words-of-none bytes h = ap (λ t. if t then slice_split (λ b. b == 0) bytes else [])
+    (is_none (cases_Bool (is_utf8 bytes)))
   where
     is_none : (is_utf8 bytes ≡ true) ⊎ (is_utf8 bytes ≡ false) → is_utf8 bytes ≡ false
     is_none (inl is) = absurd (h (IsUtf8-from_is_utf8 bytes is))

@@ -13,7 +13,8 @@ use Rattle.bn_bennett_laws.specs.Renamed.{KeepsApart, in_state}
 use Rattle.bn_bennett_laws.proofs.RenamedLemmas.{names_kept_apart}
 use Rattle.bn_bennett_laws.specs.Stages.{IsSpelledBy, IsStandardMachine}
 use Rattle.bn_bennett_laws.specs.declared.name.Name.TheVariants.{GoRight}
-use Rattle.bn_erase_laws.specs.Erasing.{ErasingSteps, IsWord, erasing_end, erasing_final, erasing_initial, erasing_start}
+use Rattle.bn_erase_laws.specs.Erasing.{ErasingSteps, IsWord, erasing_end, erasing_final, erasing_initial}
+use Rattle.bn_erase_laws.specs.Erasing.{erasing_start}
 use Rattle.bn_erase_laws.specs.ErasingLaws.{ErasesInput, ErasingNumbersPassTests, ErasingNumbersRunAlike}
 use Rattle.bn_erase_laws.specs.declared.name.ErasingName.{ErasingName}
 use Rattle.bn_erase_laws.specs.declared.name.ErasingName.TheVariants.{First}
@@ -47,27 +48,51 @@ module _ (p q : Program) (e : Erasure) (h : IsErasing p q e) where
     end_named y = λ i. record { state = ends_named i; one = blank_tape; two = blank_tape; three = word_tape y }
 
     -- a configuration that is named as the end is the end
-    same_end : (y : List ℕ) (d : Configuration ℕ) → IsIn (states_in e.machine.rules) d.state → in_state (name_of e) d ≡ erasing_end q y → d ≡ end_of e y
+    same_end : (y : List ℕ) (d : Configuration ℕ) → IsIn (states_in e.machine.rules) d.state
+        → in_state (name_of e) d ≡ erasing_end q y → d ≡ end_of e y
     same_end y d inside is =
-        let state : d.state ≡ final_state_of e.machine.rules = names_apart.apart d.state (final_state_of e.machine.rules) inside ends_inside (ap (λ (c : Configuration ErasingName). c.state) is ∙ sym ends_named) in
+        let state : d.state ≡ final_state_of e.machine.rules = names_apart.apart d.state
+        (final_state_of e.machine.rules) inside ends_inside (ap (λ (c : Configuration ErasingName). c.state) is
+        ∙ sym ends_named) in
         λ i. record { state = state i; one = (is i).one; two = (is i).two; three = (is i).three }
 
     module _ (alike : ErasingNumbersRunAlike) (x : List ℕ) where
-      run_named : (n : ℕ) (d : Configuration ℕ) → Reaches (QuadruplesRunTo everywhere e.machine) n (start_of e x) d → Reaches (ErasingSteps p q) n (erasing_start p x) (in_state (name_of e) d)
-      run_named n d run = subst (λ c. Reaches (ErasingSteps p q) n c (in_state (name_of e) d)) (start_named x) ((alike p q left right (name_of e) e.machine h.rules names_apart everywhere (start_of e x) begins_inside).0 n d run)
+      run_named : (n : ℕ) (d : Configuration ℕ) → Reaches (QuadruplesRunTo everywhere e.machine) n (start_of e x) d
+          → Reaches (ErasingSteps p q) n (erasing_start p x) (in_state (name_of e) d)
+      run_named n d run = subst (λ c. Reaches (ErasingSteps p q) n c (in_state (name_of e) d)) (start_named x)
+          ((alike p q left right (name_of e) e.machine h.rules names_apart everywhere (start_of e x) begins_inside).0 n
+          d run)
 
-      run_numbered : (n : ℕ) (c : Configuration ErasingName) → Reaches (ErasingSteps p q) n (erasing_start p x) c → (d : Configuration ℕ) × Reaches (QuadruplesRunTo everywhere e.machine) n (start_of e x) d × (c ≡ in_state (name_of e) d) × IsIn (states_in e.machine.rules) d.state
-      run_numbered n c run = (alike p q left right (name_of e) e.machine h.rules names_apart everywhere (start_of e x) begins_inside).1 n c (subst (λ b. Reaches (ErasingSteps p q) n b c) (sym (start_named x)) run)
+      run_numbered : (n : ℕ) (c : Configuration ErasingName) → Reaches (ErasingSteps p q) n (erasing_start p x) c
+          → (d : Configuration ℕ) × Reaches (QuadruplesRunTo everywhere e.machine) n (start_of e x) d
+          × (c ≡ in_state (name_of e) d) × IsIn (states_in e.machine.rules) d.state
+      run_numbered n c run = (alike p q left right (name_of e) e.machine h.rules names_apart everywhere (start_of e x)
+          begins_inside).1 n c (subst (λ b. Reaches (ErasingSteps p q) n b c) (sym (start_named x)) run)
 
       module _ (erases : ErasesInput) (same : p.symbols ≡ q.symbols) (letters : IsSpelledBy p x) (word : IsWord x) where
-        pub erases_forth : (v w : ℕ) (y : List ℕ) → HaltsAfter p x v y → HaltsAfter q y w x → Reaches (QuadruplesRunTo everywhere e.machine) (4 * (v + w) + 4 * (length x + length y) + 10) (start_of e x) (end_of e y)
+        pub erases_forth : (v w : ℕ) (y : List ℕ) → HaltsAfter p x v y → HaltsAfter q y w x
+            → Reaches (QuadruplesRunTo everywhere e.machine) (4 * (v + w) + 4 * (length x + length y) + 10)
+            (start_of e x) (end_of e y)
         erases_forth v w y first second =
             let n : ℕ = 4 * (v + w) + 4 * (length x + length y) + 10 in
-            let found = run_numbered n (erasing_end q y) ((erases p q x left right same letters word).0 v w y first second) in
-            subst (λ d. Reaches (QuadruplesRunTo everywhere e.machine) n (start_of e x) d) (same_end y found.0 found.3 (sym found.2)) found.1
+            let found = run_numbered n (erasing_end q y) ((erases p q x left right same letters word).0 v w y first
+            second) in
+            subst (λ d. Reaches (QuadruplesRunTo everywhere e.machine) n (start_of e x) d)
+            (same_end y found.0 found.3 (sym found.2)) found.1
 
-        pub erases_back : (n : ℕ) (c : Configuration ℕ) → Reaches (QuadruplesRunTo everywhere e.machine) n (start_of e x) c → c.state ≡ final_state_of e.machine.rules
-            → (v w : ℕ) × (y : List ℕ) × HaltsAfter p x v y × HaltsAfter q y w x × (n ≡ 4 * (v + w) + 4 * (length x + length y) + 10) × (c ≡ end_of e y)
+        pub erases_back : (n : ℕ) (c : Configuration ℕ) → Reaches (QuadruplesRunTo everywhere e.machine) n
+            (start_of e x) c → c.state ≡ final_state_of e.machine.rules
+            → (v w : ℕ) × (y : List ℕ) × HaltsAfter p x v y × HaltsAfter q y w x
+            × (n ≡ 4 * (v + w) + 4 * (length x + length y) + 10) × (c ≡ end_of e y)
         erases_back n c run final =
-            let found = (erases p q x left right same letters word).1 n (in_state (name_of e) c) (run_named n c run) (ap (name_of e) final ∙ ends_named) in
-            (found.0, found.1, found.2, found.3, found.4, found.5, same_end found.2 c (subst (IsIn (states_in e.machine.rules)) (sym final) ends_inside) found.6)
+            let found = (erases p q x left right same letters word).1 n (in_state (name_of e) c) (run_named n c run)
+            (ap (name_of e) final ∙ ends_named) in (
+              found.0,
+              found.1,
+              found.2,
+              found.3,
+              found.4,
+              found.5,
+              same_end found.2 c
+                  (subst (IsIn (states_in e.machine.rules)) (sym final) ends_inside) found.6,
+            )

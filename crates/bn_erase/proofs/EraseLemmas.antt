@@ -32,28 +32,36 @@ use Rattle.bn_erase_laws.proofs.DistinctLemmas.{distinct_numbers, in_numbers, nu
 use Rattle.bn_erase_laws.proofs.ErasingLemmas.{second_final, second_own}
 use Rattle.bn_erase.specs.Numbered.{AreErasing, joint_names, joint_quads, meeting_of, new_state}
 use Rattle.bn_erase.specs.declared.erasing.Meeting.{Meeting}
-use Rattle.bn_erase.proofs.ListLemmas.{all_from, final_low, from_backward, holds_of, joint_kept, joint_rules, rename_backward, rename_same, rename_twice}
+use Rattle.bn_erase.proofs.ListLemmas.{all_from, final_low, from_backward, holds_of, joint_kept, joint_rules}
+use Rattle.bn_erase.proofs.ListLemmas.{rename_backward, rename_same, rename_twice}
 use Rattle.bn_erase.proofs.NewStateLemmas.{Placed, final, before, behind, placed}
-use Rattle.bn_erase.proofs.WithoutLemmas.{apart_without, in_without, left_out, length-without, others_stay, place_before, place_behind, without, without_is}
+use Rattle.bn_erase.proofs.WithoutLemmas.{apart_without, in_without, left_out, length-without, others_stay}
+use Rattle.bn_erase.proofs.WithoutLemmas.{place_before, place_behind, without, without_is}
 
 -- ---- one translation
 
 -- a table's machine has few states in its translation
-pub few_states : (p : Program) (t : Translation) → IsMachine p → FitsTable p → ListCountsNames → IsTranslation p t → t.machine.states ≤ 24004
+pub few_states : (p : Program) (t : Translation) → IsMachine p → FitsTable p → ListCountsNames → IsTranslation p t
+    → t.machine.states ≤ 24004
 few_states p t machine fits counts h =
-    let long : length t.names ≡ 2 * p.states + 2 * length p.quints + 4 = counts p machine (each_mentioned p fits) t.names (numbers_states (bennett p) t.names h.names) in
+    let long : length t.names ≡ 2 * p.states + 2 * length p.quints + 4 =
+    counts p machine (each_mentioned p fits) t.names (numbers_states (bennett p) t.names h.names) in
     omega (arith, long, h.states, fits.states, fits.quints)
 
 -- its final state has the name of the list's
-pub final_named : (p : Program) (t : Translation) → IsStandardMachine p → NumbersPassTests → IsTranslation p t → name_of t (final_state_of t.machine.rules) ≡ final_name p
+pub final_named : (p : Program) (t : Translation) → IsStandardMachine p → NumbersPassTests → IsTranslation p t
+    → name_of t (final_state_of t.machine.rules) ≡ final_name p
 final_named p t standard tests h = (tests p standard (name_of t) t.machine.rules h.rules).4
 
-pub final_below : (p : Program) (t : Translation) → IsTranslation p t → final_state_of t.machine.rules < t.machine.states
+pub final_below : (p : Program) (t : Translation) → IsTranslation p t
+    → final_state_of t.machine.rules < t.machine.states
 final_below p t h = final_low t.machine.states t.machine.symbols t.machine.rules h.machine.some h.machine.in_range
 
 -- ---- two translations
 
-module _ (p q : Program) (t u : Translation) (h : IsTranslation p t) (k : IsTranslation q u) (middle : name_of t (final_state_of t.machine.rules) ≡ final_name p) (ends : name_of u (final_state_of u.machine.rules) ≡ final_name q) where
+module _ (p q : Program) (t u : Translation) (h : IsTranslation p t) (k : IsTranslation q u)
+    (middle : name_of t (final_state_of t.machine.rules) ≡ final_name p)
+    (ends : name_of u (final_state_of u.machine.rules) ≡ final_name q) where
   abbrev m : Meeting
   m = meeting_of t.machine u.machine
 
@@ -83,7 +91,8 @@ module _ (p q : Program) (t u : Translation) (h : IsTranslation p t) (k : IsTran
 
   length-names : suc (length names) ≡ t.machine.states + u.machine.states
   length-names =
-      let sum : length names ≡ length (map First t.names) + length (map Second others) = length-append (map First t.names) (map Second others) in
+      let sum : length names ≡ length (map First t.names) + length (map Second others) =
+      length-append (map First t.names) (map Second others) in
       omega (arith, sum, length-firsts, length-map others Second, length-others)
 
   -- ---- the name of each number
@@ -95,9 +104,11 @@ module _ (p q : Program) (t u : Translation) (h : IsTranslation p t) (k : IsTran
   first_named s low =
       let inside : s < length t.names = omega (arith, h.states) in
       let mapped : s < length (map First t.names) = omega (arith, length-firsts) in
-      get_or_append_left (map First t.names) (map Second others) (First GoRight) s mapped ∙ get_or-map First t.names s GoRight (First GoRight) inside
+      get_or_append_left (map First t.names) (map Second others) (First GoRight) s mapped
+      ∙ get_or-map First t.names s GoRight (First GoRight) inside
 
-  other_named : (j : ℕ) → j < length others → name_at (First GoRight) names (m.states + j) ≡ Second (get_or others j GoRight)
+  other_named : (j : ℕ) → j < length others → name_at (First GoRight) names (m.states + j)
+      ≡ Second (get_or others j GoRight)
   other_named j low =
       ap (λ n. get_or names (n + j) (First GoRight)) (sym length-firsts)
       ∙ get_or-append-add (map First t.names) (map Second others) j (First GoRight)
@@ -107,11 +118,13 @@ module _ (p q : Program) (t u : Translation) (h : IsTranslation p t) (k : IsTran
   own_named s low other =
       let inside : s < length u.names = omega (arith, k.states) in
       elim (second_own p q (name_of u s)) [
-        | inl is ↦ absurd (other (second_order.apart s m.end (final_name q) (slice_get-get_or u.names s GoRight inside ∙ ap Some is) end_stands))
+        | inl is ↦ absurd (other (second_order.apart s m.end (final_name q)
+            (slice_get-get_or u.names s GoRight inside ∙ ap Some is) end_stands))
         | inr own ↦ own
       ]
 
-  second_named : (s : ℕ) → s < u.machine.states → name_at (First GoRight) names (new_state m s) ≡ second_name p q (name_of u s)
+  second_named : (s : ℕ) → s < u.machine.states → name_at (First GoRight) names (new_state m s)
+      ≡ second_name p q (name_of u s)
   second_named s low = by_case (placed m s)
     where
       by_case : Placed m s → name_at (First GoRight) names (new_state m s) ≡ second_name p q (name_of u s)
@@ -154,47 +167,56 @@ module _ (p q : Program) (t u : Translation) (h : IsTranslation p t) (k : IsTran
   abbrev rules : List (Rule ℕ)
   rules = joint_rules m t.machine.rules u.machine.rules
 
-  backward_low : (r : Rule ℕ) → IsIn (exchanged_list (turned_list u.machine.rules)) r → (r.from < u.machine.states) × (r.to < u.machine.states)
+  backward_low : (r : Rule ℕ) → IsIn (exchanged_list (turned_list u.machine.rules)) r
+      → (r.from < u.machine.states) × (r.to < u.machine.states)
   backward_low r there =
       let found = from_backward u.machine.rules r there in
-      let range = holds_of (IsRuleInRange u.machine.states u.machine.symbols) u.machine.rules found.0 k.machine.in_range found.1 in
+      let range = holds_of (IsRuleInRange u.machine.states u.machine.symbols) u.machine.rules found.0 k.machine.in_range
+      found.1 in
       subst (λ (s : Rule ℕ). (s.from < u.machine.states) × (s.to < u.machine.states)) found.2 (range.to, range.from)
 
   rules_low : (r : Rule ℕ) → IsIn rules r → (r.from < length names) × (r.to < length names)
   rules_low r there =
       elim (in_append t.machine.rules (rename (new_state m) (exchanged_list (turned_list u.machine.rules))) r there) [
         | inl first ↦
-            let range = holds_of (IsRuleInRange t.machine.states t.machine.symbols) t.machine.rules r h.machine.in_range first in
+            let range = holds_of (IsRuleInRange t.machine.states t.machine.symbols) t.machine.rules r h.machine.in_range
+            first in
             let some : 0 < u.machine.states = omega (arith, length-others) in
             (omega (arith, range.from, length-names), omega (arith, range.to, length-names))
         | inr second ↦
             let found = from_map (renamed (new_state m)) (exchanged_list (turned_list u.machine.rules)) r second in
             let low = backward_low found.0 found.1 in
-            subst (λ (s : Rule ℕ). (s.from < length names) × (s.to < length names)) found.2 (new_low found.0.from low.0, new_low found.0.to low.1)
+            subst (λ (s : Rule ℕ). (s.from < length names) × (s.to < length names)) found.2
+            (new_low found.0.from low.0, new_low found.0.to low.1)
       ]
 
   first_list : rename (name_at (First GoRight) names) t.machine.rules ≡ rename First (bennett p)
   first_list =
       rename_same (name_at (First GoRight) names) (λ s. First (name_of t s)) t.machine.rules (λ r there.
-      let range = holds_of (IsRuleInRange t.machine.states t.machine.symbols) t.machine.rules r h.machine.in_range there in
+      let range = holds_of (IsRuleInRange t.machine.states t.machine.symbols) t.machine.rules r h.machine.in_range there
+      in
       (first_named r.from range.from, first_named r.to range.to))
       ∙ sym (rename_twice First (name_of t) t.machine.rules)
       ∙ ap (rename First) h.rules
 
-  second_list : rename (name_at (First GoRight) names) (rename (new_state m) (exchanged_list (turned_list u.machine.rules))) ≡ rename (second_name p q) (backward q)
+  second_list : rename (name_at (First GoRight) names) (rename (new_state m)
+      (exchanged_list (turned_list u.machine.rules))) ≡ rename (second_name p q) (backward q)
   second_list =
       let back : List (Rule ℕ) = exchanged_list (turned_list u.machine.rules) in
       rename_twice (name_at (First GoRight) names) (new_state m) back
-      ∙ rename_same (λ s. name_at (First GoRight) names (new_state m s)) (λ s. second_name p q (name_of u s)) back (λ r there.
+      ∙ rename_same (λ s. name_at (First GoRight) names (new_state m s)) (λ s. second_name p q (name_of u s)) back
+      (λ r there.
       let low = backward_low r there in
       (second_named r.from low.0, second_named r.to low.1))
       ∙ sym (rename_twice (second_name p q) (name_of u) back)
-      ∙ ap (rename (second_name p q)) (rename_backward (name_of u) u.machine.rules ∙ ap (λ rs. exchanged_list (turned_list rs)) k.rules)
+      ∙ ap (rename (second_name p q)) (rename_backward (name_of u) u.machine.rules
+      ∙ ap (λ rs. exchanged_list (turned_list rs)) k.rules)
 
   joint_list : rename (name_at (First GoRight) names) rules ≡ erasing p q
   unfolding first_half second_half
   joint_list =
-      map-append (renamed (name_at (First GoRight) names)) t.machine.rules (rename (new_state m) (exchanged_list (turned_list u.machine.rules)))
+      map-append (renamed (name_at (First GoRight) names)) t.machine.rules
+      (rename (new_state m) (exchanged_list (turned_list u.machine.rules)))
       ∙ (λ i. first_list i ++ second_list i)
 
   -- ---- each name has one number
@@ -202,8 +224,11 @@ module _ (p q : Program) (t u : Translation) (h : IsTranslation p t) (k : IsTran
   names_apart : Apart (λ x y. x ≢ y) names
   names_apart =
       apart_append (λ x y. x ≢ y) (map First t.names) (map Second others)
-      (apart_map (λ x y. x ≢ y) First t.names (apart_weaker (λ x y. x ≢ y) (λ x y. First x ≢ First y) t.names (λ x y other e. other (cc)) (numbers_apart (bennett p) t.names first_order)))
-      (apart_map (λ x y. x ≢ y) Second others (apart_weaker (λ x y. x ≢ y) (λ x y. Second x ≢ Second y) others (λ x y other e. other (cc)) (apart_without (λ x y. x ≢ y) m.end u.names (numbers_apart (bennett q) u.names second_order))))
+      (apart_map (λ x y. x ≢ y) First t.names (apart_weaker (λ x y. x ≢ y) (λ x y. First x ≢ First y) t.names
+      (λ x y other e. other (cc)) (numbers_apart (bennett p) t.names first_order)))
+      (apart_map (λ x y. x ≢ y) Second others (apart_weaker (λ x y. x ≢ y) (λ x y. Second x ≢ Second y) others
+      (λ x y other e. other (cc)) (apart_without (λ x y. x ≢ y) m.end u.names
+      (numbers_apart (bennett q) u.names second_order))))
       (λ v w one two e.
       let a = from_map First t.names v one in
       let b = from_map Second others w two in
@@ -214,22 +239,27 @@ module _ (p q : Program) (t u : Translation) (h : IsTranslation p t) (k : IsTran
     named_in : (name : ErasingName) → IsErasingName p q name → IsIn names name
     named_in (First name) there =
         in_left (map First t.names) (map Second others) (First name)
-        (in_map First t.names name (numbers_in (bennett p) t.names first_order name ((listed p left.some name).1 there)))
+        (in_map First t.names name (numbers_in (bennett p) t.names first_order name
+        ((listed p left.some name).1 there)))
     named_in (Second name) there =
         in_right (map First t.names) (map Second others) (Second name)
-        (in_map Second others name (others_stay m.end u.names name (final_name q) end_stands there.1 (numbers_in (bennett q) u.names second_order name ((listed q right.some name).1 there.0))))
+        (in_map Second others name (others_stay m.end u.names name (final_name q) end_stands there.1
+        (numbers_in (bennett q) u.names second_order name ((listed q right.some name).1 there.0))))
 
     in_named : (name : ErasingName) → IsIn names name → IsErasingName p q name
     in_named name there =
         elim (in_append (map First t.names) (map Second others) name there) [
           | inl one ↦
               let a = from_map First t.names name one in
-              subst (IsErasingName p q) a.2 ((listed p left.some a.0).0 (in_numbers (bennett p) t.names first_order a.0 a.1))
+              subst (IsErasingName p q) a.2 ((listed p left.some a.0).0
+              (in_numbers (bennett p) t.names first_order a.0 a.1))
           | inr two ↦
               let b = from_map Second others name two in
               subst (IsErasingName p q) b.2 (
-                (listed q right.some b.0).0 (in_numbers (bennett q) u.names second_order b.0 (in_without m.end u.names b.0 b.1)),
-                left_out m.end u.names b.0 (final_name q) (numbers_apart (bennett q) u.names second_order) end_stands b.1,
+                (listed q right.some b.0).0 (in_numbers (bennett q) u.names second_order b.0
+                    (in_without m.end u.names b.0 b.1)),
+                left_out m.end u.names b.0 (final_name q) (numbers_apart (bennett q) u.names second_order) end_stands
+                    b.1,
               )
         ]
 
@@ -245,13 +275,16 @@ module _ (p q : Program) (t u : Translation) (h : IsTranslation p t) (k : IsTran
     rules_erasing small = record {
       list = ap (rename (name_at (First GoRight) names)) (rules_of-quads rules) ∙ joint_list;
       kept = ap (map quad_of) (rules_of-quads rules);
-      below = All-map (IsBelow (length names)) quad_of rules (all_from (λ r. IsBelow (length names) (quad_of r)) rules (λ r there. let low = rules_low r there in record { state = low.0; next = low.1 }));
+      below = All-map (IsBelow (length names)) quad_of rules (all_from (λ r. IsBelow (length names) (quad_of r)) rules
+          (λ r there. let low = rules_low r there in record { state = low.0; next = low.1 }));
       numbered = names_number;
       few = omega (arith, length-names);
     }
 
     -- names and quadruples as they are made
-    pub are_erasing : (made : List ErasingName) (quads : List Quad) → t.machine.states + u.machine.states < 2 ^ 32 → made ≡ joint_names t.names u.names m.end → quads ≡ joint_quads m t.machine.rules u.machine.rules → AreErasing p q made quads
+    pub are_erasing : (made : List ErasingName) (quads : List Quad) → t.machine.states + u.machine.states < 2 ^ 32
+        → made ≡ joint_names t.names u.names m.end → quads ≡ joint_quads m t.machine.rules u.machine.rules
+        → AreErasing p q made quads
     are_erasing made quads small e f =
         let same : made ≡ names = e ∙ ap (λ ns. map First t.names ++ map Second ns) (without_is m.end u.names) in
         let kept : quads ≡ map quad_of rules = f ∙ joint_kept m t.machine.rules u.machine.rules in

@@ -1,5 +1,6 @@
 -- The joint alphabet of two machines, and the codes of their symbols in it.
-use Rattle.std.specs.Prelude.{◌≡◌, ◌≢◌, ℕ, zero, suc, ◌<◌, ◌≤◌, ◌⊎◌, ◌||◌, ◌==◌, List, [], ◌∷◌, Bool, true, false, cond, not, filter, slice_get, Some}
+use Rattle.std.specs.Prelude.{◌≡◌, ◌≢◌, ℕ, zero, suc, ◌<◌, ◌≤◌, ◌⊎◌, ◌||◌, ◌==◌, List, [], ◌∷◌, Bool, true, false, cond}
+use Rattle.std.specs.Prelude.{not, filter, slice_get, Some}
 use Rattle.std.specs.List.{list_any}
 use Rattle.std.proofs.Common.{refl, sym, ap, ◌∙◌, subst, arith, get_or, inl, inr}
 use Rattle.std.proofs.lemmas.Bool.{cases_lt}
@@ -14,17 +15,20 @@ use Rattle.bn_erase.specs.Laws.{CodesKeepSymbols, JointAlphabet}
 
 -- ---- filtered lists
 
-in_kept : {X : Type 0} (b : Bool) (x y : X) (xs : List X) → IsIn (cond b (x ∷ xs) xs) y → ((b ≡ true) × (x ≡ y)) ⊎ IsIn xs y
+in_kept : {X : Type 0} (b : Bool) (x y : X) (xs : List X) → IsIn (cond b (x ∷ xs) xs) y
+    → ((b ≡ true) × (x ≡ y)) ⊎ IsIn xs y
 in_kept true x y xs h = elim (in_cases x y xs h) [ inl same ↦ inl (refl, same) | inr further ↦ inr further ]
 in_kept false x y xs h = inr h
 
-kept_in : {X : Type 0} (b : Bool) (x y : X) (xs : List X) → ((b ≡ true) × (x ≡ y)) ⊎ IsIn xs y → IsIn (cond b (x ∷ xs) xs) y
+kept_in : {X : Type 0} (b : Bool) (x y : X) (xs : List X) → ((b ≡ true) × (x ≡ y)) ⊎ IsIn xs y
+    → IsIn (cond b (x ∷ xs) xs) y
 kept_in true x y xs (inl h) = subst (IsIn (x ∷ xs)) h.1 (in_head x xs)
 kept_in true x y xs (inr further) = in_tail x y xs further
 kept_in false x y xs (inl h) = absurd (let e = h.0 in cc)
 kept_in false x y xs (inr further) = further
 
-from_filter : {X : Type 0} (test : X → Bool) (xs : List X) (y : X) → IsIn (filter test xs) y → IsIn xs y × (test y ≡ true)
+from_filter : {X : Type 0} (test : X → Bool) (xs : List X) (y : X) → IsIn (filter test xs) y
+    → IsIn xs y × (test y ≡ true)
 from_filter test [] y h = absurd (not_in_empty y h)
 from_filter test (x ∷ xs) y h =
     elim (in_kept (test x) x y (filter test xs) h) [
@@ -32,7 +36,8 @@ from_filter test (x ∷ xs) y h =
       | inr further ↦ let found = from_filter test xs y further in (in_tail x y xs found.0, found.1)
     ]
 
-pub in_filter : {X : Type 0} (test : X → Bool) (xs : List X) (y : X) → IsIn xs y → test y ≡ true → IsIn (filter test xs) y
+pub in_filter : {X : Type 0} (test : X → Bool) (xs : List X) (y : X) → IsIn xs y → test y ≡ true
+    → IsIn (filter test xs) y
 in_filter test [] y h passes = absurd (not_in_empty y h)
 in_filter test (x ∷ xs) y h passes =
     elim (in_cases x y xs h) [
@@ -40,13 +45,15 @@ in_filter test (x ∷ xs) y h passes =
       | inr further ↦ kept_in (test x) x y (filter test xs) (inr (in_filter test xs y further passes))
     ]
 
-kept_apart : {X : Type 0} (R : X → X → Type 0) (b : Bool) (x : X) (xs : List X) → ((y : X) → IsIn xs y → R x y) → Apart R xs → Apart R (cond b (x ∷ xs) xs)
+kept_apart : {X : Type 0} (R : X → X → Type 0) (b : Bool) (x : X) (xs : List X) → ((y : X) → IsIn xs y → R x y)
+    → Apart R xs → Apart R (cond b (x ∷ xs) xs)
 kept_apart R true x xs each a = (each, a)
 kept_apart R false x xs each a = a
 
 apart_filter : {X : Type 0} (R : X → X → Type 0) (test : X → Bool) (xs : List X) → Apart R xs → Apart R (filter test xs)
 apart_filter R test [] a = tt
-apart_filter R test (x ∷ xs) a = kept_apart R (test x) x (filter test xs) (λ y h. a.0 y (from_filter test xs y h).0) (apart_filter R test xs a.1)
+apart_filter R test (x ∷ xs) a = kept_apart R (test x) x (filter test xs) (λ y h. a.0 y (from_filter test xs y h).0)
+    (apart_filter R test xs a.1)
 
 -- ---- letters
 
@@ -77,19 +84,29 @@ in_among (x ∷ letters) l e =
 -- ---- alphabets
 
 pub letters_apart : (blank : ℕ) (letters : List ℕ) → IsAlphabet blank letters → Apart (λ x y. x ≢ y) letters
-letters_apart blank letters a = apart_from_places (λ x y. x ≢ y) letters (λ i j v w low h k same. absurd (by_places i j v w low h k same))
+letters_apart blank letters a = apart_from_places (λ x y. x ≢ y) letters
+    (λ i j v w low h k same. absurd (by_places i j v w low h k same))
   where
     by_places : (i j v w : ℕ) → i < j → nth letters i ≡ Some v → nth letters j ≡ Some w → v ≡ w → ⊥
     by_places zero j v w low h k same = cc
     by_places (suc i) zero v w low h k same = absurd (omega arith)
-    by_places (suc i) (suc j) v w low h k same = let equal : i ≡ j = a.apart i j w (h ∙ ap Some same) k in absurd (omega arith)
+    by_places (suc i) (suc j) v w low h k same = let equal : i ≡ j =
+        a.apart i j w (h ∙ ap Some same) k in absurd (omega arith)
 
-apart_alphabet : (blank : ℕ) (letters : List ℕ) → slice_get letters 0 ≡ Some blank → Apart (λ x y. x ≢ y) letters → IsAlphabet blank letters
-apart_alphabet blank letters begins a = record { begins = begins; apart = λ m n l e f. by_order m n l e f (cases_lt m n) (cases_lt n m) }
+apart_alphabet : (blank : ℕ) (letters : List ℕ) → slice_get letters 0 ≡ Some blank → Apart (λ x y. x ≢ y) letters
+    → IsAlphabet blank letters
+apart_alphabet blank letters begins a = record {
+  begins = begins;
+  apart = λ m n l e f. by_order m n l e f (cases_lt m n)
+      (cases_lt n m);
+}
   where
-    by_order : (m n l : ℕ) → slice_get letters m ≡ Some l → slice_get letters n ≡ Some l → (m < n) ⊎ (n ≤ m) → (n < m) ⊎ (m ≤ n) → m ≡ n
-    by_order m n l e f (inl low) other = absurd (apart_places (λ x y. x ≢ y) letters (suc m) (suc n) l l a (omega arith) e f refl)
-    by_order m n l e f (inr high) (inl low) = absurd (apart_places (λ x y. x ≢ y) letters (suc n) (suc m) l l a (omega arith) f e refl)
+    by_order : (m n l : ℕ) → slice_get letters m ≡ Some l → slice_get letters n ≡ Some l → (m < n) ⊎ (n ≤ m)
+        → (n < m) ⊎ (m ≤ n) → m ≡ n
+    by_order m n l e f (inl low) other = absurd (apart_places (λ x y. x ≢ y) letters (suc m) (suc n) l l a (omega arith)
+        e f refl)
+    by_order m n l e f (inr high) (inl low) = absurd (apart_places (λ x y. x ≢ y) letters (suc n) (suc m) l l a
+        (omega arith) f e refl)
     by_order m n l e f (inr high) (inr low) = omega arith
 
 module _ (blank : ℕ) (first second : List ℕ) (one : IsAlphabet blank first) (two : IsAlphabet blank second) where
@@ -98,7 +115,8 @@ module _ (blank : ℕ) (first second : List ℕ) (one : IsAlphabet blank first) 
 
   joint_apart : Apart (λ x y. x ≢ y) (joint_letters first second)
   joint_apart =
-      apart_append (λ x y. x ≢ y) first (filter test second) (letters_apart blank first one) (apart_filter (λ x y. x ≢ y) test second (letters_apart blank second two))
+      apart_append (λ x y. x ≢ y) first (filter test second) (letters_apart blank first one)
+      (apart_filter (λ x y. x ≢ y) test second (letters_apart blank second two))
       (λ v w h k same.
       let found : test w ≡ true = (from_filter test second w k).1 in
       let there : is_among first w ≡ true = among_in first w (subst (IsIn first) same h) in
@@ -115,13 +133,15 @@ second_in first second l h = by_test (is_among first l) refl
     by_test : (b : Bool) → is_among first l ≡ b → IsIn (joint_letters first second) l
     by_test true is = in_left first (filter (λ letter. not (is_among first letter)) second) l (in_among first l is)
     by_test false is =
-        in_right first (filter (λ letter. not (is_among first letter)) second) l (in_filter (λ letter. not (is_among first letter)) second l h (ap not is))
+        in_right first (filter (λ letter. not (is_among first letter)) second) l
+        (in_filter (λ letter. not (is_among first letter)) second l h (ap not is))
 
 -- ---- the laws
 
 pub joint_alphabet : JointAlphabet
 joint_alphabet blank first second one two = (
-  apart_alphabet blank (joint_letters first second) (joint_begins blank first second one two) (joint_apart blank first second one two),
+  apart_alphabet blank (joint_letters first second) (joint_begins blank first second one two)
+      (joint_apart blank first second one two),
   record { each = λ s l e. number_stays first (filter (λ letter. not (is_among first letter)) second) s l e },
   λ l h. second_in first second l h,
 )
@@ -135,7 +155,10 @@ codes_keep_symbols blank before after code one two codes = record {
   apart = λ a b low high same.
       let at_a = slice_get-get_or before a 0 low in
       let at_b = slice_get-get_or before b 0 high in
-      let letter : get_or before a 0 ≡ get_or before b 0 = some_once (sym (codes.each a (get_or before a 0) at_a) ∙ ap (slice_get after) same ∙ codes.each b (get_or before b 0) at_b) in
+      let letter : get_or before a 0 ≡ get_or before b 0 = some_once
+      (sym (codes.each a (get_or before a 0) at_a) ∙ ap (slice_get after) same
+      ∙ codes.each b (get_or before b 0) at_b) in
       one.apart a b (get_or before b 0) (at_a ∙ ap Some letter) at_b;
-  within = λ a low. slice_get_within after (code a) (get_or before a 0) (codes.each a (get_or before a 0) (slice_get-get_or before a 0 low));
+  within = λ a low. slice_get_within after (code a) (get_or before a 0)
+      (codes.each a (get_or before a 0) (slice_get-get_or before a 0 low));
 }

@@ -34,7 +34,8 @@ module _ (code : ℕ → ℕ) where
   same_states : (qs : List Quint) → states_in (map (recoded_quint code) qs) ≡ states_in qs
   same_states qs = flat_map-map (λ (q : Quint). q.state ∷ q.next ∷ []) (recoded_quint code) qs
 
-module _ (code : ℕ → ℕ) (symbols : ℕ) (p : Program) (keeps : KeepsSymbols code p.symbols symbols) (machine : IsMachine p) where
+module _ (code : ℕ → ℕ) (symbols : ℕ) (p : Program) (keeps : KeepsSymbols code p.symbols symbols)
+    (machine : IsMachine p) where
   abbrev after : List Quint
   after = map (recoded_quint code) p.quints
 
@@ -57,7 +58,12 @@ module _ (code : ℕ → ℕ) (symbols : ℕ) (p : Program) (keeps : KeepsSymbol
   begins_after h = record {
     quint = recoded_quint code h.quint;
     stands = nth_mapped (recoded_quint code) p.quints 1 h.quint h.stands;
-    begins = record { reads = ap code h.begins.reads ∙ keeps.blank; writes = ap code h.begins.writes ∙ keeps.blank; shifts = h.begins.shifts };
+    begins = record {
+      reads = ap code h.begins.reads ∙ keeps.blank;
+      writes = ap code h.begins.writes
+          ∙ keeps.blank;
+      shifts = h.begins.shifts;
+    };
   }
 
   uses_start_after : (i : ℕ) → UsesStart p.quints i → UsesStart after i
@@ -70,7 +76,8 @@ module _ (code : ℕ → ℕ) (symbols : ℕ) (p : Program) (keeps : KeepsSymbol
   ends_after : EndsWell p.quints → EndsWell after
   ends_after h = record {
     quint = recoded_quint code h.quint;
-    stands = subst (λ n. nth after n ≡ Some (recoded_quint code h.quint)) (sym (same_length code p.quints)) (nth_mapped (recoded_quint code) p.quints (length p.quints) h.quint h.stands);
+    stands = subst (λ n. nth after n ≡ Some (recoded_quint code h.quint)) (sym (same_length code p.quints))
+        (nth_mapped (recoded_quint code) p.quints (length p.quints) h.quint h.stands);
     ends = record {
       reads = ap code h.ends.reads ∙ keeps.blank;
       writes = ap code h.ends.writes ∙ keeps.blank;
@@ -84,7 +91,8 @@ module _ (code : ℕ → ℕ) (symbols : ℕ) (p : Program) (keeps : KeepsSymbol
     quint = recoded_quint code h.quint;
     stands = nth_mapped (recoded_quint code) p.quints i h.quint h.stands;
     names = subst (λ n. NamesFinal (final_of after) n i (recoded_quint code h.quint)) (sym (same_length code p.quints))
-        (subst (λ s. NamesFinal s (length p.quints) i (recoded_quint code h.quint)) (sym (same_final code p.quints)) h.names);
+        (subst (λ s. NamesFinal s (length p.quints) i (recoded_quint code h.quint)) (sym (same_final code p.quints))
+        h.names);
   }
 
   -- ---- and back
@@ -93,7 +101,8 @@ module _ (code : ℕ → ℕ) (symbols : ℕ) (p : Program) (keeps : KeepsSymbol
   repeats_before i j h =
       let a = mapped_before (recoded_quint code) p.quints i h.first h.first_stands in
       let b = mapped_before (recoded_quint code) p.quints j h.second h.second_stands in
-      let reads : code a.0.read ≡ code b.0.read = ap (λ (q : Quint). q.read) a.2 ∙ h.clashes.read ∙ sym (ap (λ (q : Quint). q.read) b.2) in
+      let reads : code a.0.read ≡ code b.0.read = ap (λ (q : Quint). q.read) a.2 ∙ h.clashes.read
+      ∙ sym (ap (λ (q : Quint). q.read) b.2) in
       record {
         first = a.0;
         second = b.0;
@@ -102,7 +111,8 @@ module _ (code : ℕ → ℕ) (symbols : ℕ) (p : Program) (keeps : KeepsSymbol
         clashes = record {
           before = h.clashes.before;
           state = ap (λ (q : Quint). q.state) a.2 ∙ h.clashes.state ∙ sym (ap (λ (q : Quint). q.state) b.2);
-          read = keeps.apart a.0.read b.0.read (quint_in_range p i a.0 machine a.1).read (quint_in_range p j b.0 machine b.1).read reads;
+          read = keeps.apart a.0.read b.0.read (quint_in_range p i a.0 machine a.1).read
+              (quint_in_range p j b.0 machine b.1).read reads;
         };
       }
 
@@ -126,12 +136,14 @@ module _ (code : ℕ → ℕ) (symbols : ℕ) (p : Program) (keeps : KeepsSymbol
       record {
         quint = a.0;
         stands = a.1;
-        names = subst (λ s. NamesStart s i (recoded_quint code a.0)) (same_start code p.quints) (subst (λ q. NamesStart (start_of after) i q) (sym a.2) h.names);
+        names = subst (λ s. NamesStart s i (recoded_quint code a.0)) (same_start code p.quints)
+            (subst (λ q. NamesStart (start_of after) i q) (sym a.2) h.names);
       }
 
   ends_before : EndsWell after → EndsWell p.quints
   ends_before h =
-      let a = mapped_before (recoded_quint code) p.quints (length p.quints) h.quint (subst (λ n. nth after n ≡ Some h.quint) (same_length code p.quints) h.stands) in
+      let a = mapped_before (recoded_quint code) p.quints (length p.quints) h.quint
+      (subst (λ n. nth after n ≡ Some h.quint) (same_length code p.quints) h.stands) in
       let range = quint_in_range p (length p.quints) a.0 machine a.1 in
       record {
         quint = a.0;
@@ -151,7 +163,8 @@ module _ (code : ℕ → ℕ) (symbols : ℕ) (p : Program) (keeps : KeepsSymbol
         quint = a.0;
         stands = a.1;
         names = subst (λ n. NamesFinal (final_of p.quints) n i (recoded_quint code a.0)) (same_length code p.quints)
-            (subst (λ s. NamesFinal s (length after) i (recoded_quint code a.0)) (same_final code p.quints) (subst (λ q. NamesFinal (final_of after) (length after) i q) (sym a.2) h.names));
+            (subst (λ s. NamesFinal s (length after) i (recoded_quint code a.0)) (same_final code p.quints)
+            (subst (λ q. NamesFinal (final_of after) (length after) i q) (sym a.2) h.names));
       }
 
   pub recoded_alike : AreAlike p.quints (map (recoded_quint code) p.quints)
@@ -165,18 +178,23 @@ module _ (code : ℕ → ℕ) (symbols : ℕ) (p : Program) (keeps : KeepsSymbol
 
 -- ---- machines
 
-recoded_in_range : (code : ℕ → ℕ) (states before symbols : ℕ) → ((s : ℕ) → s < before → code s < symbols) → (q : Quint) → IsInRange states before q → IsInRange states symbols (recoded_quint code q)
-recoded_in_range code states before symbols within q h = record { state = h.state; read = within q.read h.read; write = within q.write h.write; next = h.next }
+recoded_in_range : (code : ℕ → ℕ) (states before symbols : ℕ) → ((s : ℕ) → s < before → code s < symbols) → (q : Quint)
+    → IsInRange states before q → IsInRange states symbols (recoded_quint code q)
+recoded_in_range code states before symbols within q h = record
+    { state = h.state; read = within q.read h.read; write = within q.write h.write; next = h.next }
 
-pub recoded_machine : (code : ℕ → ℕ) (symbols : ℕ) (p : Program) → IsMachine p → ((s : ℕ) → s < p.symbols → code s < symbols) → IsMachine (recoded code symbols p)
+pub recoded_machine : (code : ℕ → ℕ) (symbols : ℕ) (p : Program) → IsMachine p
+    → ((s : ℕ) → s < p.symbols → code s < symbols) → IsMachine (recoded code symbols p)
 recoded_machine code symbols p m within = record {
   some = omega (arith, m.some, same_length code p.quints);
   few = omega (arith, m.few, same_length code p.quints);
-  in_range = All-map (IsInRange p.states symbols) (recoded_quint code) p.quints (λ k d low. recoded_in_range code p.states p.symbols symbols within (get_or p.quints k d) (m.in_range k d low));
+  in_range = All-map (IsInRange p.states symbols) (recoded_quint code) p.quints
+      (λ k d low. recoded_in_range code p.states p.symbols symbols within (get_or p.quints k d) (m.in_range k d low));
 }
 
 -- as tables have them, where there aren't too many symbols
-pub recoded_fits : (code : ℕ → ℕ) (symbols : ℕ) (p : Program) → FitsTable p → symbols ≤ 91 → FitsTable (recoded code symbols p)
+pub recoded_fits : (code : ℕ → ℕ) (symbols : ℕ) (p : Program) → FitsTable p → symbols ≤ 91
+    → FitsTable (recoded code symbols p)
 recoded_fits code symbols p f few = record {
   numbered = subst (λ ns. AreNumberedByFirst ns p.states) (sym (same_states code p.quints)) f.numbered;
   quints = omega (arith, f.quints, same_length code p.quints);
@@ -192,5 +210,6 @@ widened_fits symbols p f few = record { numbered = f.numbered; quints = f.quints
 pub recoded_is_standard : RecodedIsStandard
 recoded_is_standard p code symbols keeps standard = record {
   machine = recoded_machine code symbols p standard.machine keeps.within;
-  standard = (alike_standard p.quints (map (recoded_quint code) p.quints) (recoded_alike code symbols p keeps standard.machine)).0 standard.standard;
+  standard = (alike_standard p.quints (map (recoded_quint code) p.quints)
+      (recoded_alike code symbols p keeps standard.machine)).0 standard.standard;
 }

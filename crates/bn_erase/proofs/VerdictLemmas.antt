@@ -1,7 +1,8 @@
 -- Lists of quintuples that meet the same demands of standard form get the same verdict.
 use Rattle.std.specs.Prelude.{◌↔◌, ℕ, List}
 use Rattle.bn_machine.specs.declared.quint.Quint.{Quint}
-use Rattle.bn_standard.specs.Standard.{BeginsWell, EndsWell, HasLoneFinal, HasLoneStart, IsStandard, IsUnambiguous, Repeats, UsesFinal, UsesStart}
+use Rattle.bn_standard.specs.Standard.{BeginsWell, EndsWell, HasLoneFinal, HasLoneStart, IsStandard, IsUnambiguous}
+use Rattle.bn_standard.specs.Standard.{Repeats, UsesFinal, UsesStart}
 use Rattle.bn_standard.specs.Verdict.{IsStandardRefusal}
 use Rattle.bn_standard.specs.declared.why.Why.{Why}
 use Rattle.bn_standard.specs.declared.why.Why.TheVariants.{Repeat, First, StartUsed, Last, FinalUsed, NoMemory}
@@ -68,5 +69,6 @@ module _ (qs rs : List Quint) (a : AreAlike qs rs) where
 pub alike_standard : (qs rs : List Quint) → AreAlike qs rs → IsStandard qs ↔ IsStandard rs
 alike_standard qs rs a = (standard_too qs rs a, standard_too rs qs (alike_again qs rs a))
 
-pub alike_refused : (qs rs : List Quint) → AreAlike qs rs → (why : Why) → IsStandardRefusal qs why ↔ IsStandardRefusal rs why
+pub alike_refused : (qs rs : List Quint) → AreAlike qs rs → (why : Why)
+    → IsStandardRefusal qs why ↔ IsStandardRefusal rs why
 alike_refused qs rs a why = (refused_too qs rs a why, refused_too rs qs (alike_again qs rs a) why)

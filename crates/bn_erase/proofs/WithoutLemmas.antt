@@ -1,5 +1,6 @@
 -- Lists without one of their entries.
-use Rattle.std.specs.Prelude.{◌≡◌, ◌≢◌, ℕ, zero, suc, ◌+◌, ◌<◌, ◌≤◌, List, [], ◌∷◌, ◌++◌, length, take, drop, Some, slice_get}
+use Rattle.std.specs.Prelude.{◌≡◌, ◌≢◌, ℕ, zero, suc, ◌+◌, ◌<◌, ◌≤◌, List, [], ◌∷◌, ◌++◌, length, take, drop, Some}
+use Rattle.std.specs.Prelude.{slice_get}
 use Rattle.std.proofs.Common.{refl, sym, ap, ◌∙◌, subst, arith, inl, inr, get_or, add-one}
 use Rattle.std.proofs.lemmas.Option.{same_Some}
 use Rattle.bn_lists.specs.Lists.{IsIn}
@@ -39,7 +40,8 @@ module _ {X : Type 0} where
       ]
 
   -- any other entry stays
-  pub others_stay : (k : ℕ) (xs : List X) (y z : X) → slice_get xs k ≡ Some z → y ≢ z → IsIn xs y → IsIn (without k xs) y
+  pub others_stay : (k : ℕ) (xs : List X) (y z : X) → slice_get xs k ≡ Some z → y ≢ z → IsIn xs y
+      → IsIn (without k xs) y
   others_stay k [] y z at other h = h
   others_stay zero (x ∷ xs) y z at other h =
       elim (in_cases x y xs h) [ inl same ↦ absurd (other (sym same ∙ same_Some x z at)) | inr further ↦ further ]
@@ -50,7 +52,8 @@ module _ {X : Type 0} where
       ]
 
   -- without repeats, that one is gone
-  pub left_out : (k : ℕ) (xs : List X) (y z : X) → Apart (λ v w. v ≢ w) xs → slice_get xs k ≡ Some z → IsIn (without k xs) y → y ≢ z
+  pub left_out : (k : ℕ) (xs : List X) (y z : X) → Apart (λ v w. v ≢ w) xs → slice_get xs k ≡ Some z
+      → IsIn (without k xs) y → y ≢ z
   left_out k [] y z apart at h = absurd (not_in_empty y h)
   left_out zero (x ∷ xs) y z apart at h = λ same. apart.0 y h (same_Some x z at ∙ sym same)
   left_out (suc k) (x ∷ xs) y z apart at h =

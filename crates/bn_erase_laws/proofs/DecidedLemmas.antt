@@ -1,15 +1,18 @@
--- Whether some quadruple of a list applies can be decided, where states can be told apart; so a run of at most n steps comes to an end, or makes all n.
+-- Whether some quadruple of a list applies can be decided, where states can be told apart; so a run of at most n steps
+-- comes to an end, or makes all n.
 use Rattle.std.specs.Prelude.{◌≡◌, ◌≢◌, ℕ, zero, suc, ◌≤◌, ◌⊎◌, List, [], ◌∷◌}
 use Rattle.std.proofs.Common.{refl, sym, ap, ◌∙◌, subst, arith, inl, inr}
 use Rattle.std.proofs.lemmas.Bool.Decides.{eqb_tells}
 use Rattle.bn_lists.specs.Runs.{Reaches}
 use Rattle.bn_machine.specs.Tape.{Tape, scanned}
-use Rattle.bn_quad.specs.Quadruples.{Deed, Rewrite, Move, Rule, Configuration, DeedApplies, AppliesTo, after, HasNoRule, everywhere}
+use Rattle.bn_quad.specs.Quadruples.{Deed, Rewrite, Move, Rule, Configuration, DeedApplies, AppliesTo, after, HasNoRule}
+use Rattle.bn_quad.specs.Quadruples.{everywhere}
 use Rattle.bn_lists.specs.Lists.{IsIn}
 use Rattle.bn_bennett_laws.proofs.MembershipLemmas.{in_head, in_tail, in_cases, not_in_empty}
 use Rattle.bn_bennett_laws.specs.Steps.{Steps}
 use Rattle.bn_bennett_laws.specs.declared.name.Name.{Name}
-use Rattle.bn_bennett_laws.specs.declared.name.Name.TheVariants.{Compute, ComputeWithin, GoRight, CopyLetter, GoLeft, PassLetter, Retrace, RetraceWithin}
+use Rattle.bn_bennett_laws.specs.declared.name.Name.TheVariants.{Compute, ComputeWithin, GoRight, CopyLetter, GoLeft}
+use Rattle.bn_bennett_laws.specs.declared.name.Name.TheVariants.{PassLetter, Retrace, RetraceWithin}
 use Rattle.bn_erase_laws.specs.declared.name.ErasingName.{ErasingName}
 use Rattle.bn_erase_laws.specs.declared.name.ErasingName.TheVariants.{First, Second}
 
@@ -68,15 +71,18 @@ same_name a b =
     ]
 
 pub same_erasing_name : (a b : ErasingName) → (a ≡ b) ⊎ (a ≢ b)
-same_erasing_name (First a) (First b) = elim (same_name a b) [ inl same ↦ inl (ap First same) | inr other ↦ inr (λ e. other (cc)) ]
+same_erasing_name (First a) (First b) = elim (same_name a b)
+    [ inl same ↦ inl (ap First same) | inr other ↦ inr (λ e. other (cc)) ]
 same_erasing_name (First a) (Second b) = inr (λ e. cc)
 same_erasing_name (Second a) (First b) = inr (λ e. cc)
-same_erasing_name (Second a) (Second b) = elim (same_name a b) [ inl same ↦ inl (ap Second same) | inr other ↦ inr (λ e. other (cc)) ]
+same_erasing_name (Second a) (Second b) = elim (same_name a b)
+    [ inl same ↦ inl (ap Second same) | inr other ↦ inr (λ e. other (cc)) ]
 
 -- ---- quadruples
 
 admits_or_not : (d : Deed) (t : Tape) → DeedApplies d t ⊎ (DeedApplies d t → ⊥)
-admits_or_not (Rewrite read written) t = elim (eqb_tells (scanned t) read) [ inl same ↦ inl same.1 | inr other ↦ inr other.1 ]
+admits_or_not (Rewrite read written) t = elim (eqb_tells (scanned t) read)
+    [ inl same ↦ inl same.1 | inr other ↦ inr other.1 ]
 admits_or_not (Move s) t = inl tt
 
 module _ {Q : Type 0} (told_apart : (a b : Q) → (a ≡ b) ⊎ (a ≢ b)) where
@@ -97,14 +103,19 @@ module _ {Q : Type 0} (told_apart : (a b : Q) → (a ≡ b) ⊎ (a ≢ b)) where
       ]
 
   -- a quadruple of the list that applies, or none applies
-  some_or_none : (rs : List (Rule Q)) (c : Configuration Q) → ((r : Rule Q) × IsIn rs r × AppliesTo r c) ⊎ ((r : Rule Q) → IsIn rs r → AppliesTo r c → ⊥)
+  some_or_none : (rs : List (Rule Q)) (c : Configuration Q) → ((r : Rule Q) × IsIn rs r × AppliesTo r c)
+      ⊎ ((r : Rule Q) → IsIn rs r → AppliesTo r c → ⊥)
   some_or_none [] c = inr (λ r h a. not_in_empty r h)
   some_or_none (s ∷ rs) c =
       elim (applies_or_not s c) [
         | inl applies ↦ inl (s, in_head s rs, applies)
         | inr first ↦ elim (some_or_none rs c) [
           | inl found ↦ inl (found.0, in_tail s found.0 rs found.1, found.2)
-          | inr rest ↦ inr (λ r h a. elim (in_cases s r rs h) [ inl same ↦ first (subst (λ t. AppliesTo t c) (sym same) a) | inr further ↦ rest r further a ])
+          | inr rest ↦ inr (λ r h a. elim (in_cases s r rs h) [
+            | inl same
+                ↦ first (subst (λ t. AppliesTo t c) (sym same) a)
+            | inr further ↦ rest r further a
+          ])
         ]
       ]
 
@@ -122,7 +133,11 @@ module _ {Q : Type 0} (told_apart : (a b : Q) → (a ≡ b) ⊎ (a ≢ b)) where
           | inr going ↦ elim (some_or_none rs c) [
             | inl found ↦ steps_on (after found.0 c) (record {
               going = going;
-              follows = record { number = found.1.place; leads = record { rule = found.0; stands = found.1.stands; leads = record { applies = found.2; gives = refl } } };
+              follows = record {
+                number = found.1.place;
+                leads = record
+                    { rule = found.0; stands = found.1.stands; leads = record { applies = found.2; gives = refl } };
+              };
               stays = record { one = tt; two = tt; three = tt };
             })
             | inr none ↦ has_none going (record { none = λ n r e a. none r (record { place = n; stands = e }) a })
@@ -149,13 +164,37 @@ module _ {Q : Type 0} (told_apart : (a b : Q) → (a ≡ b) ⊎ (a ≢ b)) where
     }
 
     none_goes : (c d : Configuration Q) → HasNoRule rs c → Steps everywhere rs final c d → ⊥
-    none_goes c d none s = none.none s.follows.number s.follows.leads.rule s.follows.leads.stands s.follows.leads.leads.applies
+    none_goes c d none s = none.none s.follows.number s.follows.leads.rule s.follows.leads.stands
+        s.follows.leads.leads.applies
 
     pub bounded : (n : ℕ) (c : Configuration Q) → Bounded n c
-    bounded zero c = record { made = 0; last = c; run = refl; in_time = omega arith; next = next_of c; all = λ d s. refl }
+    bounded zero c = record {
+      made = 0;
+      last = c;
+      run = refl;
+      in_time = omega arith;
+      next = next_of c;
+      all = λ d s. refl;
+    }
     bounded (suc n) c =
         elim (next_of c) [
-          | is_final is ↦ record { made = 0; last = c; run = refl; in_time = omega arith; next = is_final is; all = λ d s. absurd (s.going is) }
-          | has_none going none ↦ record { made = 0; last = c; run = refl; in_time = omega arith; next = has_none going none; all = λ d s. absurd (none_goes c d none s) }
+          | is_final is ↦ record {
+            made = 0;
+            last = c;
+            run = refl;
+            in_time = omega arith;
+            next = is_final is;
+            all = λ d
+                s. absurd (s.going is);
+          }
+          | has_none going none ↦ record {
+            made = 0;
+            last = c;
+            run = refl;
+            in_time = omega arith;
+            next = has_none going
+                none;
+            all = λ d s. absurd (none_goes c d none s);
+          }
           | steps_on d s ↦ bounded_more n c d s (bounded n d)
         ]

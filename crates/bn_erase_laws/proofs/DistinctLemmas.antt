@@ -37,14 +37,26 @@ module _ {X : Type 0} (told_apart : (a b : X) → (a ≡ b) ⊎ (a ≢ b)) where
   one_more x xs d (inl there) = record {
     list = d.list;
     apart = d.apart;
-    each = λ y h. elim (in_cases x y xs h) [ inl same ↦ subst (IsIn d.list) same there | inr further ↦ d.each y further ];
+    each = λ y h. elim (in_cases x y xs h) [
+      | inl same ↦ subst (IsIn d.list) same there
+      | inr further
+          ↦ d.each y further
+    ];
     only = λ y h. in_tail x y xs (d.only y h);
   }
   one_more x xs d (inr new) = record {
     list = x ∷ d.list;
     apart = (λ y h same. new (subst (IsIn d.list) (sym same) h), d.apart);
-    each = λ y h. elim (in_cases x y xs h) [ inl same ↦ subst (IsIn (x ∷ d.list)) same (in_head x d.list) | inr further ↦ in_tail x y d.list (d.each y further) ];
-    only = λ y h. elim (in_cases x y d.list h) [ inl same ↦ subst (IsIn (x ∷ xs)) same (in_head x xs) | inr further ↦ in_tail x y xs (d.only y further) ];
+    each = λ y h. elim (in_cases x y xs h) [
+      | inl same ↦ subst (IsIn (x ∷ d.list)) same (in_head x d.list)
+      | inr further
+          ↦ in_tail x y d.list (d.each y further)
+    ];
+    only = λ y h. elim (in_cases x y d.list h) [
+      | inl same ↦ subst (IsIn (x ∷ xs)) same (in_head x xs)
+      | inr further
+          ↦ in_tail x y xs (d.only y further)
+    ];
   }
 
   pub distinct : (xs : List X) → Distinct xs
@@ -66,9 +78,12 @@ module _ {Q : Type 0} (rs : List (Rule Q)) where
       by_place q zero e = absurd (cc)
       by_place q (suc i) e = (i, e)
 
-      by_order : (m n : ℕ) (q : Q) → slice_get d.list m ≡ Some q → slice_get d.list n ≡ Some q → (m < n) ⊎ (n ≤ m) → (n < m) ⊎ (m ≤ n) → m ≡ n
-      by_order m n q e f (inl low) other = absurd (apart_places (λ x y. x ≢ y) d.list (suc m) (suc n) q q d.apart (omega arith) e f refl)
-      by_order m n q e f (inr high) (inl low) = absurd (apart_places (λ x y. x ≢ y) d.list (suc n) (suc m) q q d.apart (omega arith) f e refl)
+      by_order : (m n : ℕ) (q : Q) → slice_get d.list m ≡ Some q → slice_get d.list n ≡ Some q → (m < n) ⊎ (n ≤ m)
+          → (n < m) ⊎ (m ≤ n) → m ≡ n
+      by_order m n q e f (inl low) other = absurd (apart_places (λ x y. x ≢ y) d.list (suc m) (suc n) q q d.apart
+          (omega arith) e f refl)
+      by_order m n q e f (inr high) (inl low) = absurd (apart_places (λ x y. x ≢ y) d.list (suc n) (suc m) q q d.apart
+          (omega arith) f e refl)
       by_order m n q e f (inr high) (inr low) = omega arith
 
   -- and a numbering has no repeats

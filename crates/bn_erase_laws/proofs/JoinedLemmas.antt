@@ -26,10 +26,18 @@ module _ {Q : Type 0} where
     pub leads : Leads rule c d
 
   pub leads_in : (rs : List (Rule Q)) (c d : Configuration Q) → Follows rs c d → LeadsIn rs c d
-  leads_in rs c d h = record { rule = h.leads.rule; stands = record { place = h.number; stands = h.leads.stands }; leads = h.leads.leads }
+  leads_in rs c d h = record {
+    rule = h.leads.rule;
+    stands = record { place = h.number; stands = h.leads.stands };
+    leads = h.leads.leads;
+  }
 
   pub follows_in : (rs : List (Rule Q)) (c d : Configuration Q) → LeadsIn rs c d → Follows rs c d
-  follows_in rs c d h = record { number = h.stands.place; leads = record { rule = h.rule; stands = h.stands.stands; leads = h.leads } }
+  follows_in rs c d h = record {
+    number = h.stands.place;
+    leads = record
+        { rule = h.rule; stands = h.stands.stands; leads = h.leads };
+  }
 
   to_state : (r : Rule Q) (c d : Configuration Q) → Leads r c d → d.state ≡ r.to
   to_state r c d l = ap (λ (x : Configuration Q). x.state) l.gives
@@ -45,15 +53,25 @@ module _ {Q : Type 0} where
     free_across Writes r s h k both = joins.enter_apart r s h k both.to
 
     pub joined_free : (clash : Clash) → HasNoClash clash rs → HasNoClash clash ss → HasNoClash clash (rs ++ ss)
-    joined_free clash a b = no_clash_of clash (rs ++ ss) (apart_append (AreFree clash) rs ss (free_of clash rs a) (free_of clash ss b) (λ r s h k. record { free = free_across clash r s h k }))
+    joined_free clash a b = no_clash_of clash (rs ++ ss) (apart_append (AreFree clash) rs ss (free_of clash rs a)
+        (free_of clash ss b) (λ r s h k. record { free = free_across clash r s h k }))
 
-    pub joined_uniform : IsUniformFrom initial middle rs → IsUniformFrom middle final ss → IsUniformFrom initial final (rs ++ ss)
+    pub joined_uniform : IsUniformFrom initial middle rs → IsUniformFrom middle final ss
+        → IsUniformFrom initial final (rs ++ ss)
     joined_uniform a b = record {
       reads = joined_free Reads a.reads b.reads;
       writes = joined_free Writes a.writes b.writes;
       active = λ r h. elim (in_append rs ss r h) [ inl left ↦ a.active r left | inr right ↦ b.active r right ];
-      not_entered = λ r h. elim (in_append rs ss r h) [ inl left ↦ a.not_entered r left | inr right ↦ joins.after_initial r right ];
-      not_left = λ r h. elim (in_append rs ss r h) [ inl left ↦ (joins.before_final r left).0 | inr right ↦ b.not_left r right ];
+      not_entered = λ r h. elim (in_append rs ss r h) [
+        | inl left ↦ a.not_entered r left
+        | inr right
+            ↦ joins.after_initial r right
+      ];
+      not_left = λ r h. elim (in_append rs ss r h) [
+        | inl left ↦ (joins.before_final r left).0
+        | inr right
+            ↦ b.not_left r right
+      ];
     }
 
     -- ---- runs
@@ -64,7 +82,11 @@ module _ {Q : Type 0} where
           let l = leads_in rs c d h.follows in
           record {
             going = λ is. (joins.before_final l.rule l.stands).0 (sym l.leads.applies.from ∙ is);
-            follows = follows_in (rs ++ ss) c d (record { rule = l.rule; stands = in_left rs ss l.rule l.stands; leads = l.leads });
+            follows = follows_in (rs ++ ss) c d (record {
+              rule = l.rule;
+              stands = in_left rs ss l.rule l.stands;
+              leads = l.leads;
+            });
             stays = h.stays;
           }
 
@@ -73,25 +95,34 @@ module _ {Q : Type 0} where
           let l = leads_in ss c d h.follows in
           record {
             going = h.going;
-            follows = follows_in (rs ++ ss) c d (record { rule = l.rule; stands = in_right rs ss l.rule l.stands; leads = l.leads });
+            follows = follows_in (rs ++ ss) c d (record {
+              rule = l.rule;
+              stands = in_right rs ss l.rule l.stands;
+              leads = l.leads;
+            });
             stays = h.stays;
           }
 
-      first_run : (n : ℕ) (c d : Configuration Q) → Reaches (Steps rooms rs middle) n c d → Reaches (Steps rooms (rs ++ ss) final) n c d
+      first_run : (n : ℕ) (c d : Configuration Q) → Reaches (Steps rooms rs middle) n c d
+          → Reaches (Steps rooms (rs ++ ss) final) n c d
       first_run zero c d run = run
       first_run (suc n) c d run = (run.0, first_step c run.0 run.1, first_run n run.0 d run.2)
 
-      second_run : (n : ℕ) (c d : Configuration Q) → Reaches (Steps rooms ss final) n c d → Reaches (Steps rooms (rs ++ ss) final) n c d
+      second_run : (n : ℕ) (c d : Configuration Q) → Reaches (Steps rooms ss final) n c d
+          → Reaches (Steps rooms (rs ++ ss) final) n c d
       second_run zero c d run = run
       second_run (suc n) c d run = (run.0, second_step c run.0 run.1, second_run n run.0 d run.2)
 
-      pub joined_run : (p m n : ℕ) (c d e : Configuration Q) → p ≡ m + n → Reaches (Steps rooms rs middle) m c d → Reaches (Steps rooms ss final) n d e → Reaches (Steps rooms (rs ++ ss) final) p c e
-      joined_run p m n c d e sum first second = runs_join (Steps rooms (rs ++ ss) final) p m n c d e sum (first_run m c d first) (second_run n d e second)
+      pub joined_run : (p m n : ℕ) (c d e : Configuration Q) → p ≡ m + n → Reaches (Steps rooms rs middle) m c d
+          → Reaches (Steps rooms ss final) n d e → Reaches (Steps rooms (rs ++ ss) final) p c e
+      joined_run p m n c d e sum first second = runs_join (Steps rooms (rs ++ ss) final) p m n c d e sum
+          (first_run m c d first) (second_run n d e second)
 
       -- ---- a run of both, parted
 
       -- in the second list's part, where no quadruple of the first leaves the state
-      past_run : (n : ℕ) (c d : Configuration Q) → ((r : Rule Q) → IsIn rs r → c.state ≡ r.from → ⊥) → Reaches (Steps rooms (rs ++ ss) final) n c d → Reaches (Steps rooms ss final) n c d
+      past_run : (n : ℕ) (c d : Configuration Q) → ((r : Rule Q) → IsIn rs r → c.state ≡ r.from → ⊥)
+          → Reaches (Steps rooms (rs ++ ss) final) n c d → Reaches (Steps rooms ss final) n c d
       past_run zero c d past run = run
       past_run (suc n) c d past run =
           let l = leads_in (rs ++ ss) c run.0 run.1.follows in
@@ -99,20 +130,29 @@ module _ {Q : Type 0} where
             | inl left ↦ absurd (past l.rule left l.leads.applies.from)
             | inr right ↦ (
               run.0,
-              record { going = run.1.going; follows = follows_in ss c run.0 (record { rule = l.rule; stands = right; leads = l.leads }); stays = run.1.stays },
-              past_run n run.0 d (λ r h is. joins.not_back r l.rule h right (sym (to_state l.rule c run.0 l.leads) ∙ is)) run.2,
+              record {
+                going = run.1.going;
+                follows = follows_in ss c run.0
+                    (record { rule = l.rule; stands = right; leads = l.leads });
+                stays = run.1.stays;
+              },
+              past_run n run.0 d (λ r h is. joins.not_back r l.rule h right
+                  (sym (to_state l.rule c run.0 l.leads) ∙ is)) run.2,
             )
           ]
 
-      -- in the first list's part a quadruple of the second leaves the state only if it is the middle, and it isn't the final one
+      -- in the first list's part a quadruple of the second leaves the state only if it is the middle, and it isn't the
+      -- final one
       pub record IsBefore (c : Configuration Q) : Type 0 where
         pub through : (s : Rule Q) → IsIn ss s → c.state ≡ s.from → c.state ≡ middle
         pub going : c.state ≢ final
 
       abbrev Halves : ℕ → Configuration Q → Configuration Q → Type 0
-      Halves n c e = (i j : ℕ) × (d : Configuration Q) × (n ≡ i + j) × (d.state ≡ middle) × Reaches (Steps rooms rs middle) i c d × Reaches (Steps rooms ss final) j d e
+      Halves n c e = (i j : ℕ) × (d : Configuration Q) × (n ≡ i + j) × (d.state ≡ middle)
+          × Reaches (Steps rooms rs middle) i c d × Reaches (Steps rooms ss final) j d e
 
-      pub parted_run : (n : ℕ) (c e : Configuration Q) → IsBefore c → Reaches (Steps rooms (rs ++ ss) final) n c e → e.state ≡ final → Halves n c e
+      pub parted_run : (n : ℕ) (c e : Configuration Q) → IsBefore c → Reaches (Steps rooms (rs ++ ss) final) n c e
+          → e.state ≡ final → Halves n c e
       parted_run zero c e before run is = absurd (before.going (ap (λ (x : Configuration Q). x.state) run ∙ is))
       parted_run (suc n) c e before run is =
           let l = leads_in (rs ++ ss) c run.0 run.1.follows in
@@ -132,13 +172,23 @@ module _ {Q : Type 0} where
                 let parts : n ≡ rest.0 + rest.1 = rest.3 in
                 (suc rest.0, rest.1, rest.2, omega arith, rest.4, (run.0, step, rest.5), rest.6)
             | inr right ↦
-                let there = before.through l.rule right l.leads.applies.from in
-                (0, suc n, c, omega arith, there, refl, past_run (suc n) c e (λ r h from. joins.not_left r h (sym from ∙ there)) run)
+                let there = before.through l.rule right l.leads.applies.from in (
+                  0,
+                  suc n,
+                  c,
+                  omega arith,
+                  there,
+                  refl,
+                  past_run (suc n) c e
+                      (λ r h from. joins.not_left r h (sym from ∙ there)) run,
+                )
           ]
 
 -- a run of both, from a state that the first leaves, has two halves
-pub joined_halves : {Q : Type 0} (middle initial final : Q) (rs ss : List (Rule Q)) → JoinsAt middle initial final rs ss → (r : Rule Q) → IsIn rs r → r.from ≡ initial
-    → (rooms : Rooms) (n : ℕ) (c e : Configuration Q) → c.state ≡ initial → Reaches (Steps rooms (rs ++ ss) final) n c e → e.state ≡ final → HasHalves middle final rs ss rooms n c e
+pub joined_halves : {Q : Type 0} (middle initial final : Q) (rs ss : List (Rule Q)) → JoinsAt middle initial final rs ss
+    → (r : Rule Q) → IsIn rs r → r.from ≡ initial
+    → (rooms : Rooms) (n : ℕ) (c e : Configuration Q) → c.state ≡ initial → Reaches (Steps rooms (rs ++ ss) final) n c e
+    → e.state ≡ final → HasHalves middle final rs ss rooms n c e
 joined_halves middle initial final rs ss joins r stands from rooms n c e start run is =
     let h = parted_run middle initial final rs ss joins rooms n c e (record {
       through = λ s h leaves. absurd (joins.leave_apart r s stands h (from ∙ sym start ∙ leaves));
@@ -156,7 +206,9 @@ joined_lists_pass_tests middle initial final rs ss joins = (
 )
 
 pub joined_lists_run : JoinedListsRun
-joined_lists_run middle initial final rs ss joins rooms m n c d e first second = joined_run middle initial final rs ss joins rooms (m + n) m n c d e refl first second
+joined_lists_run middle initial final rs ss joins rooms m n c d e first second =
+    joined_run middle initial final rs ss joins rooms (m + n) m n c d e refl first second
 
 pub joined_lists_have_run : JoinedListsHaveRun
-joined_lists_have_run middle initial final rs ss joins r stands from rooms n c e start run is = joined_halves middle initial final rs ss joins r stands from rooms n c e start run is
+joined_lists_have_run middle initial final rs ss joins r stands from rooms n c e start run is =
+    joined_halves middle initial final rs ss joins r stands from rooms n c e start run is

@@ -37,23 +37,56 @@ least_machine = record {
   where
     by_place : (k : ℕ) (d : Quint) → k < 2 → IsInRange 3 1 (get_or least.quints k d)
     by_place zero d low = record { state = omega arith; read = omega arith; write = omega arith; next = omega arith }
-    by_place (suc zero) d low = record { state = omega arith; read = omega arith; write = omega arith; next = omega arith }
+    by_place (suc zero) d low = record {
+      state = omega arith;
+      read = omega arith;
+      write = omega arith;
+      next = omega
+          arith;
+    }
     by_place (suc (suc k)) d low = absurd (omega arith)
 
 least_standard : IsStandard least.quints
 least_standard = record {
-  unambiguous = record { none = λ i j h. refute i j h.first h.second h.first_stands h.second_stands h.clashes.before h.clashes.state };
+  unambiguous = record {
+    none = λ i j h. refute i j h.first h.second h.first_stands h.second_stands h.clashes.before
+        h.clashes.state;
+  };
   begins = record { quint = one; stands = refl; begins = record { reads = refl; writes = refl; shifts = refl } };
-  lone_start = record { none = λ i h. at_place (λ n q. ((q.next ≡ 0) ⊎ ((1 < n) × (q.state ≡ 0))) → ⊥) (λ k. elim k [ inl e ↦ absurd (omega arith) | inr e ↦ let low : 1 < 1 = e.0 in absurd (omega arith) ]) (λ k. elim k [ inl e ↦ absurd (omega arith) | inr e ↦ let zero_one : 1 ≡ 0 = e.1 in absurd (omega arith) ]) i h.quint h.stands h.names };
-  ends = record { quint = two; stands = refl; ends = record { reads = refl; writes = refl; shifts = refl; apart = λ e. absurd (omega arith) } };
-  lone_final = record { none = λ i h. at_place (λ n q. ((q.state ≡ 2) ⊎ ((n < 2) × (q.next ≡ 2))) → ⊥) (λ k. elim k [ inl e ↦ absurd (omega arith) | inr e ↦ let same : 1 ≡ 2 = e.1 in absurd (omega arith) ]) (λ k. elim k [ inl e ↦ absurd (omega arith) | inr e ↦ let low : 2 < 2 = e.0 in absurd (omega arith) ]) i h.quint h.stands h.names };
+  lone_start = record {
+    none = λ i h. at_place (λ n q. ((q.next ≡ 0) ⊎ ((1 < n) × (q.state ≡ 0))) → ⊥)
+        (λ k. elim k [ inl e ↦ absurd (omega arith) | inr e ↦ let low : 1 < 1 = e.0 in absurd (omega arith) ])
+        (λ k. elim k [ inl e ↦ absurd (omega arith) | inr e ↦ let zero_one : 1 ≡ 0 = e.1 in absurd (omega arith) ]) i
+        h.quint h.stands h.names;
+  };
+  ends = record {
+    quint = two;
+    stands = refl;
+    ends = record {
+      reads = refl;
+      writes = refl;
+      shifts = refl;
+      apart = λ e.
+          absurd (omega arith);
+    };
+  };
+  lone_final = record {
+    none = λ i h. at_place (λ n q. ((q.state ≡ 2) ⊎ ((n < 2) × (q.next ≡ 2))) → ⊥)
+        (λ k. elim k [ inl e ↦ absurd (omega arith) | inr e ↦ let same : 1 ≡ 2 = e.1 in absurd (omega arith) ])
+        (λ k. elim k [ inl e ↦ absurd (omega arith) | inr e ↦ let low : 2 < 2 = e.0 in absurd (omega arith) ]) i h.quint
+        h.stands h.names;
+  };
 }
   where
-    refute : (i j : ℕ) (q r : Quint) → nth least.quints i ≡ Some q → nth least.quints j ≡ Some r → i < j → q.state ≡ r.state → ⊥
+    refute : (i j : ℕ) (q r : Quint) → nth least.quints i ≡ Some q → nth least.quints j ≡ Some r → i < j
+        → q.state ≡ r.state → ⊥
     refute i j q r e f low states =
         at_place (λ n s. n ≡ i → s ≡ q → ⊥)
-        (λ ni sq. at_place (λ m t. m ≡ j → t ≡ r → ⊥) (λ mj tr. absurd (omega arith)) (λ mj tr. let same : 0 ≡ 1 = ap (λ (x : Quint). x.state) sq ∙ states ∙ sym (ap (λ (x : Quint). x.state) tr) in absurd (omega arith)) j r f refl refl)
-        (λ ni sq. at_place (λ m t. m ≡ j → t ≡ r → ⊥) (λ mj tr. absurd (omega arith)) (λ mj tr. absurd (omega arith)) j r f refl refl)
+        (λ ni sq. at_place (λ m t. m ≡ j → t ≡ r → ⊥) (λ mj tr. absurd (omega arith))
+        (λ mj tr. let same : 0 ≡ 1 = ap (λ (x : Quint). x.state) sq ∙ states
+        ∙ sym (ap (λ (x : Quint). x.state) tr) in absurd (omega arith)) j r f refl refl)
+        (λ ni sq. at_place (λ m t. m ≡ j → t ≡ r → ⊥) (λ mj tr. absurd (omega arith)) (λ mj tr. absurd (omega arith)) j
+        r f refl refl)
         i q e refl refl
 
 -- the blank tape with its head at 1
@@ -61,7 +94,8 @@ abbrev moved_tape : Tape
 moved_tape = shift (write blank_tape 0) Right
 
 scans_blank : scanned moved_tape ≡ 0
-scans_blank = ap (λ (t : Tape). scanned (shift t Right)) (write-scanned blank_tape 0 (cell-word [] (pos 0))) ∙ cell-word [] (pos 1)
+scans_blank = ap (λ (t : Tape). scanned (shift t Right)) (write-scanned blank_tape 0 (cell-word [] (pos 0)))
+    ∙ cell-word [] (pos 1)
 
 first_step : MachineRunsTo anywhere least (start least []) (record { state = 1; tape = moved_tape })
 first_step = (
@@ -69,39 +103,65 @@ first_step = (
   record {
     going = λ e. absurd (omega arith);
     quint = one;
-    match = record { stands = refl; holds = record { from = refl; reads = cell-word [] (pos 0) }; first = λ m r low e h. at_place (λ n q. n < 1 → ⊥) (λ k. absurd (omega arith)) (λ k. absurd (omega arith)) m r e low };
+    match = record {
+      stands = refl;
+      holds = record { from = refl; reads = cell-word [] (pos 0) };
+      first = λ m r low e h.
+          at_place (λ n q. n < 1 → ⊥) (λ k. absurd (omega arith)) (λ k. absurd (omega arith)) m r e low;
+    };
     applies = record { from = refl; reads = cell-word [] (pos 0); writes = refl; to = refl };
     stays = tt;
   },
 )
 
-second_step : MachineRunsTo anywhere least (record { state = 1; tape = moved_tape }) (record { state = 2; tape = shift (write moved_tape 0) Stay })
+second_step : MachineRunsTo anywhere least (record { state = 1; tape = moved_tape })
+    (record { state = 2; tape = shift (write moved_tape 0) Stay })
 second_step = (
   2,
   record {
     going = λ e. absurd (omega arith);
     quint = two;
-    match = record { stands = refl; holds = record { from = refl; reads = scans_blank }; first = λ m r low e h. at_place (λ n q. n < 2 → 1 ≡ q.state → ⊥) (λ k same. absurd (omega arith)) (λ k same. absurd (omega arith)) m r e low h.from };
+    match = record {
+      stands = refl;
+      holds = record { from = refl; reads = scans_blank };
+      first = λ m r low e h. at_place
+          (λ n q. n < 2 → 1 ≡ q.state → ⊥) (λ k same. absurd (omega arith)) (λ k same. absurd (omega arith)) m r e low
+          h.from;
+    };
     applies = record { from = refl; reads = scans_blank; writes = refl; to = refl };
     stays = tt;
   },
 )
 
 last_tape : shift (write moved_tape 0) Stay ≡ shift blank_tape Right
-last_tape = ap (λ (t : Tape). shift t Stay) (write-scanned moved_tape 0 scans_blank) ∙ ap (λ (t : Tape). shift t Right) (write-scanned blank_tape 0 (cell-word [] (pos 0)))
+last_tape = ap (λ (t : Tape). shift t Stay) (write-scanned moved_tape 0 scans_blank)
+    ∙ ap (λ (t : Tape). shift t Right) (write-scanned blank_tape 0 (cell-word [] (pos 0)))
 
 no_output : IsOutput (shift blank_tape Right) []
-no_output = record { letters = λ k low. absurd (omega arith); spelled = λ k low. absurd (omega arith); ended = cell-word [] (pos 2) }
+no_output = record {
+  letters = λ k low. absurd (omega arith);
+  spelled = λ k low. absurd (omega arith);
+  ended = cell-word
+      [] (pos 2);
+}
 
 least_halts : HaltsAfter least [] 2 []
 least_halts = record {
   moment = record { state = 2; tape = shift (write moved_tape 0) Stay };
-  run = (record { state = 1; tape = moved_tape }, first_step, (record { state = 2; tape = shift (write moved_tape 0) Stay }, second_step, refl));
+  run = (
+    record { state = 1; tape = moved_tape },
+    first_step,
+    (record { state = 2; tape = shift (write moved_tape 0) Stay }, second_step, refl),
+  );
   final = refl;
   output = subst (λ t. IsOutput t []) (sym last_tape) no_output;
 }
 
 pub least_erases : LeastErases
 least_erases =
-    let standard : IsStandardMachine least = record { machine = least_machine; standard = least_standard } in
-    (standard, least_halts, erases_forth least least standard standard [] refl (λ k d low. absurd (omega arith)) 2 2 [] least_halts least_halts)
+    let standard : IsStandardMachine least = record { machine = least_machine; standard = least_standard } in (
+      standard,
+      least_halts,
+      erases_forth least least standard standard [] refl (λ k d low. absurd (omega arith)) 2 2 []
+          least_halts least_halts,
+    )

@@ -5,7 +5,8 @@ use Rattle.std.proofs.lemmas.List.{length-map}
 use Rattle.bn_machine.specs.Machine.{Program, IsMachine}
 use Rattle.bn_quad.specs.Quadruples.{Rule, turned}
 use Rattle.bn_lists.specs.Lists.{IsIn}
-use Rattle.bn_bennett_laws.proofs.MembershipLemmas.{in_head, in_tail, in_cases, in_left, in_right, in_append, in_map, from_map, from_flat_map, each_of_two}
+use Rattle.bn_bennett_laws.proofs.MembershipLemmas.{in_head, in_tail, in_cases, in_left, in_right, in_append, in_map}
+use Rattle.bn_bennett_laws.proofs.MembershipLemmas.{from_map, from_flat_map, each_of_two}
 use Rattle.bn_bennett_laws.specs.List.{bennett, final_name}
 use Rattle.bn_bennett_laws.specs.Names.{states_in, NumbersStates, Mentions}
 use Rattle.bn_bennett_laws.specs.Renamed.{renamed}
@@ -21,7 +22,8 @@ use Rattle.bn_erase_laws.specs.ErasingLaws.{ErasingHasNames, ErasingCountsNames}
 use Rattle.bn_erase_laws.proofs.ErasingLemmas.{from_first, from_second, second_final, second_own, final_in, in_backward}
 use Rattle.bn_erase_laws.proofs.DecidedLemmas.{same_name}
 use Rattle.bn_bennett_laws.proofs.RepeatLemmas.{same_long}
-use Rattle.bn_erase_laws.proofs.DistinctLemmas.{Distinct, distinct, distinct_numbers, numbers_apart, numbers_in, in_numbers}
+use Rattle.bn_erase_laws.proofs.DistinctLemmas.{Distinct, distinct, distinct_numbers, numbers_apart, numbers_in}
+use Rattle.bn_erase_laws.proofs.DistinctLemmas.{in_numbers}
 
 -- the state of a list is one before or after a rule of it
 pub data IsStateOf {Q : Type 0} (rs : List (Rule Q)) (q : Q) : Type 0 where
@@ -31,7 +33,8 @@ pub data IsStateOf {Q : Type 0} (rs : List (Rule Q)) (q : Q) : Type 0 where
 pub state_of : {Q : Type 0} (rs : List (Rule Q)) (q : Q) → IsIn (states_in rs) q → IsStateOf rs q
 state_of {Q} rs q h =
     let found = from_flat_map (λ (r : Rule Q). r.from ∷ r.to ∷ []) rs q h in
-    each_of_two (λ s. s ≡ q → IsStateOf rs q) found.0.from found.0.to (λ e. before found.0 found.1 e) (λ e. after found.0 found.1 e) q found.2 refl
+    each_of_two (λ s. s ≡ q → IsStateOf rs q) found.0.from found.0.to (λ e. before found.0 found.1 e)
+    (λ e. after found.0 found.1 e) q found.2 refl
 
 module _ (p q : Program) (left : IsMachine p) (right : IsMachine q) where
   -- ---- forth
@@ -43,11 +46,13 @@ module _ (p q : Program) (left : IsMachine p) (right : IsMachine q) where
   named_second name h = by_case (second_own p q name)
     where
       by_case : (name ≡ final_name q) ⊎ (second_name p q name ≡ Second name) → IsErasingName p q (second_name p q name)
-      by_case (inl is) = subst (IsErasingName p q) (sym (ap (second_name p q) is ∙ second_final p q)) (named_first (final_name p) (final_in p left.some))
+      by_case (inl is) = subst (IsErasingName p q) (sym (ap (second_name p q) is ∙ second_final p q))
+          (named_first (final_name p) (final_in p left.some))
       by_case (inr own) =
           subst (IsErasingName p q) (sym own) (
             (list_has_names q right.some name).0 h,
-            λ is. let there : First (final_name p) ≡ Second name = sym (second_final p q) ∙ ap (second_name p q) (sym is) ∙ own in cc,
+            λ is. let there : First (final_name p) ≡ Second name =
+                sym (second_final p q) ∙ ap (second_name p q) (sym is) ∙ own in cc,
           )
 
   named_rule : (r : Rule ErasingName) → IsIn (erasing p q) r → IsErasingName p q r.from × IsErasingName p q r.to
@@ -55,10 +60,12 @@ module _ (p q : Program) (left : IsMachine p) (right : IsMachine q) where
       elim (in_append (first_half p) (second_half p q) r h) [
         | inl first ↦
             let a = from_first p r first in
-            subst (λ (t : Rule ErasingName). IsErasingName p q t.from × IsErasingName p q t.to) a.2 (named_first a.0.from (from_in (bennett p) a.0 a.1), named_first a.0.to (to_in (bennett p) a.0 a.1))
+            subst (λ (t : Rule ErasingName). IsErasingName p q t.from × IsErasingName p q t.to) a.2
+            (named_first a.0.from (from_in (bennett p) a.0 a.1), named_first a.0.to (to_in (bennett p) a.0 a.1))
         | inr second ↦
             let b = from_second p q r second in
-            subst (λ (t : Rule ErasingName). IsErasingName p q t.from × IsErasingName p q t.to) b.2 (named_second b.0.to (to_in (bennett q) b.0 b.1), named_second b.0.from (from_in (bennett q) b.0 b.1))
+            subst (λ (t : Rule ErasingName). IsErasingName p q t.from × IsErasingName p q t.to) b.2
+            (named_second b.0.to (to_in (bennett q) b.0 b.1), named_second b.0.from (from_in (bennett q) b.0 b.1))
       ]
 
   names_forth : (name : ErasingName) → IsStateOf (erasing p q) name → IsErasingName p q name
@@ -71,32 +78,45 @@ module _ (p q : Program) (left : IsMachine p) (right : IsMachine q) where
   unfolding first_half
   first_stands a h = in_left (first_half p) (second_half p q) (renamed First a) (in_map (renamed First) (bennett p) a h)
 
-  second_stands : (b : Rule Name) → IsIn (bennett q) b → IsIn (erasing p q) (renamed (second_name p q) (exchanged_rule (turned b)))
+  second_stands : (b : Rule Name) → IsIn (bennett q) b → IsIn (erasing p q)
+      (renamed (second_name p q) (exchanged_rule (turned b)))
   unfolding second_half
-  second_stands b h = in_right (first_half p) (second_half p q) _ (in_map (renamed (second_name p q)) (backward q) (exchanged_rule (turned b)) (in_backward q b h))
+  second_stands b h = in_right (first_half p) (second_half p q) _
+      (in_map (renamed (second_name p q)) (backward q) (exchanged_rule (turned b)) (in_backward q b h))
 
   first_state : (name : Name) → IsStateOf (bennett p) name → IsIn (states_in (erasing p q)) (First name)
-  first_state name (before a h is) = subst (λ n. IsIn (states_in (erasing p q)) (First n)) is (from_in (erasing p q) (renamed First a) (first_stands a h))
-  first_state name (after a h is) = subst (λ n. IsIn (states_in (erasing p q)) (First n)) is (to_in (erasing p q) (renamed First a) (first_stands a h))
+  first_state name (before a h is) = subst (λ n. IsIn (states_in (erasing p q)) (First n)) is
+      (from_in (erasing p q) (renamed First a) (first_stands a h))
+  first_state name (after a h is) = subst (λ n. IsIn (states_in (erasing p q)) (First n)) is
+      (to_in (erasing p q) (renamed First a) (first_stands a h))
 
   second_state : (name : Name) → IsStateOf (bennett q) name → IsIn (states_in (erasing p q)) (second_name p q name)
-  second_state name (before b h is) = subst (λ n. IsIn (states_in (erasing p q)) (second_name p q n)) is (to_in (erasing p q) (renamed (second_name p q) (exchanged_rule (turned b))) (second_stands b h))
-  second_state name (after b h is) = subst (λ n. IsIn (states_in (erasing p q)) (second_name p q n)) is (from_in (erasing p q) (renamed (second_name p q) (exchanged_rule (turned b))) (second_stands b h))
+  second_state name (before b h is) = subst (λ n. IsIn (states_in (erasing p q)) (second_name p q n)) is
+      (to_in (erasing p q) (renamed (second_name p q) (exchanged_rule (turned b))) (second_stands b h))
+  second_state name (after b h is) = subst (λ n. IsIn (states_in (erasing p q)) (second_name p q n)) is
+      (from_in (erasing p q) (renamed (second_name p q) (exchanged_rule (turned b))) (second_stands b h))
 
   names_back : (name : ErasingName) → IsErasingName p q name → IsIn (states_in (erasing p q)) name
   names_back (First name) h = first_state name (state_of (bennett p) name ((list_has_names p left.some name).1 h))
   names_back (Second name) h = by_case (second_own p q name)
     where
-      by_case : (name ≡ final_name q) ⊎ (second_name p q name ≡ Second name) → IsIn (states_in (erasing p q)) (Second name)
+      by_case : (name ≡ final_name q) ⊎ (second_name p q name ≡ Second name)
+          → IsIn (states_in (erasing p q)) (Second name)
       by_case (inl is) = absurd (h.1 is)
-      by_case (inr own) = subst (IsIn (states_in (erasing p q))) own (second_state name (state_of (bennett q) name ((list_has_names q right.some name).1 h.0)))
+      by_case (inr own) = subst (IsIn (states_in (erasing p q))) own
+          (second_state name (state_of (bennett q) name ((list_has_names q right.some name).1 h.0)))
 
 pub erasing_has_names : ErasingHasNames
-erasing_has_names p q left right name = (λ h. names_forth p q left right name (state_of (erasing p q) name h), names_back p q left right name)
+erasing_has_names p q left right name = (
+  λ h. names_forth p q left right name (state_of (erasing p q) name h),
+  names_back p q left right name,
+)
 
 -- ---- how many
 
-module _ (p q : Program) (left : IsMachine p) (right : IsMachine q) (all : (state : ℕ) → state < p.states → Mentions p.quints state) (also : (state : ℕ) → state < q.states → Mentions q.quints state) where
+module _ (p q : Program) (left : IsMachine p) (right : IsMachine q)
+    (all : (state : ℕ) → state < p.states → Mentions p.quints state)
+    (also : (state : ℕ) → state < q.states → Mentions q.quints state) where
   ones : Distinct (states_in (bennett p))
   ones = distinct same_name (states_in (bennett p))
 
@@ -110,8 +130,10 @@ module _ (p q : Program) (left : IsMachine p) (right : IsMachine q) (all : (stat
   both_apart : Apart (λ x y. x ≢ y) both
   both_apart =
       apart_append (λ x y. x ≢ y) (map First ones.list) (map Second twos.list)
-      (apart_map (λ x y. x ≢ y) First ones.list (apart_weaker (λ x y. x ≢ y) (λ x y. First x ≢ First y) ones.list (λ x y other e. other (cc)) ones.apart))
-      (apart_map (λ x y. x ≢ y) Second twos.list (apart_weaker (λ x y. x ≢ y) (λ x y. Second x ≢ Second y) twos.list (λ x y other e. other (cc)) twos.apart))
+      (apart_map (λ x y. x ≢ y) First ones.list (apart_weaker (λ x y. x ≢ y) (λ x y. First x ≢ First y) ones.list
+      (λ x y other e. other (cc)) ones.apart))
+      (apart_map (λ x y. x ≢ y) Second twos.list (apart_weaker (λ x y. x ≢ y) (λ x y. Second x ≢ Second y) twos.list
+      (λ x y other e. other (cc)) twos.apart))
       (λ v w h k e.
       let a = from_map First ones.list v h in
       let b = from_map Second twos.list w k in
@@ -120,8 +142,10 @@ module _ (p q : Program) (left : IsMachine p) (right : IsMachine q) (all : (stat
 
   length-both : length both ≡ 2 * (p.states + q.states) + 2 * (length p.quints + length q.quints) + 8
   length-both =
-      let one : length ones.list ≡ 2 * p.states + 2 * length p.quints + 4 = list_counts_names p left all ones.list (distinct_numbers (bennett p) ones) in
-      let two : length twos.list ≡ 2 * q.states + 2 * length q.quints + 4 = list_counts_names q right also twos.list (distinct_numbers (bennett q) twos) in
+      let one : length ones.list ≡ 2 * p.states + 2 * length p.quints + 4 =
+      list_counts_names p left all ones.list (distinct_numbers (bennett p) ones) in
+      let two : length twos.list ≡ 2 * q.states + 2 * length q.quints + 4 =
+      list_counts_names q right also twos.list (distinct_numbers (bennett q) twos) in
       let first : length (map First ones.list) ≡ length ones.list = length-map ones.list First in
       let second : length (map Second twos.list) ≡ length twos.list = length-map twos.list Second in
       omega (arith, length-append (map First ones.list) (map Second twos.list), one, two, first, second)
@@ -136,30 +160,37 @@ module _ (p q : Program) (left : IsMachine p) (right : IsMachine q) (all : (stat
 
     with_final_apart : Apart (λ x y. x ≢ y) with_final
     with_final_apart = (
-      λ y h same. let name : IsErasingName p q (Second (final_name q)) = subst (IsErasingName p q) (sym same) (names y h) in name.1 refl,
+      λ y h same. let name : IsErasingName p q (Second (final_name q)) =
+          subst (IsErasingName p q) (sym same) (names y h) in name.1 refl,
       numbers_apart (erasing p q) order numbers,
     )
 
     in_both : (name : ErasingName) → IsErasingName p q name → IsIn both name
-    in_both (First name) h = in_left (map First ones.list) (map Second twos.list) (First name) (in_map First ones.list name (ones.each name ((list_has_names p left.some name).1 h)))
-    in_both (Second name) h = in_right (map First ones.list) (map Second twos.list) (Second name) (in_map Second twos.list name (twos.each name ((list_has_names q right.some name).1 h.0)))
+    in_both (First name) h = in_left (map First ones.list) (map Second twos.list) (First name)
+        (in_map First ones.list name (ones.each name ((list_has_names p left.some name).1 h)))
+    in_both (Second name) h = in_right (map First ones.list) (map Second twos.list) (Second name)
+        (in_map Second twos.list name (twos.each name ((list_has_names q right.some name).1 h.0)))
 
     forth : (name : ErasingName) → IsIn with_final name → IsIn both name
     forth name h =
         elim (in_cases (Second (final_name q)) name order h) [
-          | inl same ↦ subst (IsIn both) same (in_right (map First ones.list) (map Second twos.list) (Second (final_name q)) (in_map Second twos.list (final_name q) (twos.each (final_name q) (final_in q right.some))))
+          | inl same ↦ subst (IsIn both) same (in_right (map First ones.list) (map Second twos.list)
+              (Second (final_name q)) (in_map Second twos.list (final_name q)
+              (twos.each (final_name q) (final_in q right.some))))
           | inr further ↦ in_both name (names name further)
         ]
 
     in_order : (name : ErasingName) → IsErasingName p q name → IsIn with_final name
-    in_order name h = in_tail (Second (final_name q)) name order (numbers_in (erasing p q) order numbers name ((erasing_has_names p q left right name).1 h))
+    in_order name h = in_tail (Second (final_name q)) name order
+        (numbers_in (erasing p q) order numbers name ((erasing_has_names p q left right name).1 h))
 
     back : (name : ErasingName) → IsIn both name → IsIn with_final name
     back name h =
         elim (in_append (map First ones.list) (map Second twos.list) name h) [
           | inl one ↦
               let a = from_map First ones.list name one in
-              subst (IsIn with_final) a.2 (in_order (First a.0) ((list_has_names p left.some a.0).0 (ones.only a.0 a.1)))
+              subst (IsIn with_final) a.2 (in_order (First a.0) ((list_has_names p left.some a.0).0
+              (ones.only a.0 a.1)))
           | inr two ↦
               let b = from_map Second twos.list name two in
               subst (IsIn with_final) b.2
@@ -171,7 +202,8 @@ module _ (p q : Program) (left : IsMachine p) (right : IsMachine q) (all : (stat
 
     count : length order ≡ 2 * (p.states + q.states) + 2 * (length p.quints + length q.quints) + 7
     count =
-        let long : suc (length order) ≡ length both = same_long with_final both with_final_apart both_apart forth back in
+        let long : suc (length order) ≡ length both = same_long with_final both with_final_apart both_apart forth back
+        in
         omega (arith, long, length-both)
 
 pub erasing_counts_names : ErasingCountsNames

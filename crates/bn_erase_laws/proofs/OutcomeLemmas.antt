@@ -17,7 +17,8 @@ use Rattle.bn_bennett_laws.specs.Laws.{HaltsAfter}
 use Rattle.bn_bennett_laws.proofs.Tapes.{scanned-past}
 use Rattle.bn_erase_laws.specs.declared.name.ErasingName.{ErasingName}
 use Rattle.bn_erase_laws.specs.Erasing.{erasing, erasing_start, erasing_end, erasing_final, IsWord, ErasingSteps}
-use Rattle.bn_erase_laws.specs.Outcome.{ErasingOutcome, Halted, Stuck, Running, rewound, ErasingComesOut, halts, sticks, runs, HasErasingOutcome}
+use Rattle.bn_erase_laws.specs.Outcome.{ErasingOutcome, Halted, Stuck, Running, rewound, ErasingComesOut, halts, sticks}
+use Rattle.bn_erase_laws.specs.Outcome.{runs, HasErasingOutcome}
 use Rattle.bn_erase_laws.specs.ErasingLaws.{OutcomeIsOne, OutcomeExists, HaltsExactly}
 use Rattle.bn_erase_laws.proofs.ErasingLemmas.{erasing_passes_tests}
 use Rattle.bn_erase_laws.proofs.TheoremLemmas.{erases_forth, erases_back}
@@ -27,17 +28,21 @@ use Rattle.bn_erase_laws.proofs.DecidedLemmas.{same_erasing_name, Next, is_final
 
 module _ (p q : Program) where
   none_goes : (c d : Configuration ErasingName) → HasNoRule (erasing p q) c → ErasingSteps p q c d → ⊥
-  none_goes c d none s = none.none s.follows.number s.follows.leads.rule s.follows.leads.stands s.follows.leads.leads.applies
+  none_goes c d none s = none.none s.follows.number s.follows.leads.rule s.follows.leads.stands
+      s.follows.leads.leads.applies
 
   -- where a run has come out before all n steps no step leads on
-  none_after : (n i : ℕ) (c d : Configuration ErasingName) (o : ErasingOutcome) → i < n → ErasingComesOut p q n i c o → ErasingSteps p q c d → ⊥
+  none_after : (n i : ℕ) (c d : Configuration ErasingName) (o : ErasingOutcome) → i < n → ErasingComesOut p q n i c o
+      → ErasingSteps p q c d → ⊥
   none_after n i c d o low (halts work output final one three why) s = s.going final
   none_after n i c d o low (sticks going none why) s = none_goes c d none s
   none_after n i c d o low (runs e goes all why) s = absurd (omega arith)
 
-  comes_out_once : (n i : ℕ) (c : Configuration ErasingName) (o u : ErasingOutcome) → ErasingComesOut p q n i c o → ErasingComesOut p q n i c u → o ≡ u
+  comes_out_once : (n i : ℕ) (c : Configuration ErasingName) (o u : ErasingOutcome) → ErasingComesOut p q n i c o
+      → ErasingComesOut p q n i c u → o ≡ u
   comes_out_once n i c o u (halts work output final one three why) (halts work' output' final' one' three' why') =
-      why ∙ (λ j. Halted (output_once (rewound c.one) work work' one one' j) (output_once (rewound c.three) output output' three three' j)) ∙ sym why'
+      why ∙ (λ j. Halted (output_once (rewound c.one) work work' one one' j)
+      (output_once (rewound c.three) output output' three three' j)) ∙ sym why'
   comes_out_once n i c o u (halts work output final one three why) (sticks going none why') = absurd (going final)
   comes_out_once n i c o u (halts work output final one three why) (runs d goes all why') = absurd (goes.going final)
   comes_out_once n i c o u (sticks going none why) (halts work output final one three why') = absurd (going final)
@@ -64,19 +69,44 @@ outcome_is_one p q left right x n i j o u h k = by_order (cases_lt i j) (cases_l
         absurd (none_after p q n j k.moment more.0 u (omega arith) k.ends more.1)
     by_order (inr high) (inr low) =
         let count : i ≡ j = omega arith in
-        let there : h.moment ≡ k.moment = runs_end_once (ErasingSteps p q) only j (erasing_start p x) h.moment k.moment (subst (λ m. Reaches (ErasingSteps p q) m (erasing_start p x) h.moment) count h.run) k.run in
-        (count, comes_out_once p q n j k.moment o u (subst (λ c. ErasingComesOut p q n j c o) there (subst (λ m. ErasingComesOut p q n m h.moment o) count h.ends)) k.ends)
+        let there : h.moment ≡ k.moment = runs_end_once (ErasingSteps p q) only j (erasing_start p x) h.moment k.moment
+        (subst (λ m. Reaches (ErasingSteps p q) m (erasing_start p x) h.moment) count h.run) k.run in (
+          count,
+          comes_out_once p q n j k.moment o u (subst (λ c. ErasingComesOut p q n j c o) there
+              (subst (λ m. ErasingComesOut p q n m h.moment o) count h.ends)) k.ends,
+        )
 
 -- ---- some way
 
 -- what a bounded run comes to
-outcome_of : (p q : Program) (x : List ℕ) (n : ℕ) (b : Bounded same_erasing_name (erasing p q) (erasing_final q) n (erasing_start p x)) → Next same_erasing_name (erasing p q) (erasing_final q) b.last → (i : ℕ) × (o : ErasingOutcome) × HasErasingOutcome p q x n i o
+outcome_of : (p q : Program) (x : List ℕ) (n : ℕ) (b : Bounded same_erasing_name (erasing p q) (erasing_final q) n
+    (erasing_start p x)) → Next same_erasing_name (erasing p q) (erasing_final q) b.last
+    → (i : ℕ) × (o : ErasingOutcome) × HasErasingOutcome p q x n i o
 outcome_of p q x n b (is_final is) =
     let work = output_exists (rewound b.last.one) in
-    let output = output_exists (rewound b.last.three) in
-    (b.made, Halted work.0 output.0, record { moment = b.last; run = b.run; in_time = b.in_time; ends = halts work.0 output.0 is work.1 output.1 refl })
-outcome_of p q x n b (has_none going none) = (b.made, Stuck b.last.state, record { moment = b.last; run = b.run; in_time = b.in_time; ends = sticks going none refl })
-outcome_of p q x n b (steps_on d s) = (b.made, Running, record { moment = b.last; run = b.run; in_time = b.in_time; ends = runs d s (b.all d s) refl })
+    let output = output_exists (rewound b.last.three) in (
+      b.made,
+      Halted work.0 output.0,
+      record {
+        moment = b.last;
+        run = b.run;
+        in_time = b.in_time;
+        ends = halts work.0
+            output.0 is work.1 output.1 refl;
+      },
+    )
+outcome_of p q x n b (has_none going none) = (
+  b.made,
+  Stuck b.last.state,
+  record
+      { moment = b.last; run = b.run; in_time = b.in_time; ends = sticks going none refl },
+)
+outcome_of p q x n b (steps_on d s) = (
+  b.made,
+  Running,
+  record
+      { moment = b.last; run = b.run; in_time = b.in_time; ends = runs d s (b.all d s) refl },
+)
 
 pub outcome_exists : OutcomeExists
 outcome_exists p q x n =
@@ -87,18 +117,29 @@ outcome_exists p q x n =
 
 -- a word without blanks is what its tape spells
 spells_word : (y : List ℕ) → IsWord y → IsOutput (word_tape y) y
-spells_word y word = record { letters = λ k low. word k 0 low; spelled = λ k low. scanned-ahead y k; ended = scanned-past y (length y) refl }
+spells_word y word = record {
+  letters = λ k low. word k 0 low;
+  spelled = λ k low. scanned-ahead y k;
+  ended = scanned-past y (length y) refl;
+}
 
 spells_none : IsOutput blank_tape []
 spells_none = spells_word [] (λ k d low. absurd (omega arith))
 
 -- the output of a machine is a word
 output_word : (p : Program) (x y : List ℕ) (v : ℕ) → HaltsAfter p x v y → IsOutput (word_tape y) y
-output_word p x y v h = record { letters = h.output.letters; spelled = λ k low. scanned-ahead y k; ended = scanned-past y (length y) refl }
+output_word p x y v h = record {
+  letters = h.output.letters;
+  spelled = λ k low. scanned-ahead y k;
+  ended = scanned-past
+      y (length y) refl;
+}
 
-module _ (p q : Program) (x : List ℕ) (left : IsStandardMachine p) (right : IsStandardMachine q) (same : p.symbols ≡ q.symbols) (letters : IsSpelledBy p x) (word : IsWord x) where
+module _ (p q : Program) (x : List ℕ) (left : IsStandardMachine p) (right : IsStandardMachine q)
+    (same : p.symbols ≡ q.symbols) (letters : IsSpelledBy p x) (word : IsWord x) where
   abbrev Halt : ℕ → ℕ → List ℕ → List ℕ → Type 0
-  Halt n i work y = (v w : ℕ) × (i ≤ n) × (work ≡ []) × HaltsAfter p x v y × HaltsAfter q y w x × (i ≡ 4 * (v + w) + 4 * (length x + length y) + 10)
+  Halt n i work y = (v w : ℕ) × (i ≤ n) × (work ≡ []) × HaltsAfter p x v y × HaltsAfter q y w x
+      × (i ≡ 4 * (v + w) + 4 * (length x + length y) + 10)
 
   halts_back : (n i : ℕ) (work y : List ℕ) → Halt n i work y → HasErasingOutcome p q x n i (Halted work y)
   halts_back n i work y h =
@@ -120,8 +161,11 @@ module _ (p q : Program) (x : List ℕ) (left : IsStandardMachine p) (right : Is
           let at_end : h.moment ≡ erasing_end q found.2 = found.6 in
           let works : work ≡ ws = cc in
           let outputs : y ≡ ys = cc in
-          let none : ws ≡ [] = output_once blank_tape ws [] (subst (λ (c : Configuration ErasingName). IsOutput (rewound c.one) ws) at_end one) spells_none in
-          let all : ys ≡ found.2 = output_once (word_tape found.2) ys found.2 (subst (λ (c : Configuration ErasingName). IsOutput (rewound c.three) ys) at_end three) (output_word p x found.2 found.0 found.3) in
+          let none : ws ≡ [] = output_once blank_tape ws [] (subst
+          (λ (c : Configuration ErasingName). IsOutput (rewound c.one) ws) at_end one) spells_none in
+          let all : ys ≡ found.2 = output_once (word_tape found.2) ys found.2
+          (subst (λ (c : Configuration ErasingName). IsOutput (rewound c.three) ys) at_end three)
+          (output_word p x found.2 found.0 found.3) in
           let output : found.2 ≡ y = sym all ∙ sym outputs in (
             found.0,
             found.1,
@@ -135,4 +179,8 @@ module _ (p q : Program) (x : List ℕ) (left : IsStandardMachine p) (right : Is
       by_end (runs d goes all why) = absurd (cc)
 
 pub halts_exactly : HaltsExactly
-halts_exactly p q x left right same letters word n i work y = (halts_forth p q x left right same letters word n i work y, halts_back p q x left right same letters word n i work y)
+halts_exactly p q x left right same letters word n i work y = (
+  halts_forth p q x left right same letters word n i work y,
+  halts_back p q x left right same letters word n i work
+      y,
+)

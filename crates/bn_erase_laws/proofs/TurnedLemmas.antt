@@ -8,7 +8,8 @@ use Rattle.bn_lists.proofs.ListLemmas.{nth_within}
 use Rattle.bn_machine.specs.Tape.{opposite}
 use Rattle.bn_machine.specs.declared.quint.Shift.{Shift}
 use Rattle.bn_machine.specs.declared.quint.Shift.TheVariants.{Left, Stay, Right}
-use Rattle.bn_quad.specs.Quadruples.{Deed, Rewrite, Move, Rule, Configuration, Follows, turned_deed, turned, turned_list, Rooms, AreAllowed}
+use Rattle.bn_quad.specs.Quadruples.{Deed, Rewrite, Move, Rule, Configuration, Follows, turned_deed, turned}
+use Rattle.bn_quad.specs.Quadruples.{turned_list, Rooms, AreAllowed}
 use Rattle.bn_quad.specs.Overlap.{MeetsInDomain, MeetsInRange, IsAlike, IsIdle, IsSilent, QuadruplesClash, HasNoClash}
 use Rattle.bn_quad.proofs.ReversibleLemmas.{turned-turned, turned_list_steps_back}
 use Rattle.bn_quad.specs.declared.clash.Clash.{Clash}
@@ -58,14 +59,40 @@ turned_clash Reads = Writes
 turned_clash Writes = Reads
 
 module _ {Q : Type 0} where
-  clash_before : (clash : Clash) (r s : Rule Q) → QuadruplesClash clash (turned r) (turned s) → QuadruplesClash (turned_clash clash) r s
-  clash_before Domain r s h = record { to = h.from; tapes = (meets_in_range_before r.one s.one h.tapes.0, (meets_in_range_before r.two s.two h.tapes.1.0, (meets_in_range_before r.three s.three h.tapes.1.1.0, tt))) }
-  clash_before Range r s h = record { from = h.to; tapes = (meets_in_domain_before r.one s.one h.tapes.0, (meets_in_domain_before r.two s.two h.tapes.1.0, (meets_in_domain_before r.three s.three h.tapes.1.1.0, tt))) }
-  clash_before Reads r s h = record { to = h.from; apart = λ k. h.apart (alike_turned r.one s.one k.0, (alike_turned r.two s.two k.1.0, (alike_turned r.three s.three k.1.1.0, tt))) }
-  clash_before Writes r s h = record { from = h.to; apart = λ k. h.apart (alike_turned r.one s.one k.0, (alike_turned r.two s.two k.1.0, (alike_turned r.three s.three k.1.1.0, tt))) }
+  clash_before : (clash : Clash) (r s : Rule Q) → QuadruplesClash clash (turned r) (turned s)
+      → QuadruplesClash (turned_clash clash) r s
+  clash_before Domain r s h = record {
+    to = h.from;
+    tapes = (
+      meets_in_range_before r.one s.one h.tapes.0,
+      (meets_in_range_before r.two s.two h.tapes.1.0, (meets_in_range_before r.three s.three h.tapes.1.1.0, tt)),
+    );
+  }
+  clash_before Range r s h = record {
+    from = h.to;
+    tapes = (
+      meets_in_domain_before r.one s.one h.tapes.0,
+      (meets_in_domain_before r.two s.two h.tapes.1.0, (meets_in_domain_before r.three s.three h.tapes.1.1.0, tt)),
+    );
+  }
+  clash_before Reads r s h = record {
+    to = h.from;
+    apart = λ k. h.apart
+        (alike_turned r.one s.one k.0, (alike_turned r.two s.two k.1.0, (alike_turned r.three s.three k.1.1.0, tt)));
+  }
+  clash_before Writes r s h = record {
+    from = h.to;
+    apart = λ k. h.apart
+        (alike_turned r.one s.one k.0, (alike_turned r.two s.two k.1.0, (alike_turned r.three s.three k.1.1.0, tt)));
+  }
 
   silent_before : (r : Rule Q) → IsSilent (turned r) → IsSilent r
-  silent_before r h = record { one = idle_before r.one h.one; two = idle_before r.two h.two; three = idle_before r.three h.three }
+  silent_before r h = record {
+    one = idle_before r.one h.one;
+    two = idle_before r.two h.two;
+    three = idle_before r.three
+        h.three;
+  }
 
   -- ---- the list
 
@@ -83,10 +110,12 @@ module _ {Q : Type 0} where
 
   -- turned round twice it is the list
   pub turned_list-turned_list : (rs : List (Rule Q)) → turned_list (turned_list rs) ≡ rs
-  turned_list-turned_list rs = ap (map turned) (reverse_of_map (reverse rs)) ∙ turned_twice (reverse (reverse rs)) ∙ reverse-reverse rs
+  turned_list-turned_list rs = ap (map turned) (reverse_of_map (reverse rs)) ∙ turned_twice (reverse (reverse rs))
+      ∙ reverse-reverse rs
 
   -- what stands in it is a quadruple of the list, turned round
-  pub from_turned : (rs : List (Rule Q)) (s : Rule Q) → IsIn (turned_list rs) s → (r : Rule Q) × IsIn rs r × (turned r ≡ s)
+  pub from_turned : (rs : List (Rule Q)) (s : Rule Q) → IsIn (turned_list rs) s
+      → (r : Rule Q) × IsIn rs r × (turned r ≡ s)
   from_turned rs s h =
       let found = from_map turned (reverse rs) s h in
       (found.0, subst (λ ss. IsIn ss found.0) (reverse-reverse rs) (in_reverse (reverse rs) found.0 found.1), found.2)
@@ -96,12 +125,18 @@ module _ {Q : Type 0} where
 
   -- ---- tests
 
-  turned_free : (clash : Clash) (rs : List (Rule Q)) → HasNoClash (turned_clash clash) rs → HasNoClash clash (turned_list rs)
-  turned_free clash rs h = no_clash_of clash (turned_list rs) (free_mapped turned (turned_clash clash) clash (reverse rs) (clash_before clash) (apart_reverse (AreFree (turned_clash clash)) (free_again (turned_clash clash)) rs (free_of (turned_clash clash) rs h)))
+  turned_free : (clash : Clash) (rs : List (Rule Q)) → HasNoClash (turned_clash clash) rs
+      → HasNoClash clash (turned_list rs)
+  turned_free clash rs h = no_clash_of clash (turned_list rs)
+      (free_mapped turned (turned_clash clash) clash (reverse rs) (clash_before clash)
+      (apart_reverse (AreFree (turned_clash clash)) (free_again (turned_clash clash)) rs
+      (free_of (turned_clash clash) rs h)))
 
   -- a list is free of a clash where the list turned round is free of the clash turned round
-  turned_free_back : (clash : Clash) (rs : List (Rule Q)) → HasNoClash (turned_clash clash) (turned_list rs) → HasNoClash clash rs
-  turned_free_back clash rs h = subst (HasNoClash clash) (turned_list-turned_list rs) (turned_free clash (turned_list rs) h)
+  turned_free_back : (clash : Clash) (rs : List (Rule Q)) → HasNoClash (turned_clash clash) (turned_list rs)
+      → HasNoClash clash rs
+  turned_free_back clash rs h = subst (HasNoClash clash) (turned_list-turned_list rs)
+      (turned_free clash (turned_list rs) h)
 
   pub turned_deterministic : (rs : List (Rule Q)) → HasNoClash Range rs → HasNoClash Domain (turned_list rs)
   turned_deterministic rs h = turned_free Domain rs h
@@ -109,17 +144,23 @@ module _ {Q : Type 0} where
   pub turned_reversible : (rs : List (Rule Q)) → HasNoClash Domain rs → HasNoClash Range (turned_list rs)
   turned_reversible rs h = turned_free Range rs h
 
-  pub turned_uniform : (rs : List (Rule Q)) (initial final : Q) → IsUniformFrom initial final rs → IsUniformFrom final initial (turned_list rs)
+  pub turned_uniform : (rs : List (Rule Q)) (initial final : Q) → IsUniformFrom initial final rs
+      → IsUniformFrom final initial (turned_list rs)
   turned_uniform rs initial final h = record {
     reads = turned_free Reads rs h.writes;
     writes = turned_free Writes rs h.reads;
-    active = λ s k silent. let found = from_turned rs s k in h.active found.0 found.1 (silent_before found.0 (subst (λ t. IsSilent t) (sym found.2) silent));
-    not_entered = λ s k is. let found = from_turned rs s k in h.not_left found.0 found.1 (ap (λ (t : Rule Q). t.to) found.2 ∙ is);
-    not_left = λ s k is. let found = from_turned rs s k in h.not_entered found.0 found.1 (ap (λ (t : Rule Q). t.from) found.2 ∙ is);
+    active = λ s k silent. let found = from_turned rs s k in h.active found.0 found.1
+        (silent_before found.0 (subst (λ t. IsSilent t) (sym found.2) silent));
+    not_entered = λ s k is. let found = from_turned rs s k in h.not_left found.0 found.1
+        (ap (λ (t : Rule Q). t.to) found.2 ∙ is);
+    not_left = λ s k is. let found = from_turned rs s k in h.not_entered found.0 found.1
+        (ap (λ (t : Rule Q). t.from) found.2 ∙ is);
   }
 
-  pub turned_uniform_back : (rs : List (Rule Q)) (initial final : Q) → IsUniformFrom final initial (turned_list rs) → IsUniformFrom initial final rs
-  turned_uniform_back rs initial final h = subst (IsUniformFrom initial final) (turned_list-turned_list rs) (turned_uniform (turned_list rs) final initial h)
+  pub turned_uniform_back : (rs : List (Rule Q)) (initial final : Q) → IsUniformFrom final initial (turned_list rs)
+      → IsUniformFrom initial final rs
+  turned_uniform_back rs initial final h = subst (IsUniformFrom initial final) (turned_list-turned_list rs)
+      (turned_uniform (turned_list rs) final initial h)
 
   -- ---- runs
 
@@ -130,25 +171,33 @@ module _ {Q : Type 0} where
       record { number = m; leads = (turned_list_steps_back rs h.number m c d (omega arith)).0 h.leads }
 
   pub follows_turned_back : (rs : List (Rule Q)) (c d : Configuration Q) → Follows (turned_list rs) d c → Follows rs c d
-  follows_turned_back rs c d h = subst (λ ss. Follows ss c d) (turned_list-turned_list rs) (follows_turned (turned_list rs) d c h)
+  follows_turned_back rs c d h = subst (λ ss. Follows ss c d) (turned_list-turned_list rs)
+      (follows_turned (turned_list rs) d c h)
 
   module _ (rs : List (Rule Q)) (initial final : Q) (uniform : IsUniformFrom initial final rs) (rooms : Rooms) where
     -- a step leads to no initial state, so the list turned round makes it backward
-    step_turned : (c d : Configuration Q) → AreAllowed rooms c → Steps rooms rs final c d → Steps rooms (turned_list rs) initial d c
+    step_turned : (c d : Configuration Q) → AreAllowed rooms c → Steps rooms rs final c d
+        → Steps rooms (turned_list rs) initial d c
     step_turned c d here h = record {
-      going = λ is. let l = h.follows.leads in uniform.not_entered l.rule (record { place = h.follows.number; stands = l.stands }) (sym (ap (λ (x : Configuration Q). x.state) l.leads.gives) ∙ is);
+      going = λ is. let l = h.follows.leads in uniform.not_entered l.rule
+          (record { place = h.follows.number; stands = l.stands })
+          (sym (ap (λ (x : Configuration Q). x.state) l.leads.gives) ∙ is);
       follows = follows_turned rs c d h.follows;
       stays = here;
     }
 
-    pub run_turned : (n : ℕ) (c d : Configuration Q) → AreAllowed rooms c → Reaches (Steps rooms rs final) n c d → Reaches (Steps rooms (turned_list rs) initial) n d c
+    pub run_turned : (n : ℕ) (c d : Configuration Q) → AreAllowed rooms c → Reaches (Steps rooms rs final) n c d
+        → Reaches (Steps rooms (turned_list rs) initial) n d c
     run_turned zero c d here run = sym run
     run_turned (suc n) c d here run =
         let count : n + 1 ≡ suc n = omega arith in
         let rest = run_turned n run.0 d run.1.stays run.2 in
-        subst (λ i. Reaches (Steps rooms (turned_list rs) initial) i d c) count (runs_more (Steps rooms (turned_list rs) initial) n d run.0 c rest (step_turned c run.0 here run.1))
+        subst (λ i. Reaches (Steps rooms (turned_list rs) initial) i d c) count
+        (runs_more (Steps rooms (turned_list rs) initial) n d run.0 c rest (step_turned c run.0 here run.1))
 
-  pub run_turned_back : (rs : List (Rule Q)) (initial final : Q) → IsUniformFrom initial final rs → (rooms : Rooms) (n : ℕ) (c d : Configuration Q) → AreAllowed rooms d → Reaches (Steps rooms (turned_list rs) initial) n d c → Reaches (Steps rooms rs final) n c d
+  pub run_turned_back : (rs : List (Rule Q)) (initial final : Q) → IsUniformFrom initial final rs
+      → (rooms : Rooms) (n : ℕ) (c d : Configuration Q) → AreAllowed rooms d
+      → Reaches (Steps rooms (turned_list rs) initial) n d c → Reaches (Steps rooms rs final) n c d
   run_turned_back rs initial final uniform rooms n c d there run =
       subst (λ ss. Reaches (Steps rooms ss final) n c d) (turned_list-turned_list rs)
       (run_turned (turned_list rs) final initial (turned_uniform rs initial final uniform) rooms n d c there run)
@@ -163,4 +212,5 @@ turned_lists_pass_tests rs = (
 )
 
 pub turned_lists_run_back : TurnedListsRunBack
-turned_lists_run_back rs initial final uniform rooms n c d here there = (run_turned rs initial final uniform rooms n c d here, run_turned_back rs initial final uniform rooms n c d there)
+turned_lists_run_back rs initial final uniform rooms n c d here there =
+    (run_turned rs initial final uniform rooms n c d here, run_turned_back rs initial final uniform rooms n c d there)

@@ -1,5 +1,6 @@
 -- Where a run of the erasing machine is stuck because the second machine's output isn't the first one's input.
-use Rattle.std.specs.Prelude.{◌≡◌, ◌≢◌, ℕ, zero, suc, ◌+◌, ◌*◌, ◌<◌, ◌≤◌, List, [], ◌∷◌, length, All, Some, None, slice_get, slice_index}
+use Rattle.std.specs.Prelude.{◌≡◌, ◌≢◌, ℕ, zero, suc, ◌+◌, ◌*◌, ◌<◌, ◌≤◌, List, [], ◌∷◌, length, All, Some, None}
+use Rattle.std.specs.Prelude.{slice_get, slice_index}
 use Rattle.std.specs.Option.{unwrap_or}
 use Rattle.std.proofs.Common.{refl, sym, ap, ◌∙◌, subst, arith, get_or, inl, inr}
 use Rattle.std.proofs.lemmas.Bool.{cases_lt}
@@ -70,7 +71,8 @@ part_within : (x z : List ℕ) (k : ℕ) → PartAt x z k → k ≤ length x
 part_within x z k h =
     elim (cases_lt (length x) k) [
       | inl low ↦
-          let ended : slice_get z (length x) ≡ None = sym (h.agree (length x) low) ∙ slice_get_past x (length x) (omega arith) in
+          let ended : slice_get z (length x) ≡ None = sym (h.agree (length x) low)
+          ∙ slice_get_past x (length x) (omega arith) in
           let short : length z ≤ length x = none_past z (length x) ended in
           absurd (h.differ (slice_get_past x k (omega arith) ∙ sym (slice_get_past z k (omega arith))))
       | inr high ↦ high
@@ -81,7 +83,8 @@ same_letter : (x z : List ℕ) (j : ℕ) → slice_get x j ≡ slice_get z j →
 same_letter x z j e = sym (unwrap_or-slice_get z j 0) ∙ ap (λ o. unwrap_or o 0) (sym e) ∙ unwrap_or-slice_get x j 0
 
 -- in words the blank is none of the letters, so that they differ there
-letters_differ : (x z : List ℕ) (k : ℕ) → IsWord x → ((i : ℕ) → i < length z → slice_index z i ≢ 0) → slice_get x k ≢ slice_get z k → get_or z k 0 ≢ get_or x k 0
+letters_differ : (x z : List ℕ) (k : ℕ) → IsWord x → ((i : ℕ) → i < length z → slice_index z i ≢ 0)
+    → slice_get x k ≢ slice_get z k → get_or z k 0 ≢ get_or x k 0
 letters_differ x z k word other differ e =
     elim (cases_lt k (length x)) [
       | inl one ↦ elim (cases_lt k (length z)) [
@@ -107,36 +110,51 @@ on_tape t z out j low =
 
 -- ---- the law
 
-module _ (p q : Program) (left : IsStandardMachine p) (right : IsStandardMachine q) (x : List ℕ) (same : p.symbols ≡ q.symbols) (letters : IsSpelledBy p x) (word : IsWord x) where
+module _ (p q : Program) (left : IsStandardMachine p) (right : IsStandardMachine q) (x : List ℕ)
+    (same : p.symbols ≡ q.symbols) (letters : IsSpelledBy p x) (word : IsWord x) where
   -- the second half's steps to where the words part, before its tapes are exchanged
-  second_steps : (v w : ℕ) (y z : List ℕ) → HaltsAfter p x v y → (h : HaltsAfter q y w z) → (k : ℕ) → PartAt x z k → (ns : List ℕ) × Reaches (StepsBackOf q everywhere) (2 * w + 2 * k + 2) (ending q y x) (copying GoLeft h.moment ns x (suc k))
+  second_steps : (v w : ℕ) (y z : List ℕ) → HaltsAfter p x v y → (h : HaltsAfter q y w z) → (k : ℕ) → PartAt x z k
+      → (ns : List ℕ) × Reaches (StepsBackOf q everywhere) (2 * w + 2 * k + 2) (ending q y x)
+      (copying GoLeft h.moment ns x (suc k))
   second_steps v w y z halted h k part =
       let spelled = output_letters p q left right x y v same letters halted in
       let found = computed q y x right spelled w h.moment h.run in
       let ready = halted_is_ready q anywhere y found.0 z h.moment right spelled found.1 h.final h.output in
       let longer : k ≤ length z = part_within z x k (other_way x z k part) in
       let passed =
-      passes_from_halted q h.moment found.0 x ready.last (subst (λ s. All (λ a. a < s) x) same letters) word h.final ready.blank k (part_within x z k part)
-      (λ j low. on_tape h.moment.tape z h.output j (omega arith) ∙ same_letter x z j (part.agree j low)) in
-      (found.0, runs_join (StepsBackOf q everywhere) (2 * w + 2 * k + 2) (2 * w) (2 * k + 2) _ _ _ (omega arith) found.2 passed)
+      passes_from_halted q h.moment found.0 x ready.last (subst (λ s. All (λ a. a < s) x) same letters) word h.final
+      ready.blank k (part_within x z k part)
+      (λ j low. on_tape h.moment.tape z h.output j (omega arith) ∙ same_letter x z j (part.agree j low)) in (
+        found.0,
+        runs_join (StepsBackOf q everywhere) (2 * w + 2 * k + 2) (2 * w) (2 * k + 2) _ _ _ (omega arith) found.2
+            passed,
+      )
 
   unequal_stuck : (v w : ℕ) (y z : List ℕ) → HaltsAfter p x v y → HaltsAfter q y w z → (k : ℕ) → PartAt x z k
-      → (n : ℕ) → 4 * v + 4 * length y + 2 * w + 2 * k + 7 ≤ n → HasErasingOutcome p q x n (4 * v + 4 * length y + 2 * w + 2 * k + 7) (Stuck (Second GoLeft))
+      → (n : ℕ) → 4 * v + 4 * length y + 2 * w + 2 * k + 7 ≤ n → HasErasingOutcome p q x n
+      (4 * v + 4 * length y + 2 * w + 2 * k + 7) (Stuck (Second GoLeft))
   unequal_stuck v w y z halted h k part n low =
       let steps = second_steps v w y z halted h k part in
       let there = copying GoLeft h.moment steps.0 x (suc k) in
       let last : Configuration ErasingName = in_state (second_name p q) (exchanged_tapes there) in
-      let first = first_forth p q left right (4 * v + 4 * length y + 5) (beginning p x) (ending p x y) ((bennetts_theorem p x left letters).0 v y halted) in
+      let first = first_forth p q left right (4 * v + 4 * length y + 5) (beginning p x) (ending p x y)
+      ((bennetts_theorem p x left letters).0 v y halted) in
       let second = second_forth p q left right (2 * w + 2 * k + 2) (ending q y x) there steps.1 in
       let longer : k ≤ length z = part_within z x k (other_way x z k part) in
       let scans : scanned (ahead (suc k) h.moment.tape) ≡ get_or z k 0 = on_tape h.moment.tape z h.output k longer in
       record {
         moment = last;
-        run = run_of_halves p q left right (4 * v + 4 * length y + 2 * w + 2 * k + 7) (4 * v + 4 * length y + 5) (2 * w + 2 * k + 2) x _ last (omega arith) first (subst (λ d. Reaches (Steps everywhere (second_half p q) (erasing_final q)) (2 * w + 2 * k + 2) d last) (sym (middle_as_second p q left right x y)) second);
+        run = run_of_halves p q left right (4 * v + 4 * length y + 2 * w + 2 * k + 7) (4 * v + 4 * length y + 5)
+            (2 * w + 2 * k + 2) x _ last (omega arith) first (subst
+            (λ d. Reaches (Steps everywhere (second_half p q) (erasing_final q)) (2 * w + 2 * k + 2) d last)
+            (sym (middle_as_second p q left right x y)) second);
         in_time = low;
         ends = sticks (λ e. let name : Second GoLeft ≡ Second (Compute (start_of q.quints)) = e in cc)
-            (none_second p q left right there (differing_back q h.moment steps.0 x k (λ e. letters_differ x z k word h.output.letters part.differ (sym scans ∙ e ∙ scanned-ahead x k)))) refl;
+            (none_second p q left right there (differing_back q h.moment steps.0 x k
+            (λ e. letters_differ x z k word h.output.letters part.differ (sym scans ∙ e ∙ scanned-ahead x k))))
+            refl;
       }
 
 pub unequal_outputs_stop : UnequalOutputsStop
-unequal_outputs_stop p q x left right same letters word v w y z halted h k part n low = unequal_stuck p q left right x same letters word v w y z halted h k part n low
+unequal_outputs_stop p q x left right same letters word v w y z halted h k part n low =
+    unequal_stuck p q left right x same letters word v w y z halted h k part n low

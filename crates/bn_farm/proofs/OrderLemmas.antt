@@ -1,5 +1,6 @@
 -- What a line of a schedule says can be read from it, and only that.
-use Rattle.std.specs.Prelude.{◌≡◌, ◌≢◌, ℕ, ◌≤◌, ◌==◌, nat_le, Bool, true, false, List, [], ◌∷◌, ◌++◌, Option, Some, None, codes, decimal, refl}
+use Rattle.std.specs.Prelude.{◌≡◌, ◌≢◌, ℕ, ◌≤◌, ◌==◌, nat_le, Bool, true, false, List, [], ◌∷◌, ◌++◌, Option, Some}
+use Rattle.std.specs.Prelude.{None, codes, decimal, refl}
 use Rattle.std.specs.Str.Parse.{digits_value}
 use Rattle.std.proofs.Common.{arith, sym, ap, subst, ◌∙◌, append_assoc}
 use Rattle.std.proofs.lemmas.Bool.Decides.{nat_tests}
@@ -10,14 +11,17 @@ use Rattle.std.proofs.lemmas.Str.Parse.{IsNumeralModel, numerals_by_value, tells
 use Rattle.bn_base.specs.Line.{IsInLine}
 use Rattle.bn_base.specs.Number.{greatest, AreDigits}
 use Rattle.bn_netlist_laws.specs.Reading.{word_taken, number_taken}
-use Rattle.bn_netlist_laws.proofs.LineReadingLemmas.{word_taken-takes, word_taken-again, number_taken-takes, number_taken-again}
+use Rattle.bn_netlist_laws.proofs.LineReadingLemmas.{word_taken-takes, word_taken-again, number_taken-takes}
+use Rattle.bn_netlist_laws.proofs.LineReadingLemmas.{number_taken-again}
 use Rattle.bn_farm.specs.FarmTexts.{IsSayableOrder, order_text, sign_text}
 use Rattle.bn_farm.specs.declared.order.Order.{Order}
 use Rattle.bn_farm.specs.Reading.{order_taken, sign_by, sign_taken}
 
 -- ---- what is read is written so
 
-sign_takes : (plus minus : Option (List ℕ)) (bytes behind : List ℕ) (forward : Bool) → word_taken (codes "+ ") bytes ≡ plus → word_taken (codes "- ") bytes ≡ minus → sign_by plus minus ≡ Some (forward, behind) → bytes ≡ sign_text forward ++ behind
+sign_takes : (plus minus : Option (List ℕ)) (bytes behind : List ℕ) (forward : Bool)
+    → word_taken (codes "+ ") bytes ≡ plus → word_taken (codes "- ") bytes ≡ minus
+    → sign_by plus minus ≡ Some (forward, behind) → bytes ≡ sign_text forward ++ behind
 sign_takes (Some rest) minus bytes behind forward p m h =
     let both = some_pair_parts true forward rest behind h in
     word_taken-takes (codes "+ ") bytes rest p ∙ (λ i. sign_text (both.0 i) ++ both.1 i)
@@ -26,21 +30,26 @@ sign_takes None (Some rest) bytes behind forward p m h =
     word_taken-takes (codes "- ") bytes rest m ∙ (λ i. sign_text (both.0 i) ++ both.1 i)
 sign_takes None None bytes behind forward p m h = absurd (cc)
 
-sign_taken-takes : (bytes behind : List ℕ) (forward : Bool) → sign_taken bytes ≡ Some (forward, behind) → bytes ≡ sign_text forward ++ behind
+sign_taken-takes : (bytes behind : List ℕ) (forward : Bool) → sign_taken bytes ≡ Some (forward, behind)
+    → bytes ≡ sign_text forward ++ behind
 unfolding sign_taken
-sign_taken-takes bytes behind forward h = sign_takes (word_taken (codes "+ ") bytes) (word_taken (codes "- ") bytes) bytes behind forward refl refl h
+sign_taken-takes bytes behind forward h = sign_takes (word_taken (codes "+ ") bytes) (word_taken (codes "- ") bytes)
+    bytes behind forward refl refl h
 
 -- the line with its byte 10, its pieces one behind the other
-pub pieces : (o : Order) (behind : List ℕ) → order_text o ++ 10 ∷ behind ≡ sign_text o.forward ++ (decimal o.number ++ (codes " " ++ (decimal o.count ++ 10 ∷ behind)))
+pub pieces : (o : Order) (behind : List ℕ) → order_text o ++ 10 ∷ behind
+    ≡ sign_text o.forward ++ (decimal o.number ++ (codes " " ++ (decimal o.count ++ 10 ∷ behind)))
 pieces o behind =
     append_assoc (sign_text o.forward) (decimal o.number ++ (codes " " ++ decimal o.count)) (10 ∷ behind)
-    ∙ ap (λ r. sign_text o.forward ++ r) (append_assoc (decimal o.number) (codes " " ++ decimal o.count) (10 ∷ behind) ∙ ap (λ r. decimal o.number ++ r) (append_assoc (codes " ") (decimal o.count) (10 ∷ behind)))
+    ∙ ap (λ r. sign_text o.forward ++ r) (append_assoc (decimal o.number) (codes " " ++ decimal o.count) (10 ∷ behind)
+    ∙ ap (λ r. decimal o.number ++ r) (append_assoc (codes " ") (decimal o.count) (10 ∷ behind)))
 
 pub record IsTaken (o : Order) (bytes behind : List ℕ) : Type 0 where
   pub sayable : IsSayableOrder o
   pub written : bytes ≡ order_text o ++ 10 ∷ behind
 
-pub order_taken-takes : (bytes behind : List ℕ) (o : Order) → order_taken bytes ≡ Some (o, behind) → IsTaken o bytes behind
+pub order_taken-takes : (bytes behind : List ℕ) (o : Order) → order_taken bytes ≡ Some (o, behind)
+    → IsTaken o bytes behind
 unfolding order_taken
 order_taken-takes bytes behind o h =
     option_and_then_some _ (sign_taken bytes) (o, behind) h (λ sign s_is h1.
@@ -58,18 +67,25 @@ order_taken-takes bytes behind o h =
     let test = tested.0 in
     let some : 1 ≤ count.0 = grind (arith, nat_tests) in
     let written : bytes ≡ order_text made ++ 10 ∷ left =
-    first ∙ ap (λ r. sign_text sign.0 ++ r) (second.1 ∙ ap (λ r. decimal number.0 ++ r) (third ∙ ap (λ r. codes " " ++ r) (fourth.1 ∙ ap (λ r. decimal count.0 ++ r) fifth))) ∙ sym (pieces made left) in
+    first ∙ ap (λ r. sign_text sign.0 ++ r) (second.1 ∙ ap (λ r. decimal number.0 ++ r)
+    (third ∙ ap (λ r. codes " " ++ r) (fourth.1 ∙ ap (λ r. decimal count.0 ++ r) fifth)))
+    ∙ sym (pieces made left) in
     let P : Order × List ℕ → Type 0 = λ p. IsTaken p.0 bytes p.1 in
-    subst P tested.1 (record { sayable = record { number = second.0; some = some; few = fourth.0 }; written = written }))))))
+    subst P tested.1 (record {
+      sayable = record { number = second.0; some = some; few = fourth.0 };
+      written = written;
+    }))))))
 
 -- ---- what is written is read
 
-sign_taken-again : (forward : Bool) (behind : List ℕ) → sign_taken (sign_text forward ++ behind) ≡ Some (forward, behind)
+sign_taken-again : (forward : Bool) (behind : List ℕ) → sign_taken (sign_text forward ++ behind)
+    ≡ Some (forward, behind)
 unfolding sign_taken word_taken
 sign_taken-again true behind = refl
 sign_taken-again false behind = refl
 
-again : (o : Order) (behind : List ℕ) → IsSayableOrder o → order_taken (sign_text o.forward ++ (decimal o.number ++ (codes " " ++ (decimal o.count ++ 10 ∷ behind)))) ≡ Some (o, behind)
+again : (o : Order) (behind : List ℕ) → IsSayableOrder o → order_taken
+    (sign_text o.forward ++ (decimal o.number ++ (codes " " ++ (decimal o.count ++ 10 ∷ behind)))) ≡ Some (o, behind)
 unfolding order_taken
 again o behind h =
     let sign = sign_taken-again o.forward (decimal o.number ++ (codes " " ++ (decimal o.count ++ 10 ∷ behind))) in
@@ -81,15 +97,19 @@ again o behind h =
     let test : nat_le 1 o.count ≡ true = grind (arith, nat_tests) in
     rw (sign, number, space, count, last, test) refl
 
-pub order_taken-again : (o : Order) (behind : List ℕ) → IsSayableOrder o → order_taken (order_text o ++ 10 ∷ behind) ≡ Some (o, behind)
+pub order_taken-again : (o : Order) (behind : List ℕ) → IsSayableOrder o
+    → order_taken (order_text o ++ 10 ∷ behind) ≡ Some (o, behind)
 order_taken-again o behind h = ap order_taken (pieces o behind) ∙ again o behind h
 
-same_taken : (a b : Order) (x y : List ℕ) → ◌≡◌ {A = Option (Order × List ℕ)} (Some (a, x)) (Some (b, y)) → (a ≡ b) × (x ≡ y)
+same_taken : (a b : Order) (x y : List ℕ) → ◌≡◌ {A = Option (Order × List ℕ)} (Some (a, x)) (Some (b, y))
+    → (a ≡ b) × (x ≡ y)
 same_taken a b x y e = some_pair_parts a b x y e
 
 -- two texts that begin with a line are one where they are equal
-pub lines-same : (a b : Order) (rest other : List ℕ) → IsSayableOrder a → IsSayableOrder b → order_text a ++ 10 ∷ rest ≡ order_text b ++ 10 ∷ other → (a ≡ b) × (rest ≡ other)
-lines-same a b rest other one also e = same_taken a b rest other (sym (order_taken-again a rest one) ∙ ap order_taken e ∙ order_taken-again b other also)
+pub lines-same : (a b : Order) (rest other : List ℕ) → IsSayableOrder a → IsSayableOrder b
+    → order_text a ++ 10 ∷ rest ≡ order_text b ++ 10 ∷ other → (a ≡ b) × (rest ≡ other)
+lines-same a b rest other one also e = same_taken a b rest other
+    (sym (order_taken-again a rest one) ∙ ap order_taken e ∙ order_taken-again b other also)
 
 -- ---- no line holds a byte 10, and none is the mark
 
@@ -115,7 +135,8 @@ pub order_in_line : (o : Order) → IsSayableOrder o → IsInLine (order_text o)
 order_in_line o h =
     All-append Ten (sign_text o.forward) (decimal o.number ++ (codes " " ++ decimal o.count)) (sign_in_line o.forward)
     (All-append Ten (decimal o.number) (codes " " ++ decimal o.count) (number_in_line o.number h.number)
-    (All-append Ten (codes " ") (decimal o.count) (All-cons Ten 32 [] (apart 32 refl) (All-nil Ten)) (number_in_line o.count h.few)))
+    (All-append Ten (codes " ") (decimal o.count) (All-cons Ten 32 [] (apart 32 refl) (All-nil Ten))
+    (number_in_line o.count h.few)))
 
 -- the byte at the front, or none
 abbrev pub front_of : List ℕ → ℕ

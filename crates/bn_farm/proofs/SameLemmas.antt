@@ -10,7 +10,8 @@ use Rattle.bn_netlist_laws.specs.Spelling.{AreSame, Spelling, Spelled, circuit_o
 use Rattle.bn_netlist_laws.proofs.TextLemmas.{spellings-agree}
 use Rattle.bn_netlist_laws.proofs.EntryLemmas.{same-have-one-text}
 use Rattle.bn_farm.specs.declared.event.Event.{Event}
-use Rattle.bn_farm.specs.Farms.{FarmBoard, Tick, after_steps, at_board, circuit_in, elements_together, farm_after, play, stepped, ticked, ticks, ticks_of}
+use Rattle.bn_farm.specs.Farms.{FarmBoard, Tick, after_steps, at_board, circuit_in, elements_together, farm_after, play}
+use Rattle.bn_farm.specs.Farms.{stepped, ticked, ticks, ticks_of}
 use Rattle.bn_farm.specs.Undo.{steps_between, event_of, made, made_on, other, undoing}
 use Rattle.bn_farm.specs.FarmTexts.{IsFarmText, SpellBoards, parts_text, schedule_text}
 
@@ -26,7 +27,8 @@ AreAllSame [] (c ∷ cs) = ⊥
 AreAllSame (b ∷ bs) [] = ⊥
 AreAllSame (b ∷ bs) (c ∷ cs) = AreSameBoards b c × AreAllSame bs cs
 
-pub spelled_same : (parts : List (List ℕ)) (bs cs : List FarmBoard) → SpellBoards parts bs → SpellBoards parts cs → AreAllSame bs cs
+pub spelled_same : (parts : List (List ℕ)) (bs cs : List FarmBoard) → SpellBoards parts bs → SpellBoards parts cs
+    → AreAllSame bs cs
 spelled_same [] [] [] a b = tt
 spelled_same [] [] (c ∷ cs) a b = absurd b
 spelled_same [] (x ∷ bs) cs a b = absurd a
@@ -37,13 +39,21 @@ spelled_same (part ∷ parts) (x ∷ bs) (c ∷ cs) a b =
     (record { version = both.0; same = both.1 }, spelled_same parts bs cs a.1 b.1)
 
 alike : (b c : FarmBoard) → AreSameBoards b c → AreAlike (circuit_in b) (circuit_in c)
-alike b c is = record { tables = ap (λ n. replicate n rotary) is.same.elements; targets = is.same.targets; sources = is.same.sources }
+alike b c is = record {
+  tables = ap (λ n. replicate n rotary) is.same.elements;
+  targets = is.same.targets;
+  sources = is.same.sources;
+}
 
-stepped_same : (f : Bool) (n : ℕ) (b c : FarmBoard) → AreSameBoards b c → stepped f (circuit_in b) b.spelling.config n ≡ stepped f (circuit_in c) c.spelling.config n
-stepped_same true n b c is = run-alike (circuit_in b) (circuit_in c) (alike b c is) b.spelling.config n ∙ ap (λ x. run (circuit_in c) x n) is.same.config
-stepped_same false n b c is = back-alike (circuit_in b) (circuit_in c) (alike b c is) b.spelling.config n ∙ ap (λ x. back (circuit_in c) x n) is.same.config
+stepped_same : (f : Bool) (n : ℕ) (b c : FarmBoard) → AreSameBoards b c
+    → stepped f (circuit_in b) b.spelling.config n ≡ stepped f (circuit_in c) c.spelling.config n
+stepped_same true n b c is = run-alike (circuit_in b) (circuit_in c) (alike b c is) b.spelling.config n
+    ∙ ap (λ x. run (circuit_in c) x n) is.same.config
+stepped_same false n b c is = back-alike (circuit_in b) (circuit_in c) (alike b c is) b.spelling.config n
+    ∙ ap (λ x. back (circuit_in c) x n) is.same.config
 
-after_same : (f : Bool) (n : ℕ) (b c : FarmBoard) → AreSameBoards b c → AreSameBoards (after_steps f n b) (after_steps f n c)
+after_same : (f : Bool) (n : ℕ) (b c : FarmBoard) → AreSameBoards b c
+    → AreSameBoards (after_steps f n b) (after_steps f n c)
 after_same f n b c is = record {
   version = is.version;
   same = record {
@@ -56,7 +66,8 @@ after_same f n b c is = record {
   };
 }
 
-at_same : (f : Bool) (n i : ℕ) (bs cs : List FarmBoard) → AreAllSame bs cs → AreAllSame (at_board (after_steps f n) i bs) (at_board (after_steps f n) i cs)
+at_same : (f : Bool) (n i : ℕ) (bs cs : List FarmBoard) → AreAllSame bs cs
+    → AreAllSame (at_board (after_steps f n) i bs) (at_board (after_steps f n) i cs)
 at_same f n i [] [] same = tt
 at_same f n i [] (c ∷ cs) same = absurd same
 at_same f n i (b ∷ bs) [] same = absurd same
@@ -67,7 +78,8 @@ play_same : (bs cs : List FarmBoard) (ts : List Tick) → AreAllSame bs cs → A
 play_same bs cs [] same = same
 play_same bs cs (t ∷ ts) same = play_same (ticked t bs) (ticked t cs) ts (at_same t.forward 1 t.board bs cs same)
 
-made_same : (e : Event) (i : ℕ) (bs cs : List FarmBoard) → AreAllSame bs cs → option_map_or (made_on e) (slice_get bs i) 0 ≡ option_map_or (made_on e) (slice_get cs i) 0
+made_same : (e : Event) (i : ℕ) (bs cs : List FarmBoard) → AreAllSame bs cs
+    → option_map_or (made_on e) (slice_get bs i) 0 ≡ option_map_or (made_on e) (slice_get cs i) 0
 made_same e i [] [] same = refl
 made_same e i [] (c ∷ cs) same = absurd same
 made_same e i (b ∷ bs) [] same = absurd same
@@ -84,7 +96,8 @@ undoing_same bs cs (e ∷ es) same =
     (λ i. rest i ++ event_of (other e.forward) e.board (number i))
 
 -- and have the same texts
-pub texts_same : (parts others : List (List ℕ)) (bs cs : List FarmBoard) → AreAllSame bs cs → SpellBoards parts bs → SpellBoards others cs → parts ≡ others
+pub texts_same : (parts others : List (List ℕ)) (bs cs : List FarmBoard) → AreAllSame bs cs → SpellBoards parts bs
+    → SpellBoards others cs → parts ≡ others
 texts_same [] [] bs cs same a b = refl
 texts_same [] (q ∷ others) [] [] same a b = absurd b
 texts_same [] (q ∷ others) [] (c ∷ cs) same a b = absurd same
@@ -113,9 +126,11 @@ elements_same (b ∷ bs) [] same = absurd same
 elements_same (b ∷ bs) (c ∷ cs) same = let rest = elements_same bs cs same.1 in (λ i. same.0.same.elements i + rest i)
 
 -- so what is answered is one
-pub played_same : (bs cs : List FarmBoard) (es : List Event) (text other : List ℕ) → AreAllSame bs cs → IsFarmText (farm_after bs es) (undoing bs es) text
+pub played_same : (bs cs : List FarmBoard) (es : List Event) (text other : List ℕ) → AreAllSame bs cs
+    → IsFarmText (farm_after bs es) (undoing bs es) text
     → IsFarmText (farm_after cs es) (undoing cs es) other → text ≡ other
 played_same bs cs es text other same a b =
-    let parts = texts_same a.parts b.parts (farm_after bs es) (farm_after cs es) (play_same bs cs (ticks es) same) a.spell b.spell in
+    let parts = texts_same a.parts b.parts (farm_after bs es) (farm_after cs es) (play_same bs cs (ticks es) same)
+    a.spell b.spell in
     let back = undoing_same bs cs es same in
     a.written ∙ (λ i. parts_text (parts i) ++ schedule_text (back i)) ∙ sym b.written

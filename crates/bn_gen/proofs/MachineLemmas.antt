@@ -1,7 +1,8 @@
 -- The machine of k increments, for k from 1 to 4: it is a machine, in standard form, as tables have it.
 use Rattle.std.specs.Prelude.{Some, length, All, nat_eq}
 use Rattle.std.specs.List.{list_all}
-use Rattle.std.proofs.Common.{◌≡◌, ◌≢◌, ◌∙◌, ◌<◌, ◌+◌, ◌*◌, ◌^◌, ℕ, zero, suc, List, Bool, true, ◌&&◌, ltb, get_or, sym, ap, subst, arith, refl}
+use Rattle.std.proofs.Common.{◌≡◌, ◌≢◌, ◌∙◌, ◌<◌, ◌+◌, ◌*◌, ◌^◌, ℕ, zero, suc, List, Bool, true, ◌&&◌, ltb, get_or, sym}
+use Rattle.std.proofs.Common.{ap, subst, arith, refl}
 use Rattle.std.proofs.lemmas.Bool.{and_parts, ltb-true}
 use Rattle.std.proofs.lemmas.Option.{slice_get_within, get_or_from_slice_get}
 use Rattle.std.proofs.lemmas.List.Sums.{AllPass-from_list_all}
@@ -28,26 +29,36 @@ in_range_by : (states : ℕ) (q : Quint) → ranges states q ≡ true → IsInRa
 in_range_by states q passed =
     let front = and_parts _ _ (and_parts _ _ passed).0 in
     let back = and_parts _ _ (and_parts _ _ passed).1 in
-    record { state = ltb-true _ _ front.0; read = ltb-true _ _ front.1; write = ltb-true _ _ back.0; next = ltb-true _ _ back.1 }
+    record {
+      state = ltb-true _ _ front.0;
+      read = ltb-true _ _ front.1;
+      write = ltb-true _ _ back.0;
+      next = ltb-true _ _
+          back.1;
+    }
 
 all_range : (k : ℕ) → IsRoundCount k → list_all (ranges (3 * k + 2)) (quints_of k) ≡ true
 all_range = by_cases (λ k. list_all (ranges (3 * k + 2)) (quints_of k) ≡ true) refl refl refl refl
 
 pub in_range : (k : ℕ) → IsRoundCount k → All (IsInRange (3 * k + 2) 3) (quints_of k)
 in_range k h = λ i d inside.
-    in_range_by (3 * k + 2) (get_or (quints_of k) i d) (AllPass-from_list_all (ranges (3 * k + 2)) (quints_of k) (all_range k h) i d inside)
+    in_range_by (3 * k + 2) (get_or (quints_of k) i d) (AllPass-from_list_all (ranges (3 * k + 2)) (quints_of k)
+    (all_range k h) i d inside)
 
 pub few : (k : ℕ) (quints : List Quint) → IsRoundCount k → quints ≡ quints_of k → length quints < 2 ^ 32
-few k quints h same = let count : length quints ≡ 9 * k + 1 = ap length same ∙ counted k h in omega (arith, count, h.few)
+few k quints h same = let count : length quints ≡ 9 * k + 1 =
+    ap length same ∙ counted k h in omega (arith, count, h.few)
 
 -- no quintuple is out of range
-pub no_fault : (k : ℕ) (quints : List Quint) (i : ℕ) → IsRoundCount k → quints ≡ quints_of k → IsFirstFault (3 * k + 2) 3 quints i → ⊥
+pub no_fault : (k : ℕ) (quints : List Quint) (i : ℕ) → IsRoundCount k → quints ≡ quints_of k
+    → IsFirstFault (3 * k + 2) 3 quints i → ⊥
 no_fault k quints zero h same fault = absurd (cc)
 no_fault k quints (suc i) h same fault =
     let q = fault.faulty.0 in
     let inside : i < length quints = slice_get_within quints i q fault.faulty.1 in
     let all = subst (All (IsInRange (3 * k + 2) 3)) (sym same) (in_range k h) in
-    fault.faulty.2 (subst (IsInRange (3 * k + 2) 3) (get_or_from_slice_get quints i q q fault.faulty.1) (all i q inside))
+    fault.faulty.2 (subst (IsInRange (3 * k + 2) 3) (get_or_from_slice_get quints i q q fault.faulty.1)
+    (all i q inside))
 
 -- ---- it is in standard form
 
@@ -77,8 +88,10 @@ all_avoid_final = by_cases (λ k. passes (avoids_final (final k) (9 * k + 1)) 1 
 ends_final : (k : ℕ) → IsRoundCount k → final_of (quints_of k) ≡ final k
 ends_final = by_cases (λ k. final_of (quints_of k) ≡ final k) refl refl refl refl
 
-last_stands : (k : ℕ) → IsRoundCount k → nth (quints_of k) (length (quints_of k)) ≡ Some (increment_rule (left_going k) 0 0 Stay (final k))
-last_stands = by_cases (λ k. nth (quints_of k) (length (quints_of k)) ≡ Some (increment_rule (left_going k) 0 0 Stay (final k))) refl refl refl refl
+last_stands : (k : ℕ) → IsRoundCount k → nth (quints_of k) (length (quints_of k))
+    ≡ Some (increment_rule (left_going k) 0 0 Stay (final k))
+last_stands = by_cases (λ k. nth (quints_of k) (length (quints_of k))
+    ≡ Some (increment_rule (left_going k) 0 0 Stay (final k))) refl refl refl refl
 
 not_start : (k : ℕ) → IsRoundCount k → left_going k ≢ 0
 not_start k h e = omega (arith, h.some, e)
@@ -86,7 +99,12 @@ not_start k h e = omega (arith, h.some, e)
 pub standard : (k : ℕ) → IsRoundCount k → IsStandard (quints_of k)
 standard k h = record {
   unambiguous = apart place (quints_of k) (all_apart k h);
-  begins = record { quint = increment_rule 0 0 0 Right 1; stands = refl; begins = record { reads = refl; writes = refl; shifts = refl } };
+  begins = record {
+    quint = increment_rule 0 0 0 Right 1;
+    stands = refl;
+    begins = record
+        { reads = refl; writes = refl; shifts = refl };
+  };
   lone_start = lone_start (quints_of k) refl (all_avoid_start k h);
   ends = record {
     quint = increment_rule (left_going k) 0 0 Stay (final k);

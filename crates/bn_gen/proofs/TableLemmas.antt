@@ -4,7 +4,8 @@ use Rattle.std.specs.List.{list_all}
 use Rattle.std.proofs.Math.ListN.{get_or-append}
 use Rattle.std.proofs.lemmas.List.{get_or-take}
 use Rattle.std.proofs.lemmas.Option.{slice_get-get_or}
-use Rattle.std.proofs.Common.{◌≡◌, ◌≤◌, ◌<◌, ◌+◌, ◌*◌, ◌∷◌, [], ℕ, zero, suc, ap, List, true, ◌∙◌, refl, sym, subst, arith}
+use Rattle.std.proofs.Common.{◌≡◌, ◌≤◌, ◌<◌, ◌+◌, ◌*◌, ◌∷◌, [], ℕ, zero, suc, ap, List, true, ◌∙◌, refl, sym, subst}
+use Rattle.std.proofs.Common.{arith}
 use Rattle.bn_csv.specs.Forms.{is_state_name, is_symbol_byte}
 use Rattle.bn_csv.specs.Lines.{lines_of}
 use Rattle.bn_csv.proofs.FormsLemmas.{all-at}
@@ -29,9 +30,11 @@ names_first : (k : ℕ) → IsRoundCount k → increment_names k ≡ firsts (nam
 unfolding firsts_by
 names_first = by_cases (λ k. increment_names k ≡ firsts (names_in (rows_of (increments_table k)))) refl refl refl refl
 
-letters_first : (k : ℕ) → IsRoundCount k → increment_letters ≡ firsts_by nat_eq (blank ∷ letters_in (rows_of (increments_table k)))
+letters_first : (k : ℕ) → IsRoundCount k → increment_letters
+    ≡ firsts_by nat_eq (blank ∷ letters_in (rows_of (increments_table k)))
 unfolding firsts_by
-letters_first = by_cases (λ k. increment_letters ≡ firsts_by nat_eq (blank ∷ letters_in (rows_of (increments_table k)))) refl refl refl refl
+letters_first = by_cases (λ k. increment_letters ≡ firsts_by nat_eq (blank ∷ letters_in (rows_of (increments_table k))))
+    refl refl refl refl
 
 names_form : (k : ℕ) → IsRoundCount k → list_all is_state_name (increment_names k) ≡ true
 names_form = by_cases (λ k. list_all is_state_name (increment_names k) ≡ true) refl refl refl refl
@@ -65,18 +68,21 @@ pub final_name : (k : ℕ) → IsRoundCount k → slice_index_or (increment_name
 final_name = by_cases (λ k. slice_index_or (increment_names k) (3 * k + 1) [] ≡ codes "F") refl refl refl refl
 
 -- any other state's
-pub other_name : (k s : ℕ) → IsRoundCount k → s < 3 * k + 1 → slice_index_or (increment_names k) s [] ≡ slice_index_or round_names s []
+pub other_name : (k s : ℕ) → IsRoundCount k → s < 3 * k + 1 → slice_index_or (increment_names k) s []
+    ≡ slice_index_or round_names s []
 other_name k s h low =
     let count : length (take (3 * k + 1) round_names) ≡ 3 * k + 1 = long_enough k h in
     let inside : s < length (take (3 * k + 1) round_names) = omega (arith, count, low) in
-    get_or-append (take (3 * k + 1) round_names) (codes "F" ∷ []) [] s inside ∙ get_or-take (3 * k + 1) round_names s [] low
+    get_or-append (take (3 * k + 1) round_names) (codes "F" ∷ []) [] s inside
+    ∙ get_or-take (3 * k + 1) round_names s [] low
 
 -- the names and letters of a quintuple in range have their forms
 name_form : (k s : ℕ) → IsRoundCount k → s < 3 * k + 2 → is_state_name (slice_index_or (increment_names k) s []) ≡ true
 name_form k s h low =
     let counted : length (increment_names k) ≡ 3 * k + 2 = named k h in
     let inside : s < length (increment_names k) = omega (arith, counted, low) in
-    all-at is_state_name (increment_names k) s (slice_index_or (increment_names k) s []) (names_form k h) (slice_get-get_or (increment_names k) s [] inside)
+    all-at is_state_name (increment_names k) s (slice_index_or (increment_names k) s []) (names_form k h)
+    (slice_get-get_or (increment_names k) s [] inside)
 
 letter_form : (a : ℕ) → a < 3 → is_symbol_byte (slice_index increment_letters a) ≡ true
 letter_form zero low = refl
@@ -100,7 +106,8 @@ forms k q state next h r state_is next_is = record {
 pub text_is : (k : ℕ) (quints : List Quint) (i : ℕ) (text : List ℕ) → quints ≡ quints_of k → length quints ≤ i →
     text ≡ lines_of (rows_by (increment_names k) increment_letters (take i quints)) → text ≡ increments_text k
 text_is k quints i text same all e =
-    lines-all (increment_names k) increment_letters quints i text all e ∙ ap (λ (qs : List Quint). lines_of (rows_by (increment_names k) increment_letters qs)) same
+    lines-all (increment_names k) increment_letters quints i text all e
+    ∙ ap (λ (qs : List Quint). lines_of (rows_by (increment_names k) increment_letters qs)) same
 
 pub text_reads : (k : ℕ) (text : List ℕ) → IsRoundCount k → text ≡ increments_text k → Reads text (increments_table k)
 text_reads k text h e = reads-back (increments_table k) text (is_table k h) e

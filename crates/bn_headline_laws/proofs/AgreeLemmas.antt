@@ -20,11 +20,13 @@ use Rattle.bn_reply.specs.declared.status.Status.{Status}
 use Rattle.bn_reply_boards_laws.specs.Headline.{outcome_line}
 use Rattle.bn_reply_boards_laws.specs.RunText.{elements_line, steps_line, tapes_text}
 use Rattle.bn_headline_laws.specs.Elements.{elements, most_steps}
-use Rattle.bn_headline_laws.specs.MachineHeadline.{AreLastLines, MachineHeadline, TellsExit, TookAnswer, TookRun, least_steps}
+use Rattle.bn_headline_laws.specs.MachineHeadline.{AreLastLines, MachineHeadline, TellsExit, TookAnswer, TookRun}
+use Rattle.bn_headline_laws.specs.MachineHeadline.{least_steps}
 use Rattle.bn_headline_laws.specs.Laws.{AgreeAs, DifferInSteps, HeadlinesAgree}
 
 -- runs of as many steps are one, and by the same quintuples
-follows_once : (p : Program) (ns ms : List ℕ) (x c d : Moment) → length ns ≡ length ms → Follows anywhere p ns x c → Follows anywhere p ms x d
+follows_once : (p : Program) (ns ms : List ℕ) (x c d : Moment) → length ns ≡ length ms → Follows anywhere p ns x c
+    → Follows anywhere p ms x d
     → (ns ≡ ms) × (c ≡ d)
 follows_once p [] [] x c d count h k = (refl, sym h ∙ k)
 follows_once p [] (m ∷ ms) x c d count h k = absurd (cc)
@@ -54,11 +56,13 @@ module _ (p : Program) (l : Limits) (ns : List ℕ) (c : Moment) where
   tapes_one o x y (at_stop a b) (to_write z k final out e last f) = absurd (stop_apart 3 _ _ _ o a e)
   tapes_one o x y (for_number d goes a b) (at_stop e f) = absurd (stop_apart 2 _ _ _ o e a)
   tapes_one o x y (for_number d goes a b) (for_number g goes_too e f) = b ∙ sym f
-  tapes_one o x y (for_number d goes a b) (for_shift g end goes_too e f) = absurd (let same = tapes_apart 2 1 _ _ o a e in omega arith)
+  tapes_one o x y (for_number d goes a b) (for_shift g end goes_too e f) =
+      absurd (let same = tapes_apart 2 1 _ _ o a e in omega arith)
   tapes_one o x y (for_number d goes a b) (to_read z k final out e last f) = absurd (no_step d goes final)
   tapes_one o x y (for_number d goes a b) (to_write z k final out e last f) = absurd (no_step d goes final)
   tapes_one o x y (for_shift d end goes a b) (at_stop e f) = absurd (stop_apart 1 _ _ _ o e a)
-  tapes_one o x y (for_shift d end goes a b) (for_number g goes_too e f) = absurd (let same = tapes_apart 1 2 _ _ o a e in omega arith)
+  tapes_one o x y (for_shift d end goes a b) (for_number g goes_too e f) =
+      absurd (let same = tapes_apart 1 2 _ _ o a e in omega arith)
   tapes_one o x y (for_shift d end goes a b) (for_shift g other goes_too e f) =
       let same : d ≡ g = steps_are_functions anywhere p c d g goes goes_too in
       b ∙ (λ j. ((same j).tape, shift (history ns) Right, blank_tape)) ∙ sym f
@@ -70,24 +74,39 @@ module _ (p : Program) (l : Limits) (ns : List ℕ) (c : Moment) where
   tapes_one o x y (to_read z k final out a last b) (to_read w n also out_too e last_too f) =
       let words : z ≡ w = output_once c.tape z w out out_too in
       let counts : k ≡ n = omega (arith, ints, last, last_too) in
-      b ∙ (λ j. (shift (ahead (counts j) c.tape) Right, history ns, ahead (counts j) (word_tape (take (counts j) (words j))))) ∙ sym f
-  tapes_one o x y (to_read z k final out a last b) (to_write w n also out_too e last_too f) = absurd (let same = tapes_apart 1 3 _ _ o a e in omega arith)
+      b ∙ (λ j. (
+        shift (ahead (counts j) c.tape) Right,
+        history ns,
+        ahead (counts j)
+            (word_tape (take (counts j) (words j))),
+      )) ∙ sym f
+  tapes_one o x y (to_read z k final out a last b) (to_write w n also out_too e last_too f) =
+      absurd (let same = tapes_apart 1 3 _ _ o a e in omega arith)
   tapes_one o x y (to_write z k final out a last b) (at_stop e f) = absurd (stop_apart 3 _ _ _ o e a)
   tapes_one o x y (to_write z k final out a last b) (for_number g goes e f) = absurd (no_step g goes final)
   tapes_one o x y (to_write z k final out a last b) (for_shift g end goes e f) = absurd (no_step g goes final)
-  tapes_one o x y (to_write z k final out a last b) (to_read w n also out_too e last_too f) = absurd (let same = tapes_apart 3 1 _ _ o a e in omega arith)
+  tapes_one o x y (to_write z k final out a last b) (to_read w n also out_too e last_too f) =
+      absurd (let same = tapes_apart 3 1 _ _ o a e in omega arith)
   tapes_one o x y (to_write z k final out a last b) (to_write w n also out_too e last_too f) =
       let words : z ≡ w = output_once c.tape z w out out_too in
       let counts : k ≡ n = omega arith in
-      b ∙ (λ j. (shift (ahead (counts j) c.tape) Right, history ns, shift (ahead (counts j) (word_tape (take (counts j) (words j)))) Right)) ∙ sym f
+      b ∙ (λ j. (
+        shift (ahead (counts j) c.tape) Right,
+        history ns,
+        shift
+            (ahead (counts j) (word_tape (take (counts j) (words j)))) Right,
+      )) ∙ sym f
 
 module _ (t : Named) (l : Limits) (symbols : List ℕ) (i : ℕ) where
   -- and so are the lines of them
-  end_one : (o : Outcome) (a b : List ℕ) (x y : Tape × Tape × Tape) → HasEndTapes t.machine symbols l i o x → HasEndTapes t.machine symbols l i o y
+  end_one : (o : Outcome) (a b : List ℕ) (x y : Tape × Tape × Tape) → HasEndTapes t.machine symbols l i o x
+      → HasEndTapes t.machine symbols l i o y
       → a ≡ tapes_text t l x → b ≡ tapes_text t l y → a ≡ b
   end_one o a b x y one two first second =
-      let same = follows_once t.machine one.numbers two.numbers (start t.machine symbols) one.moment two.moment (one.steps ∙ sym two.steps) one.run two.run in
-      let moved = subst (λ m. AreEndTapes t.machine l two.numbers m o x) same.1 (subst (λ ns. AreEndTapes t.machine l ns one.moment o x) same.0 one.tapes) in
+      let same = follows_once t.machine one.numbers two.numbers (start t.machine symbols) one.moment two.moment
+      (one.steps ∙ sym two.steps) one.run two.run in
+      let moved = subst (λ m. AreEndTapes t.machine l two.numbers m o x) same.1
+      (subst (λ ns. AreEndTapes t.machine l ns one.moment o x) same.0 one.tapes) in
       first ∙ ap (tapes_text t l) (tapes_one t.machine l two.numbers two.moment o x y moved two.tapes) ∙ sym second
 
   -- the last lines of a run are one
@@ -97,7 +116,8 @@ module _ (t : Named) (l : Limits) (symbols : List ℕ) (i : ℕ) where
   last_one (Outside n s) a b h k = end_one (Outside n s) a b h.0 k.0 h.1 k.1 h.2 k.2
 
   abbrev Took : Outcome → Status → List ℕ → List ℕ → Type 0
-  Took o status taken took = TookRun (TellsExit t l symbols i o) (least_steps i o) (most_steps t.machine l) status (Some taken) (Some took)
+  Took o status taken took = TookRun (TellsExit t l symbols i o) (least_steps i o) (most_steps t.machine l) status
+      (Some taken) (Some took)
 
   -- what the sink has then
   text_of : (o : Outcome) (status : Status) (taken took : List ℕ) (h : Took o status taken took) →
@@ -105,7 +125,8 @@ module _ (t : Named) (l : Limits) (symbols : List ℕ) (i : ℕ) where
   text_of o status taken took h =
       let is : took ≡ taken ++ h.text = cc in
       is ∙ ap (λ x. taken ++ x) h.told.text_is
-      ∙ sym (append_assoc taken (elements_line (elements t.machine l)) (outcome_line t o ++ (steps_line h.cost ++ h.told.last)))
+      ∙ sym (append_assoc taken (elements_line (elements t.machine l))
+      (outcome_line t o ++ (steps_line h.cost ++ h.told.last)))
 
   joined : (taken : List ℕ) (o : Outcome) (behind : List ℕ) →
       (taken ++ elements_line (elements t.machine l)) ++ (outcome_line t o ++ behind)
@@ -113,7 +134,8 @@ module _ (t : Named) (l : Limits) (symbols : List ℕ) (i : ℕ) where
   joined taken o behind = sym (append_assoc (taken ++ elements_line (elements t.machine l)) (outcome_line t o) behind)
 
   -- where the last lines are one, the texts differ in the steps alone
-  differ : (o : Outcome) (status other : Status) (taken took second : List ℕ) (h : Took o status taken took) (k : Took o other taken second) →
+  differ : (o : Outcome) (status other : Status) (taken took second : List ℕ) (h : Took o status taken took)
+      (k : Took o other taken second) →
       k.told.last ≡ h.told.last → DifferInSteps took second
   differ o status other taken took second h k same = record {
     front = (taken ++ elements_line (elements t.machine l)) ++ outcome_line t o;
@@ -122,10 +144,12 @@ module _ (t : Named) (l : Limits) (symbols : List ℕ) (i : ℕ) where
     second = k.cost;
     one = text_of o status taken took h ∙ joined taken o (steps_line h.cost ++ h.told.last);
     two = text_of o other taken second k ∙ joined taken o (steps_line k.cost ++ k.told.last)
-        ∙ ap (λ x. ((taken ++ elements_line (elements t.machine l)) ++ outcome_line t o) ++ (steps_line k.cost ++ x)) same;
+        ∙ ap (λ x. ((taken ++ elements_line (elements t.machine l)) ++ outcome_line t o) ++ (steps_line k.cost ++ x))
+        same;
   }
 
-  runs_agree : (o : Outcome) (status other : Status) (taken took second : List ℕ) → Took o status taken took → Took o other taken second →
+  runs_agree : (o : Outcome) (status other : Status) (taken took second : List ℕ) → Took o status taken took
+      → Took o other taken second →
       (status ≡ other) × AgreeAs took second
   runs_agree o status other taken took second h k =
       let same = last_one o k.told.last h.told.last k.told.last_lines h.told.last_lines in
@@ -134,11 +158,13 @@ module _ (t : Named) (l : Limits) (symbols : List ℕ) (i : ℕ) where
   abbrev Answer : Outcome → Status → List ℕ → List ℕ → Type 0
   Answer o status taken took = TookAnswer (TellsExit t l symbols i o) t.machine l i o status (Some taken) (Some took)
 
-  answers_agree : (o : Outcome) (status other : Status) (taken took second : List ℕ) → Answer o status taken took → Answer o other taken second →
+  answers_agree : (o : Outcome) (status other : Status) (taken took second : List ℕ) → Answer o status taken took
+      → Answer o other taken second →
       (status ≡ other) × AgreeAs took second
   answers_agree o status other taken took second h k = by (cases_lt MOST_ELEMENTS (elements t.machine l))
     where
-      by : (MOST_ELEMENTS < elements t.machine l) ⊎ (elements t.machine l ≤ MOST_ELEMENTS) → (status ≡ other) × AgreeAs took second
+      by : (MOST_ELEMENTS < elements t.machine l) ⊎ (elements t.machine l ≤ MOST_ELEMENTS)
+          → (status ≡ other) × AgreeAs took second
       by (inl many) =
           let a = h.large many in
           let b = k.large many in
@@ -151,4 +177,5 @@ module _ (t : Named) (l : Limits) (symbols : List ℕ) (i : ℕ) where
 pub headlines-agree : HeadlinesAgree
 unfolding MachineHeadline
 headlines-agree words bytes word l asks short t symbols i o own status other taken took second h k =
-    answers_agree t l symbols i o status other taken took second (h word l asks short t symbols i o own) (k word l asks short t symbols i o own)
+    answers_agree t l symbols i o status other taken took second (h word l asks short t symbols i o own)
+    (k word l asks short t symbols i o own)

@@ -29,7 +29,8 @@ pub generated_tell : GeneratedTellsMachine
 generated_tell = generated-tells tables_machines elements_counted counted one_of_each costs-one given
 
 pub boards_return : BoardsReturn
-boards_return = boards-return one_of_each (given_accepted tables_machines) (ends-in_time run_to_exit) (run-back run_to_exit)
+boards_return = boards-return one_of_each (given_accepted tables_machines) (ends-in_time run_to_exit)
+    (run-back run_to_exit)
 
 pub circuit_told : HeadlineTellsCircuit
 circuit_told = headline-tells_circuit boards_return

@@ -40,17 +40,21 @@ module _ (goes : Circuit → Config → Config) (tells : Circuit → Config → 
     (keeps : (k : Circuit) → IsCircuit k → (c : Config) → IsConfig k c → IsConfig k (goes k c))
     (bytes : List ℕ) (one : IsOneAnswer (CircuitReplies goes tells bytes)) where
   walk_tells : (status : Status) (text : List ℕ) (told : List Place) → CircuitReplies goes tells bytes status text told
-      → (v : Version) (s : Spelling) → Spelled v s bytes → (status ≡ Done) × IsTextOf v (moved_to s (goes (circuit_of s) s.config)) text
+      → (v : Version) (s : Spelling) → Spelled v s bytes → (status ≡ Done)
+      × IsTextOf v (moved_to s (goes (circuit_of s) s.config)) text
   walk_tells status text told reply v s is =
       let c = goes (circuit_of s) s.config in
       let stays = keeps (circuit_of s) is.admitted.circuit s.config is.admitted.config in
       let moved = has-text v (moved_to s c) (spellings-move v s c is.admitted stays) in
-      let own = walked (record { version = v; spelling = s; spelled = is; written = moved.1.is_text; places = refl }) refl in
+      let own = walked (record { version = v; spelling = s; spelled = is; written = moved.1.is_text; places = refl })
+      refl in
       let agreed = one status Done text moved.0 told (tells (circuit_of s) s.config) reply own in
       (agreed.statuses, subst (IsTextOf v (moved_to s c)) (sym agreed.texts) moved.1.is_text)
 
 pub step-tells : StepRepliesTell
-step-tells e bytes = walk_tells (λ k c. run k c e) (λ k c. places k e c) (λ k circuit c config. run-IsConfig k circuit c config e) bytes (circuits_settled e bytes).0.one
+step-tells e bytes = walk_tells (λ k c. run k c e) (λ k c. places k e c)
+    (λ k circuit c config. run-IsConfig k circuit c config e) bytes (circuits_settled e bytes).0.one
 
 pub back-tells : BackRepliesTell
-back-tells e bytes = walk_tells (λ k c. back k c e) (λ k c. places_back k e c) (λ k circuit c config. back-IsConfig k circuit c config e) bytes (circuits_settled e bytes).1.one
+back-tells e bytes = walk_tells (λ k c. back k c e) (λ k c. places_back k e c)
+    (λ k circuit c config. back-IsConfig k circuit c config e) bytes (circuits_settled e bytes).1.one

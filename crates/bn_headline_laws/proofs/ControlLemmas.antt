@@ -14,5 +14,7 @@ use Rattle.bn_headline_laws.specs.ControlLaws.{TranslationsHaveControls}
 pub translations-controls : TranslationsHaveControls
 translations-controls p t machine fits is =
     within_limits p t machine fits is
-    (is.states ∙ list_counts_names p machine (each_mentioned p fits) t.names (numbers_states (bennett p) t.names is.names))
-    (sym (length-map t.machine.rules (renamed (name_of t))) ∙ ap length is.rules ∙ list_has_length p (some_symbols p machine))
+    (is.states ∙ list_counts_names p machine (each_mentioned p fits) t.names
+    (numbers_states (bennett p) t.names is.names))
+    (sym (length-map t.machine.rules (renamed (name_of t))) ∙ ap length is.rules
+    ∙ list_has_length p (some_symbols p machine))

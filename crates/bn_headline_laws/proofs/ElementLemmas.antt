@@ -21,9 +21,12 @@ counted_by l states zs = bank_size states (lines_before zs 3) + cells_in l 1 * c
 
 pub elements-counted : ControlsAreCounted → ElementsAreCounted
 elements-counted controls p l t names standard fits translates numbering =
-    let states : length names ≡ control_states p = states_are (length names) (2 * without_shift p) (never_entered p) (never_left p)
-    (12 * length p.quints + 4 * (p.states - 1) + 8 * p.symbols + 16) (controls p t names standard fits translates numbering) in
+    let states : length names ≡ control_states p = states_are (length names) (2 * without_shift p) (never_entered p)
+    (never_left p)
+    (12 * length p.quints + 4 * (p.states - 1) + 8 * p.symbols + 16)
+    (controls p t names standard fits translates numbering) in
     let lines = lines_are p.symbols (length p.quints) in
     ap (counted_by l (length names)) translates.symbols
-    ∙ (λ i. bank_size (states i) (lines i) + (l.left + l.right + 1) * cell_size p.symbols + (l.steps + 1) * cell_size (length p.quints + 1)
+    ∙ (λ i. bank_size (states i) (lines i) + (l.left + l.right + 1) * cell_size p.symbols
+    + (l.steps + 1) * cell_size (length p.quints + 1)
     + (l.output + 1) * cell_size p.symbols)

@@ -1,5 +1,6 @@
 -- Tries of the clause: what it says of one command, word for word, and answers that it refuses.
-use Rattle.std.specs.Prelude.{◌≡◌, ◌≢◌, ℕ, ◌+◌, ◌-◌, ◌<◌, ◌≤◌, pos, ◌-ℤ◌, List, [], ◌∷◌, ◌++◌, length, map, replicate, Some, codes, decimal, slice_index, refl}
+use Rattle.std.specs.Prelude.{◌≡◌, ◌≢◌, ℕ, ◌+◌, ◌-◌, ◌<◌, ◌≤◌, pos, ◌-ℤ◌, List, [], ◌∷◌, ◌++◌, length, map, replicate}
+use Rattle.std.specs.Prelude.{Some, codes, decimal, slice_index, refl}
 use Rattle.std.specs.Fmt.{digits}
 use Rattle.std.proofs.Common.{arith, lit<, lit≤, sym, ap, ◌∙◌}
 use Rattle.std.proofs.lemmas.Int.{ints}
@@ -21,7 +22,8 @@ use Rattle.bn_headline_laws.specs.Laws.{IncrementsRun}
 use Rattle.bn_headline_laws.proofs.CellLemmas.{cells-word}
 
 -- the words `run =1011 0 5 11 5`
-words_are : run_words number (window 1) [] ≡ codes "run" ∷ codes "=1011" ∷ codes "0" ∷ codes "5" ∷ codes "11" ∷ codes "5" ∷ []
+words_are : run_words number (window 1) [] ≡ codes "run" ∷ codes "=1011" ∷ codes "0" ∷ codes "5" ∷ codes "11"
+    ∷ codes "5" ∷ []
 unfolding digits
 words_are = refl
 
@@ -32,7 +34,8 @@ front = line (codes "elements 14136" ∷ []) ++ (line (codes "exit end" ∷ []))
 abbrev behind : List ℕ
 behind =
     line (codes "quadruple steps 65" ∷ []) ++ (line (codes "tape 1 from 0 head 0: _ 1 0 1 1 _" ∷ [])
-    ++ line (codes "tape 2 from 0 head 0: _ _ _ _ _ _ _ _ _ _ _ _" ∷ []) ++ line (codes "tape 3 from 0 head 0: _ 1 1 0 0 _" ∷ [])
+    ++ line (codes "tape 2 from 0 head 0: _ _ _ _ _ _ _ _ _ _ _ _" ∷ [])
+    ++ line (codes "tape 3 from 0 head 0: _ 1 1 0 0 _" ∷ [])
     ++ line (codes "output =1100" ∷ []))
 
 abbrev printed : ℕ → List ℕ
@@ -54,29 +57,35 @@ word_in : (below right : ℕ) (word : List ℕ) → length word ≤ right
     }
 word_in below right word fits = λ i. record {
   first = pos 0 -ℤ pos below;
-  head = shown_inside below right (below + right + 1) (word_tape word) refl (record { above = omega (arith, ints); below = omega (arith, ints) }) i;
+  head = shown_inside below right (below + right + 1) (word_tape word) refl
+      (record { above = omega (arith, ints); below = omega (arith, ints) }) i;
   cells = cells-word below right word fits i;
 }
 
-last_is : (last : List ℕ) → AreLastLines (increments_table 1) (window 1) (binary 11) 11 (Halted (binary 12)) last → last ≡ behind
+last_is : (last : List ℕ) → AreLastLines (increments_table 1) (window 1) (binary 11) 11 (Halted (binary 12)) last
+    → last ≡ behind
 unfolding digits
 last_is last h =
     h ∙ (λ i. quadruple_line 65
-    ++ (tape_lines (increments_table 1) (word_in 0 5 (binary 11) (lit≤ tt) i) (word_in 0 11 [] (lit≤ tt) i) (word_in 0 5 (binary 12) (lit≤ tt) i)
+    ++ (tape_lines (increments_table 1) (word_in 0 5 (binary 11) (lit≤ tt) i) (word_in 0 11 [] (lit≤ tt) i)
+    (word_in 0 5 (binary 12) (lit≤ tt) i)
     ++ output_line (increments_table 1) (binary 12)))
 
 pub says : IncrementsRun → (status : Status) (text : List ℕ) →
-    MachineHeadline (run_words number (window 1) []) (increments_text 1) status (Some []) (Some text) → IsPrinted status text
+    MachineHeadline (run_words number (window 1) []) (increments_text 1) status (Some []) (Some text)
+    → IsPrinted status text
 unfolding MachineHeadline lines_of line_of digits
 says runs status text h =
     let k = runs 1 (record { some = omega arith; few = omega arith }) in
-    let took = (h number (window 1) refl (lit≤ tt) (increments_table 1) (binary 11) 11 (Halted (binary 12)) k.own).runs k.few in
+    let took = (h number (window 1) refl (lit≤ tt) (increments_table 1) (binary 11) 11 (Halted (binary 12)) k.own).runs
+    k.few in
     let same : took.text ≡ text = cc in
     record {
       cost = took.cost;
       above = took.above;
       done = took.told.status_is;
-      text_is = sym same ∙ took.told.text_is ∙ ap (λ z. front ++ (line (codes "steps " ∷ decimal took.cost ∷ []) ++ z)) (last_is took.told.last took.told.last_lines);
+      text_is = sym same ∙ took.told.text_is ∙ ap (λ z. front ++ (line (codes "steps " ∷ decimal took.cost ∷ []) ++ z))
+          (last_is took.told.last took.told.last_lines);
     }
 
 -- ---- answers that it refuses
@@ -105,8 +114,8 @@ another_exit : (status : Status) (rest : List ℕ) →
     IsPrinted status (line (codes "elements 14136" ∷ []) ++ (line (codes "exit window 2 right" ∷ []) ++ rest)) → ⊥
 another_exit status rest h = differ 101 119 (sym (ap (λ t. slice_index t 20) h.text_is)) (lit< tt)
 
--- another number of steps of the reversible machine, another word on a tape, another output, or more behind: where the element
--- steps are these, no other text is printed
+-- another number of steps of the reversible machine, another word on a tape, another output, or more behind: where the
+-- element steps are these, no other text is printed
 another_text : (status : Status) (text : List ℕ) (h : IsPrinted status text) → text ≢ printed h.cost → ⊥
 another_text status text h other = other h.text_is
 

@@ -16,15 +16,25 @@ use Rattle.bn_board_spec.specs.Flats.{Flat, IsFlatOf, IsAccepted}
 use Rattle.bn_assembly.specs.Assembled.{Assembled, IsAssembled, network_of}
 use Rattle.bn_board.specs.Flattened.{Flattened}
 use Rattle.bn_board_laws.proofs.ClosedLemmas.{run_to_exit}
-use Rattle.bn_headline_laws.specs.FlattenLaws.{MayBeAssembled, IsBoardAtStart, IsFlattenedFor, FlattenedBoardsAreFlats, FlattenedBoardsRunToTheirExit}
+use Rattle.bn_headline_laws.specs.FlattenLaws.{MayBeAssembled, IsBoardAtStart, IsFlattenedFor, FlattenedBoardsAreFlats}
+use Rattle.bn_headline_laws.specs.FlattenLaws.{FlattenedBoardsRunToTheirExit}
 use Rattle.bn_board_laws.proofs.NetworkReadLemmas.{networks-read}
 use Rattle.bn_board_laws.proofs.BoardReadLemmas.{uniform_of, word_low}
 
 -- ---- boards that were flattened
 
-module _ (p : Program) (l : Limits) (word : List ℕ) (t : Translation) (a : Assembled) (b : Flattened) (may : MayBeAssembled p l word) (made : IsFlattenedFor p l word t a b) where
+module _ (p : Program) (l : Limits) (word : List ℕ) (t : Translation) (a : Assembled) (b : Flattened)
+    (may : MayBeAssembled p l word) (made : IsFlattenedFor p l word t a b) where
   abbrev as_flat : Flat
-  as_flat = record { translation = t; limits = l; word = word; names = made.names; network = network_of a; circuit = rotary_circuit b.net; layout = b.layout }
+  as_flat = record {
+    translation = t;
+    limits = l;
+    word = word;
+    names = made.names;
+    network = network_of a;
+    circuit = rotary_circuit b.net;
+    layout = b.layout;
+  }
 
   in_limits : IsAssembled t.machine a.limits word made.names a
   in_limits = subst (λ w. IsAssembled t.machine w word made.names a) (sym made.assembled.limits) made.assembled
@@ -46,7 +56,9 @@ module _ (p : Program) (l : Limits) (word : List ℕ) (t : Translation) (a : Ass
 
   few : size (network_of a).tables ≤ MOST_ELEMENTS
   few =
-      let read = networks-read t.machine l word made.names (network_of a) b.layout (uniform_of p word l as_flat is_flat may.standard) layout_is (word_low p t word made.translates may.letters) in
+      let read = networks-read t.machine l word made.names (network_of a) b.layout
+      (uniform_of p word l as_flat is_flat may.standard) layout_is (word_low p t word made.translates may.letters)
+      in
       let whole = read.1.whole in
       let bound = made.assembled.few in
       omega arith
@@ -72,9 +84,19 @@ module _ (p : Program) (l : Limits) (word : List ℕ) (t : Translation) (a : Ass
   }
 
 pub flattened-flats : FlattenedBoardsAreFlats
-flattened-flats p l word t a b may made =
-    (as_flat p l word t a b may made, refl, refl, is_flat p l word t a b may made, accepted p l word t a b may made, at_start p l word t a b may made)
+flattened-flats p l word t a b may made = (
+  as_flat p l word t a b may made,
+  refl,
+  refl,
+  is_flat p l word t a b may made,
+  accepted p l word t a b may made,
+  at_start p l word t a b may made,
+)
 
 pub flattened-run : FlattenedBoardsRunToTheirExit
-flattened-run p l word t a b may made i o out =
-    (as_flat p l word t a b may made, at_start p l word t a b may made, run_to_exit p word l (as_flat p l word t a b may made) (is_flat p l word t a b may made) (accepted p l word t a b may made) i o out)
+flattened-run p l word t a b may made i o out = (
+  as_flat p l word t a b may made,
+  at_start p l word t a b may made,
+  run_to_exit p word l
+      (as_flat p l word t a b may made) (is_flat p l word t a b may made) (accepted p l word t a b may made) i o out,
+)

@@ -12,7 +12,8 @@ use Rattle.bn_headline_laws.specs.CountLaws.{without_shift, never_entered, never
 use Rattle.bn_headline_laws.proofs.TotalLemmas.{controls_are_counted}
 use Rattle.bn_gen.specs.Increments.{IsRoundCount, incrementer, quints_of}
 use Rattle.bn_gen.proofs.MachineLemmas as gen
-use Rattle.bn_headline_laws.specs.GeneratedLaws.{elements_for, GeneratedControlsAreCounted, GeneratedBoardsAreCounted, GeneratedBoardsAreThere}
+use Rattle.bn_headline_laws.specs.GeneratedLaws.{elements_for, GeneratedControlsAreCounted, GeneratedBoardsAreCounted}
+use Rattle.bn_headline_laws.specs.GeneratedLaws.{GeneratedBoardsAreThere}
 use Rattle.bn_reply_boards.specs.GenerateReply.{digits, window}
 
 -- one, two, three or four rounds
@@ -26,7 +27,11 @@ by_rounds P one two three four (suc (suc (suc (suc (suc k))))) is = absurd (let 
 
 standard_machine : (k : ℕ) → IsRoundCount k → IsStandardMachine (incrementer k)
 standard_machine k is = record {
-  machine = record { some = (let count = gen.counted k is in omega arith); few = gen.few k (quints_of k) is refl; in_range = gen.in_range k is };
+  machine = record {
+    some = (let count = gen.counted k is in omega arith);
+    few = gen.few k (quints_of k) is refl;
+    in_range = gen.in_range k is;
+  };
   standard = gen.standard k is;
 }
 
@@ -37,12 +42,15 @@ record Counted (k : ℕ) : Type 0 where
   left : never_left (incrementer k) ≡ 0
 
 list_counted : (k : ℕ) → IsRoundCount k → Counted k
-list_counted = by_rounds Counted (record { shiftless = refl; entered = refl; left = refl }) (record { shiftless = refl; entered = refl; left = refl })
-    (record { shiftless = refl; entered = refl; left = refl }) (record { shiftless = refl; entered = refl; left = refl })
+list_counted = by_rounds Counted (record { shiftless = refl; entered = refl; left = refl })
+    (record { shiftless = refl; entered = refl; left = refl })
+    (record { shiftless = refl; entered = refl; left = refl })
+    (record { shiftless = refl; entered = refl; left = refl })
 
 pub generated-controls : GeneratedControlsAreCounted
 generated-controls k is t names translated numbering =
-    let all = controls_are_counted (incrementer k) t names (standard_machine k is) (gen.fits k is) translated numbering in
+    let all = controls_are_counted (incrementer k) t names (standard_machine k is) (gen.fits k is) translated numbering
+    in
     let list = list_counted k is in
     let quints = gen.counted k is in
     let shiftless = list.shiftless in
@@ -52,8 +60,11 @@ generated-controls k is t names translated numbering =
 
 -- the sum, by the numbers of symbols
 sum_is : (k : ℕ) → IsRoundCount k → (rules : List (Rule ℕ)) (states : ℕ)
-    → elements_by (record { rules = rules; states = states; symbols = symbols_of (incrementer k) }) (window k) (120 * k + 54) ≡ elements_for k
-sum_is = by_rounds (λ k. (rules : List (Rule ℕ)) (states : ℕ) → elements_by (record { rules = rules; states = states; symbols = symbols_of (incrementer k) }) (window k) (120 * k + 54) ≡ elements_for k)
+    → elements_by (record { rules = rules; states = states; symbols = symbols_of (incrementer k) }) (window k)
+    (120 * k + 54) ≡ elements_for k
+sum_is = by_rounds (λ k. (rules : List (Rule ℕ)) (states : ℕ)
+    → elements_by (record { rules = rules; states = states; symbols = symbols_of (incrementer k) }) (window k)
+    (120 * k + 54) ≡ elements_for k)
     (λ rules states. refl) (λ rules states. refl) (λ rules states. refl) (λ rules states. refl)
 
 few_elements : (k : ℕ) → IsRoundCount k → elements_for k ≤ MOST_ELEMENTS
@@ -62,10 +73,13 @@ few_elements = by_rounds (λ k. elements_for k ≤ MOST_ELEMENTS) (omega arith) 
 pub generated-counted : GeneratedBoardsAreCounted
 generated-counted k is count h =
     let m = h.translation.machine in
-    let states : length h.names ≡ 120 * k + 54 = generated-controls k is h.translation h.names h.translates h.numbering in
+    let states : length h.names ≡ 120 * k + 54 = generated-controls k is h.translation h.names h.translates h.numbering
+    in
     let sum : count ≡ elements_for k =
-    h.is ∙ ap (λ zs. elements_by (record { rules = m.rules; states = m.states; symbols = zs }) (window k) (length h.names)) h.translates.symbols
-    ∙ ap (elements_by (record { rules = m.rules; states = m.states; symbols = symbols_of (incrementer k) }) (window k)) states ∙ sum_is k is m.rules m.states in
+    h.is ∙ ap (λ zs. elements_by (record { rules = m.rules; states = m.states; symbols = zs }) (window k)
+    (length h.names)) h.translates.symbols
+    ∙ ap (elements_by (record { rules = m.rules; states = m.states; symbols = symbols_of (incrementer k) }) (window k))
+    states ∙ sum_is k is m.rules m.states in
     (sum, subst (λ n. n ≤ MOST_ELEMENTS) (sym sum) (few_elements k is))
 
 pub generated-there : GeneratedBoardsAreThere

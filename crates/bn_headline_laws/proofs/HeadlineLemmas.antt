@@ -1,5 +1,7 @@
 -- The headline by the machine alone, from the reply to a run.
-use Rattle.std.specs.Prelude.{refl, ◌≡◌, ℕ, ◌+◌, ◌-◌, ◌*◌, ◌<◌, ◌≤◌, pos, ◌+ℤ◌, ◌-ℤ◌, List, [], ◌∷◌, ◌++◌, length, map, replicate, slice_get, Option, Some, None, Bool, true, false, reverse, slice_index, decimal}
+use Rattle.std.specs.Prelude.{refl, ◌≡◌, ℕ, ◌+◌, ◌-◌, ◌*◌, ◌<◌, ◌≤◌, pos, ◌+ℤ◌, ◌-ℤ◌, List, [], ◌∷◌, ◌++◌, length, map}
+use Rattle.std.specs.Prelude.{replicate, slice_get, Option, Some, None, Bool, true, false, reverse, slice_index}
+use Rattle.std.specs.Prelude.{decimal}
 use Rattle.std.specs.List.{range_with_len}
 use Rattle.std.specs.Option.{option_map_or}
 use Rattle.std.proofs.Common.{zero, suc, arith, zero-add, ap, subst, ◌∙◌, sym}
@@ -26,6 +28,7 @@ use Rattle.bn_circuits.specs.Circuits.{Circuit, Goes, IsCircuit}
 use Rattle.bn_circuits.specs.Stepping.{next, run}
 use Rattle.bn_circuits.specs.Counting.{one_if, tally}
 use Rattle.bn_circuits.specs.declared.config.Config.{Config}
+use Rattle.bn_circuits.proofs.CountingLemmas.{one_low, tally_low}
 use Rattle.bn_circuits.proofs.RunLemmas.{Reaches-run}
 use Rattle.bn_circuits.proofs.RunPartLemmas.{runs_split, steps_of_run}
 use Rattle.bn_machine.specs.Tape.{Tape}
@@ -42,8 +45,12 @@ use Rattle.bn_table.specs.Rows.{Named}
 use Rattle.bn_network.specs.Controls.{ControlState, lines_before}
 use Rattle.bn_network.specs.Networks.{bank_size, cell_size, cells_in, elements_by, left_of}
 use Rattle.bn_board_spec.specs.declared.exit.Exit.TheVariants as exit
-use Rattle.bn_board_spec.specs.Layouts.{Layout, IsLayout, elements_of, is_moment, spelled_tape, cell_element, cell_state_at, cells_shown, has_head, head_shown, is_marked_at, symbol_count_at, symbol_by}
+use Rattle.bn_board_spec.specs.Layouts.{Layout, IsLayout, elements_of, is_moment, spelled_tape, cell_element}
+use Rattle.bn_board_spec.specs.Layouts.{cell_state_at, cells_shown, has_head, head_shown, is_marked_at, symbol_count_at}
+use Rattle.bn_board_spec.specs.Layouts.{symbol_by}
 use Rattle.bn_board_spec.specs.Flats.{IsFlatOf, Flat, flat_start}
+use Rattle.bn_board_spec.specs.Spans.{Spans}
+use Rattle.bn_board_spec.proofs.SpanLemmas.{spans}
 use Rattle.bn_board_spec.specs.Costs.{HasCost, bound_of}
 use Rattle.bn_board_laws.specs.Headline.{HasEndTapes, RunsToExit, SpellsEnd}
 use Rattle.bn_board_laws.specs.HeadlineLaws.{CostsAreOne}
@@ -56,130 +63,64 @@ use Rattle.bn_board_spec.specs.Boards.{size}
 use Rattle.bn_base.specs.Number.{greatest}
 use Rattle.bn_reply.specs.declared.limits.TheConstants.{MOST_INPUT_BYTES}
 use Rattle.bn_reply_boards_laws.specs.Windows.{BoardReplies, long, large, board, ComesTo, CountsElements, large_line}
-use Rattle.bn_reply_boards_laws.specs.RunText.{elements_line, exit_line, output_line, quadruple_line, shown_lines, steps_line, tape_lines, tapes_text}
+use Rattle.bn_reply_boards_laws.specs.RunText.{elements_line, exit_line, output_line, quadruple_line, shown_lines}
+use Rattle.bn_reply_boards_laws.specs.RunText.{steps_line, tape_lines, tapes_text}
 use Rattle.bn_reply_boards_laws.specs.RunReply.{RunReplies, TellsRun, board_after}
 use Rattle.bn_reply_boards_laws.specs.Headline as within
 use Rattle.bn_reply_boards_laws.specs.Headline.{ComesOutOn, TellsOutcome, outcome_line, outcome_rest, run_words}
 use Rattle.bn_reply_boards_laws.specs.Laws.{AnswersTellHeadline, BoardsAreCounted, RunsHaveOneOfEach}
 use Rattle.bn_reply_boards_laws.proofs.WindowLemmas.{standard_machine}
 use Rattle.bn_headline_laws.specs.Elements.{elements, most_steps}
-use Rattle.bn_headline_laws.specs.MachineHeadline.{AreLastLines, AreTapes, IsOwnRun, MachineHeadline, MachineHeadlineWithin, Spans, TellsExit, TellsInside, TellsExitWithin, TookAnswer, least_steps}
+use Rattle.bn_headline_laws.specs.MachineHeadline.{AreLastLines, AreTapes, IsOwnRun, MachineHeadline}
+use Rattle.bn_headline_laws.specs.MachineHeadline.{MachineHeadlineWithin, TellsExit, TellsInside, TellsExitWithin}
+use Rattle.bn_headline_laws.specs.MachineHeadline.{TookAnswer, least_steps}
 use Rattle.bn_headline_laws.specs.Laws.{ElementsAreCounted, RepliesTellMachine}
 
 -- ---- tapes
 
 -- the lines where a run doesn't halt
 abbrev EndLines : Named → Limits → List ℕ → ℕ → Outcome → List ℕ → Type 0
-EndLines t l symbols i o text = (x : Tape × Tape × Tape) × HasEndTapes t.machine symbols l i o x × (text ≡ tapes_text t l x)
+EndLines t l symbols i o text = (x : Tape × Tape × Tape) × HasEndTapes t.machine symbols l i o x
+    × (text ≡ tapes_text t l x)
 
 -- those of a board at the end
-end_lines : (t : Named) (l : Limits) (symbols : List ℕ) (f : Flat) (states : List ℕ) (i : ℕ) (o : Outcome) → f.limits ≡ l → f.word ≡ symbols → SpellsEnd t.machine f states i o
+end_lines : (t : Named) (l : Limits) (symbols : List ℕ) (f : Flat) (states : List ℕ) (i : ℕ) (o : Outcome)
+    → f.limits ≡ l → f.word ≡ symbols → SpellsEnd t.machine f states i o
     → EndLines t l symbols i o (shown_lines t f states)
 end_lines t l symbols f states i o limits word ends = (
   ends.tapes,
-  subst (λ w. HasEndTapes t.machine w l i o ends.tapes) word (subst (λ m. HasEndTapes t.machine f.word m i o ends.tapes) limits ends.has),
+  subst (λ w. HasEndTapes t.machine w l i o ends.tapes) word (subst (λ m. HasEndTapes t.machine f.word m i o ends.tapes)
+      limits ends.has),
   ap (λ (s : Spelled). tape_lines t s.one s.two s.three) ends.spells ∙ ap (λ m. tapes_text t m ends.tapes) limits,
 )
 
--- a symbol by a cell's state is one of the tape's
-symbol_known : (z q : ℕ) → q < 2 * z → symbol_by z q < z
-symbol_known z q low = by (nat_lt q z) refl
-  where
-    by : (b : Bool) → nat_lt q z ≡ b → (if b then q else q - z) < z
-    by true is = ltb-true q z is
-    by false is = omega arith
-
--- what the cells of a board show spans the window
-module _ (b : Layout) (l : Limits) (states : List ℕ) (tape left right symbols : ℕ) (same : b.limits ≡ l) (from : left_of l tape ≡ left)
-    (many : cells_in l tape ≡ left + right + 1) (letters : symbol_count_at b tape ≡ symbols) where
-  cells_are : cells_in b.limits tape ≡ left + right + 1
-  cells_are = ap (λ (m : Limits). cells_in m tape) same ∙ many
-
-  left_are : left_of b.limits tape ≡ left
-  left_are = ap (λ (m : Limits). left_of m tape) same ∙ from
-
-  abbrev shows_head : ℕ → Bool
-  shows_head i = has_head (symbol_count_at b tape) (cell_state_at b states tape i)
-
-  abbrev places : List ℕ
-  places = range_with_len 0 (cells_in b.limits tape)
-
-  head_inside : (p : ℤ) → head_shown b states tape ≡ Some p → IsBetween left right p
-  head_inside p h = by (position shows_head places) refl h
-    where
-      by : (o : Option ℕ) → position shows_head places ≡ o → option_map (λ i. pos i -ℤ pos (left_of b.limits tape)) o ≡ Some p → IsBetween left right p
-      by None is e = absurd (cc)
-      by (Some i) is e =
-          let low = (position-Some shows_head places i 0 is).0 in
-          let count = length-range_with_len 0 (cells_in b.limits tape) in
-          let inside : i < left + right + 1 = omega (arith, low, count, cells_are) in
-          let there : pos i -ℤ pos (left_of b.limits tape) ≡ p = cc in
-          subst (IsBetween left right) (ap (λ n. pos i -ℤ pos n) (sym left_are) ∙ there)
-          (record { above = omega (arith, ints); below = omega (arith, ints) })
-
-  cell_known : (k s : ℕ) → slice_get (cells_shown b states tape) k ≡ Some (Some s) → s < symbols
-  cell_known k s h =
-      by (slice_get (range_with_len 0 (cells_in b.limits tape)) k)
-      (sym (slice_get-map (λ i. option_map (symbol_by (symbol_count_at b tape)) (cell_state_at b states tape i)) (range_with_len 0 (cells_in b.limits tape)) k) ∙ h)
-    where
-      at : (i : ℕ) (o : Option ℕ) → cell_state_at b states tape i ≡ o → option_map (symbol_by (symbol_count_at b tape)) o ≡ Some s → s < symbols
-      at i None is e = absurd (cc)
-      at i (Some q) is e =
-          let low = (position-Some (λ j. is_marked_at states (bottom_at (cell_element b tape i) (cell_line_count (symbol_count_at b tape)) j))
-          (range_with_len 0 (2 * symbol_count_at b tape)) q 0 is).0 in
-          let count = length-range_with_len 0 (2 * symbol_count_at b tape) in
-          let inside : q < 2 * symbol_count_at b tape = omega (arith, low, count) in
-          let there : symbol_by (symbol_count_at b tape) q ≡ s = cc in
-          let known = symbol_known (symbol_count_at b tape) q inside in
-          subst (λ z. s < z) letters (subst (λ x. x < symbol_count_at b tape) there known)
-
-      by : (o : Option ℕ) → option_map (λ i. option_map (symbol_by (symbol_count_at b tape)) (cell_state_at b states tape i)) o ≡ Some (Some s) → s < symbols
-      by None e = absurd (cc)
-      by (Some i) e = at i (cell_state_at b states tape i) refl (cc)
-
-  spans : Spans left right symbols (spelled_tape b states tape)
-  spans = record {
-    first = ap (λ n. pos 0 -ℤ pos n) left_are;
-    cells = length-map-range_with_len _ 0 (cells_in b.limits tape) ∙ cells_are;
-    head = head_inside;
-    known = cell_known;
-  }
-
-shown_tapes : (t : Named) (symbols : List ℕ) (l : Limits) (f : Flat) (states : List ℕ) → IsFlatOf t.machine symbols l f → AreTapes t l (shown_lines t f states)
+shown_tapes : (t : Named) (symbols : List ℕ) (l : Limits) (f : Flat) (states : List ℕ) → IsFlatOf t.machine symbols l f
+    → AreTapes t l (shown_lines t f states)
 shown_tapes t symbols l f states flat =
     let same = flat.is_layout.limits in
     let letters : f.layout.symbols ≡ symbols_of t.machine = flat.is_layout.symbols ∙ flat.translation.symbols in (
       spelled_tape f.layout states 1,
       spelled_tape f.layout states 2,
       spelled_tape f.layout states 3,
-      spans f.layout l states 1 l.left l.right t.machine.symbols same (λ _. l.left) (λ _. l.left + l.right + 1) (λ i. slice_index (letters i) 0),
-      spans f.layout l states 2 0 l.steps (length t.machine.quints + 1) same (λ _. 0) (omega arith) (λ i. slice_index (letters i) 1),
-      spans f.layout l states 3 0 l.output t.machine.symbols same (λ _. 0) (omega arith) (λ i. slice_index (letters i) 2),
+      spans f.layout l states 1 l.left l.right t.machine.symbols same (λ _. l.left) (λ _. l.left + l.right + 1)
+          (λ i. slice_index (letters i) 0),
+      spans f.layout l states 2 0 l.steps (length t.machine.quints + 1) same (λ _. 0) (omega arith)
+          (λ i. slice_index (letters i) 1),
+      spans f.layout l states 3 0 l.output t.machine.symbols same (λ _. 0) (omega arith)
+          (λ i. slice_index (letters i) 2),
       λ _. shown_lines t f states,
     )
 
 -- ---- numbers
 
--- a test holds of as many configurations as there are, at most
-one_low : (b : Bool) → one_if b ≤ 1
-one_low true = omega arith
-one_low false = omega arith
-
-tally_low : (test : Config → Bool) (k : Circuit) (t : ℕ) (c : Config) → tally test k t c ≤ t
-unfolding tally
-tally_low test k zero c = omega arith
-tally_low test k (suc t) c = by (λ d. tally_low test k t d) (next k c)
-  where
-    by : ((d : Config) → tally test k t d ≤ t) → (x : Option Config) → option_map_or (λ d. one_if (test d) + tally test k t d) x 0 ≤ suc t
-    by rest None = omega arith
-    by rest (Some d) = let more = rest d in let here = one_low (test d) in omega (arith, more, here)
-
 -- the layout tells the elements of the network, and with them the bound
 layout_elements : (m : Quadruples) (l : Limits) (names : List ControlState) (b : Layout) → IsLayout m l names b →
     elements_of b ≡ elements_by m l (length names)
 layout_elements m l names b is = λ i.
-    bank_size (is.states i) (lines_before (is.symbols i) 3) + cells_in (is.limits i) 1 * cell_size (slice_index (is.symbols i) 0)
-    + cells_in (is.limits i) 2 * cell_size (slice_index (is.symbols i) 1) + cells_in (is.limits i) 3 * cell_size (slice_index (is.symbols i) 2)
+    bank_size (is.states i) (lines_before (is.symbols i) 3) + cells_in (is.limits i) 1
+    * cell_size (slice_index (is.symbols i) 0)
+    + cells_in (is.limits i) 2 * cell_size (slice_index (is.symbols i) 1)
+    + cells_in (is.limits i) 3 * cell_size (slice_index (is.symbols i) 2)
 
 -- the steps made within a run
 steps_within : (k : Circuit) (n e : ℕ) (c d : Config) → Reaches (Goes k) n c d → e ≤ n → (run k c e).steps ≡ c.steps + e
@@ -200,12 +141,15 @@ record IsEntering (k : Circuit) (many lines : ℕ) (c : Config) : Type 0 where
   element : line.element < many
   side : line.line < lines
 
-entering : (k : Circuit) (t : Table) (many : ℕ) → IsCircuit k → k.tables ≡ replicate many t → (c d : Config) → Goes k c d → IsEntering k many t.inputs c
+entering : (k : Circuit) (t : Table) (many : ℕ) → IsCircuit k → k.tables ≡ replicate many t → (c d : Config)
+    → Goes k c d → IsEntering k many t.inputs c
 entering k t many circuit tables c d g =
-    option_and_then_some (λ (u : Table). u.go g.crosses.before g.crosses.input) (slice_get k.tables g.crosses.element) (g.crosses.after, g.crosses.output) g.crosses.moves
+    option_and_then_some (λ (u : Table). u.go g.crosses.before g.crosses.input) (slice_get k.tables g.crosses.element)
+    (g.crosses.after, g.crosses.output) g.crosses.moves
     (λ u stands moves.
     let at = replicated t u many g.crosses.element (sym (ap (λ ts. slice_get ts g.crosses.element) tables) ∙ stands) in
-    let range = (circuit.reversible g.crosses.element u stands).departs g.crosses.before g.crosses.input g.crosses.after g.crosses.output moves in
+    let range = (circuit.reversible g.crosses.element u stands).departs g.crosses.before g.crosses.input g.crosses.after
+    g.crosses.output moves in
     record {
       line = record { element = g.crosses.element; line = g.crosses.input };
       is = g.crosses.enters;
@@ -213,19 +157,23 @@ entering k t many circuit tables c d g =
       side = subst (λ (v : Table). g.crosses.input < v.inputs) (sym at.1) range.1;
     })
 
-entering_within : (k : Circuit) (t : Table) (many n e : ℕ) (c d : Config) → IsCircuit k → k.tables ≡ replicate many t → Reaches (Goes k) n c d → e < n →
+entering_within : (k : Circuit) (t : Table) (many n e : ℕ) (c d : Config) → IsCircuit k → k.tables ≡ replicate many t
+    → Reaches (Goes k) n c d → e < n →
     IsEntering k many t.inputs (run k c e)
 entering_within k t many n e c d circuit tables path low =
     let split = runs_split (Goes k) e (n - e) n c d (omega arith) path in
-    subst (IsEntering k many t.inputs) (sym (Reaches-run k e c split.0 split.1)) (first (n - e) split.0 (omega arith) split.2)
+    subst (IsEntering k many t.inputs) (sym (Reaches-run k e c split.0 split.1))
+    (first (n - e) split.0 (omega arith) split.2)
   where
     first : (r : ℕ) (x : Config) → 0 < r → Reaches (Goes k) r x d → IsEntering k many t.inputs x
     first zero x some path = absurd (omega arith)
     first (suc r) x some path = entering k t many circuit tables x path.0 path.1
 
-module _ (machines : TablesAreMachines) (elements_are : ElementsAreCounted) (counted : BoardsAreCounted) (ones : RunsHaveOneOfEach)
+module _ (machines : TablesAreMachines) (elements_are : ElementsAreCounted) (counted : BoardsAreCounted)
+    (ones : RunsHaveOneOfEach)
     (one_cost : CostsAreOne) where
-  module _ (bytes word : List ℕ) (l : Limits) (t : Named) (symbols : List ℕ) (i : ℕ) (o : Outcome) (own : IsOwnRun bytes word l t symbols i o) where
+  module _ (bytes word : List ℕ) (l : Limits) (t : Named) (symbols : List ℕ) (i : ℕ) (o : Outcome)
+      (own : IsOwnRun bytes word l t symbols i o) where
     -- any count of the board's elements is the machine's
     count_is : (count : ℕ) → CountsElements t.machine l count → count ≡ elements t.machine l
     count_is count h =
@@ -252,8 +200,10 @@ module _ (machines : TablesAreMachines) (elements_are : ElementsAreCounted) (cou
       pub bound_is : bound_of f.layout ≡ most_steps t.machine l
       bound_is =
           let standard = standard_machine machines bytes t own.given.reads in
-          let many : elements_of f.layout ≡ elements t.machine l = layout_elements f.translation.machine l f.names f.layout comes.flat.is_layout
-          ∙ elements_are t.machine l f.translation f.names standard.0 standard.1 comes.flat.translation comes.flat.numbering in
+          let many : elements_of f.layout ≡ elements t.machine l =
+          layout_elements f.translation.machine l f.names f.layout comes.flat.is_layout
+          ∙ elements_are t.machine l f.translation f.names standard.0 standard.1 comes.flat.translation
+          comes.flat.numbering in
           λ j. 48 * many j * (4 * (limits_are j).steps + 4 * (limits_are j).output + 7)
 
       -- the steps of the reversible machine are no more than those of the signal
@@ -272,38 +222,47 @@ module _ (machines : TablesAreMachines) (elements_are : ElementsAreCounted) (cou
           by (outcome.Outside n s) ran = omega arith
 
       -- the last lines
-      last_lines : (cost : ℕ) → HasCost f cost → RunsToExit t.machine f i o → AreLastLines t l symbols i o (outcome_rest t l symbols f cost i o)
+      last_lines : (cost : ℕ) → HasCost f cost → RunsToExit t.machine f i o
+          → AreLastLines t l symbols i o (outcome_rest t l symbols f cost i o)
       last_lines cost has ran = by o own.outcome ran
         where
-          at_end : (x : Outcome) (n : ℕ) → HasCost f n → SpellsEnd t.machine f (run f.circuit (flat_start f) n).states i x → EndLines t l symbols i x (shown_lines t f (board_after f cost).states)
+          at_end : (x : Outcome) (n : ℕ) → HasCost f n → SpellsEnd t.machine f (run f.circuit (flat_start f) n).states i
+              x → EndLines t l symbols i x (shown_lines t f (board_after f cost).states)
           at_end x n own_cost ends =
               end_lines t l symbols f (board_after f cost).states i x comes.flat.limits_are comes.flat.word_is
-              (subst (λ m. SpellsEnd t.machine f (run f.circuit (flat_start f) m).states i x) (one_cost f n cost own_cost has) ends)
+              (subst (λ m. SpellsEnd t.machine f (run f.circuit (flat_start f) m).states i x)
+              (one_cost f n cost own_cost has) ends)
 
-          by : (x : Outcome) → HasOutcome t.machine symbols l i x → RunsToExit t.machine f i x → AreLastLines t l symbols i x (outcome_rest t l symbols f cost i x)
+          by : (x : Outcome) → HasOutcome t.machine symbols l i x → RunsToExit t.machine f i x
+              → AreLastLines t l symbols i x (outcome_rest t l symbols f cost i x)
           by (outcome.Halted y) h ran = refl
           by (outcome.Stuck a c) h ran = at_end (outcome.Stuck a c) ran.cost ran.has_cost ran.with_tapes
           by (outcome.Outside n s) h ran = at_end (outcome.Outside n s) ran.cost ran.has_cost ran.with_tapes
 
       -- what tells the outcome tells the exit
-      pub exit_told : (status : Status) (text : List ℕ) → RunsToExit t.machine f i o → (tells : TellsOutcome t l symbols f i o status text) →
+      pub exit_told : (status : Status) (text : List ℕ) → RunsToExit t.machine f i o
+          → (tells : TellsOutcome t l symbols f i o status text) →
           TellsExit t l symbols i o tells.cost status text
       exit_told status text ran tells = record {
         last = outcome_rest t l symbols f tells.cost i o;
         last_lines = last_lines tells.cost tells.has_cost ran;
-        text_is = tells.text_is ∙ (λ j. elements_line (size_is j) ++ (outcome_line t o ++ (steps_line tells.cost ++ outcome_rest t l symbols f tells.cost i o)));
+        text_is = tells.text_is ∙ (λ j. elements_line (size_is j)
+            ++ (outcome_line t o ++ (steps_line tells.cost ++ outcome_rest t l symbols f tells.cost i o)));
         status_is = tells.status_is;
       }
 
       -- before the exit
-      inside_told : (e : ℕ) (status : Status) (text : List ℕ) → RunsToExit t.machine f i o → (tells : within.TellsWithin e t l symbols f i o status text) →
+      inside_told : (e : ℕ) (status : Status) (text : List ℕ) → RunsToExit t.machine f i o
+          → (tells : within.TellsWithin e t l symbols f i o status text) →
           e < tells.cost → TellsInside t l e status text
       inside_told e status text ran tells low =
           let d = board_after f e in
           let same : ran.cost ≡ tells.cost = one_cost f ran.cost tells.cost ran.has_cost tells.has_cost in
-          let steps : d.steps ≡ e = steps_within f.circuit ran.cost e (flat_start f) (run f.circuit (flat_start f) ran.cost) ran.run_to (omega arith)
+          let steps : d.steps ≡ e = steps_within f.circuit ran.cost e (flat_start f)
+          (run f.circuit (flat_start f) ran.cost) ran.run_to (omega arith)
           ∙ zero-add e in
-          let at = entering_within f.circuit rotary (size f.network.tables) ran.cost e (flat_start f) (run f.circuit (flat_start f) ran.cost)
+          let at = entering_within f.circuit rotary (size f.network.tables) ran.cost e (flat_start f)
+          (run f.circuit (flat_start f) ran.cost)
           comes.flat.is_board.circuit comes.flat.is_board.tables ran.run_to (omega arith) in
           record {
             place = at.line;
@@ -311,11 +270,13 @@ module _ (machines : TablesAreMachines) (elements_are : ElementsAreCounted) (cou
             side = at.side;
             last = shown_lines t f d.states;
             last_lines = shown_tapes t symbols l f d.states comes.flat;
-            text_is = tells.begun low ∙ (λ j. elements_line (size_is j) ++ (exit_line t f (at.is j) exit.Inside ++ (steps_line (steps j) ++ shown_lines t f d.states)));
+            text_is = tells.begun low ∙ (λ j. elements_line (size_is j)
+                ++ (exit_line t f (at.is j) exit.Inside ++ (steps_line (steps j) ++ shown_lines t f d.states)));
             status_is = tells.inside.1 low;
           }
 
-      within_told : (e : ℕ) (status : Status) (text : List ℕ) → RunsToExit t.machine f i o → (tells : within.TellsWithin e t l symbols f i o status text) →
+      within_told : (e : ℕ) (status : Status) (text : List ℕ) → RunsToExit t.machine f i o
+          → (tells : within.TellsWithin e t l symbols f i o status text) →
           TellsExitWithin e t l symbols i o tells.cost status text
       within_told e status text ran tells = record {
         ended = λ high.
@@ -326,12 +287,15 @@ module _ (machines : TablesAreMachines) (elements_are : ElementsAreCounted) (cou
       }
 
     -- a circuit with too many elements was refused with their number
-    large_told : (given : Option ℕ) (status : Status) (text : List ℕ) (told : List Place) (taken took : Option (List ℕ)) →
+    large_told : (given : Option ℕ) (status : Status) (text : List ℕ) (told : List Place) (taken took : Option (List ℕ))
+        →
         RunReplies given word l bytes status text told → Grows taken took text → MOST_ELEMENTS < elements t.machine l →
         (status ≡ statuses.Size) × Grows taken took (large_line (elements t.machine l))
     large_told given status text told taken took reply grows many =
-        by (word_tells (BoardReplies (TellsRun given t) t.machine l) t (reads_table bytes t own.given.reads.reads) word symbols status text told
-        own.given.spelled (standard_tells (λ u. WordReplies (BoardReplies (TellsRun given u) u.machine l) u word) bytes t status text told
+        by (word_tells (BoardReplies (TellsRun given t) t.machine l) t (reads_table bytes t own.given.reads.reads) word
+        symbols status text told
+        own.given.spelled (standard_tells (λ u. WordReplies (BoardReplies (TellsRun given u) u.machine l) u word) bytes
+        t status text told
         own.given.reads reply))
       where
         by : BoardReplies (TellsRun given t) t.machine l symbols status text told →
@@ -354,30 +318,37 @@ module _ (machines : TablesAreMachines) (elements_are : ElementsAreCounted) (cou
             large = large_told bytes word l t symbols i o own None status reply.0 reply.1 taken took reply.2 reply.3;
             runs = λ few.
                 let on = on_board bytes word l t symbols i o own few in
-                let given = tell words bytes status taken took replies short word l None asks t symbols (count bytes word l t symbols i o own) i o on in
+                let given = tell words bytes status taken took replies short word l None asks t symbols
+                (count bytes word l t symbols i o own) i o on in
                 let f = given.flat in
                 let tells = given.tells f given.comes in
                 record {
                   cost = tells.cost;
-                  above = least bytes word l t symbols i o own f given.comes tells.cost tells.has_cost (given.runs f given.comes);
-                  below = subst (λ m. tells.cost ≤ m) (bound_is bytes word l t symbols i o own f given.comes) tells.bounded;
+                  above = least bytes word l t symbols i o own f given.comes tells.cost tells.has_cost
+                      (given.runs f given.comes);
+                  below = subst (λ m. tells.cost ≤ m) (bound_is bytes word l t symbols i o own f given.comes)
+                      tells.bounded;
                   text = given.text;
-                  told = exit_told bytes word l t symbols i o own f given.comes status given.text (given.runs f given.comes) tells;
+                  told = exit_told bytes word l t symbols i o own f given.comes status given.text
+                      (given.runs f given.comes) tells;
                   grows = given.grows;
                 };
           }
 
-      headline_within : (word : List ℕ) (l : Limits) (e : ℕ) → words ≡ run_words word l (decimal e ∷ []) → e ≤ greatest →
+      headline_within : (word : List ℕ) (l : Limits) (e : ℕ) → words ≡ run_words word l (decimal e ∷ []) → e ≤ greatest
+          →
           length bytes ≤ MOST_INPUT_BYTES →
           (t : Named) (symbols : List ℕ) (i : ℕ) (o : Outcome) → IsOwnRun bytes word l t symbols i o →
           TookAnswer (TellsExitWithin e t l symbols i o) t.machine l i o status taken took
       headline_within word l e asks low short t symbols i o own =
           let reply = replies word l (Some e) (asks, low) own.given.small short in
           record {
-            large = large_told bytes word l t symbols i o own (Some e) status reply.0 reply.1 taken took reply.2 reply.3;
+            large = large_told bytes word l t symbols i o own (Some e) status reply.0 reply.1 taken took reply.2
+                reply.3;
             runs = λ few.
                 let on = on_board bytes word l t symbols i o own few in
-                let given = tell words bytes status taken took replies short word l (Some e) (asks, low) t symbols (count bytes word l t symbols i o own) i o on in
+                let given = tell words bytes status taken took replies short word l (Some e) (asks, low) t symbols
+                (count bytes word l t symbols i o own) i o on in
                 let f = given.flat in
                 let tells = given.tells f given.comes in
                 let ran = given.runs f given.comes in
@@ -385,7 +356,8 @@ module _ (machines : TablesAreMachines) (elements_are : ElementsAreCounted) (cou
                 record {
                   cost = tells.cost;
                   above = least bytes word l t symbols i o own f given.comes tells.cost tells.has_cost ran;
-                  below = subst (λ m. tells.cost ≤ m) (bound_is bytes word l t symbols i o own f given.comes) (subst (λ n. n ≤ bound_of f.layout) same ran.bounded);
+                  below = subst (λ m. tells.cost ≤ m) (bound_is bytes word l t symbols i o own f given.comes)
+                      (subst (λ n. n ≤ bound_of f.layout) same ran.bounded);
                   text = given.text;
                   told = within_told bytes word l t symbols i o own f given.comes e status given.text ran tells;
                   grows = given.grows;

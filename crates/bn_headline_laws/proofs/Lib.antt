@@ -22,3 +22,4 @@ pub mod SumLemmas
 pub mod CountLemmas
 pub mod NameLemmas
 pub mod TotalLemmas
+pub mod FoundMachineLemmas

@@ -25,7 +25,8 @@ boards-return ones accept ends backs bytes word l t symbols f given comes =
     let cost = (ones bytes word l t symbols given).cost f comes in
     let accepted = accept bytes word l t symbols f given comes in
     let in_time = ends t.machine symbols l f comes.flat accepted cost.0 cost.1 in
-    let all = λ (s r : ℕ) (low : r + s ≤ cost.0). backs t.machine symbols l f comes.flat accepted cost.0 s r cost.1 low in
+    let all = λ (s r : ℕ) (low : r + s ≤ cost.0). backs t.machine symbols l f comes.flat accepted cost.0 s r cost.1 low
+    in
     let from : 0 + cost.0 ≡ cost.0 = zero-add cost.0 in
     record {
       cost = cost.0;
@@ -39,5 +40,8 @@ boards-return ones accept ends backs bytes word l t symbols f given comes =
 
 pub headline-tells_circuit : BoardsReturn → HeadlineTellsCircuit
 unfolding CircuitHeadline
-headline-tells_circuit returned words bytes status taken took h short letters l given asks t symbols count i o on =
-    (h short letters l given asks t symbols count i o on, λ f comes. returned bytes letters l t symbols f on.given comes)
+headline-tells_circuit returned words bytes status taken took h short letters l given asks t symbols count i o on = (
+  h short letters l given asks t symbols count i o on,
+  λ f comes. returned bytes letters l t symbols f on.given
+      comes,
+)

@@ -1,12 +1,14 @@
 -- What the name of a state tells of the quadruples of Bennett's list that leave it or lead to it.
-use Rattle.std.specs.Prelude.{◌≡◌, ℕ, ◌==◌, not, ◌||◌, Bool, true, false, if◌then◌else◌, List, [], ◌∷◌, ◌++◌, length, reverse}
+use Rattle.std.specs.Prelude.{◌≡◌, ℕ, ◌==◌, not, ◌||◌, Bool, true, false, if◌then◌else◌, List, [], ◌∷◌, ◌++◌, length}
+use Rattle.std.specs.Prelude.{reverse}
 use Rattle.std.specs.List.{list_any}
 use Rattle.bn_machine.specs.Machine.{Program, start_of, final_of}
 use Rattle.bn_machine.specs.declared.quint.Quint.{Quint}
 use Rattle.bn_quad.specs.Quadruples.{Rule, deeds_of}
 use Rattle.bn_network.specs.Controls.{reads, rising, symbols_read}
 use Rattle.bn_bennett_laws.specs.declared.name.Name.{Name}
-use Rattle.bn_bennett_laws.specs.declared.name.Name.TheVariants.{Compute, ComputeWithin, GoRight, CopyLetter, GoLeft, PassLetter, Retrace, RetraceWithin}
+use Rattle.bn_bennett_laws.specs.declared.name.Name.TheVariants.{Compute, ComputeWithin, GoRight, CopyLetter, GoLeft}
+use Rattle.bn_bennett_laws.specs.declared.name.Name.TheVariants.{PassLetter, Retrace, RetraceWithin}
 
 -- the state is some quintuple's state
 abbrev pub is_left : List Quint → ℕ → Bool

@@ -1,5 +1,6 @@
 -- The states of each quadruple of Bennett's list tell of it.
-use Rattle.std.proofs.Common.{◌≡◌, ◌≢◌, inl, inr, Bool, true, false, ◌==◌, ◌||◌, ℕ, zero, suc, List, [], ◌∷◌, Some, refl, ap, ◌∙◌, eq-eqb, slice_get}
+use Rattle.std.proofs.Common.{◌≡◌, ◌≢◌, inl, inr, Bool, true, false, ◌==◌, ◌||◌, ℕ, zero, suc, List, [], ◌∷◌, Some}
+use Rattle.std.proofs.Common.{refl, ap, ◌∙◌, eq-eqb, slice_get}
 use Rattle.std.specs.List.{list_any}
 use Rattle.std.proofs.lemmas.Bool.Decides.{eqb_tells}
 use Rattle.bn_machine.specs.Machine.{Program, start_of, final_of}
@@ -16,7 +17,8 @@ pub not_equal : (a b : ℕ) → a ≢ b → (a == b) ≡ false
 not_equal a b h = elim (eqb_tells a b) [ inl same ↦ absurd (h same.1) | inr other ↦ other.0 ]
 
 -- a list has an element that passes
-pub any_at : {X : Type 0} (test : X → Bool) (xs : List X) (i : ℕ) (x : X) → slice_get xs i ≡ Some x → test x ≡ true → list_any test xs ≡ true
+pub any_at : {X : Type 0} (test : X → Bool) (xs : List X) (i : ℕ) (x : X) → slice_get xs i ≡ Some x → test x ≡ true
+    → list_any test xs ≡ true
 any_at test [] i x e h = absurd (cc)
 any_at test (y ∷ xs) zero x e h = let same : y ≡ x = cc in let here : test y ≡ true = ap test same ∙ h in rw here refl
 any_at test (y ∷ xs) (suc i) x e h = let more = any_at test xs i x e h in by (test y) more
@@ -26,15 +28,19 @@ any_at test (y ∷ xs) (suc i) x e h = let more = any_at test xs i x e h in by (
     by false e = e
 
 -- and where one passes, there is it
-pub any_found : {X : Type 0} (test : X → Bool) (xs : List X) → list_any test xs ≡ true → (i : ℕ) × (x : X) × (slice_get xs i ≡ Some x) × (test x ≡ true)
+pub any_found : {X : Type 0} (test : X → Bool) (xs : List X) → list_any test xs ≡ true
+    → (i : ℕ) × (x : X) × (slice_get xs i ≡ Some x) × (test x ≡ true)
 any_found test [] h = absurd (cc)
 any_found test (y ∷ xs) h = by (test y) refl (any_found test xs) h
   where
-    by : (b : Bool) → test y ≡ b → (list_any test xs ≡ true → (i : ℕ) × (x : _) × (slice_get xs i ≡ Some x) × (test x ≡ true)) → (b || list_any test xs) ≡ true → (i : ℕ) × (x : _) × (slice_get (y ∷ xs) i ≡ Some x) × (test x ≡ true)
+    by : (b : Bool) → test y ≡ b → (list_any test xs ≡ true → (i : ℕ) × (x : _) × (slice_get xs i ≡ Some x)
+        × (test x ≡ true)) → (b || list_any test xs) ≡ true → (i : ℕ) × (x : _) × (slice_get (y ∷ xs) i ≡ Some x)
+        × (test x ≡ true)
     by true e more h = (0, y, refl, e)
     by false e more h = let found = more h in (suc found.0, found.1, found.2, found.3)
 
-any_nth : (test : Quint → Bool) (qs : List Quint) (m : ℕ) (q : Quint) → nth qs m ≡ Some q → test q ≡ true → list_any test qs ≡ true
+any_nth : (test : Quint → Bool) (qs : List Quint) (m : ℕ) (q : Quint) → nth qs m ≡ Some q → test q ≡ true
+    → list_any test qs ≡ true
 any_nth test qs zero q e h = absurd (cc)
 any_nth test qs (suc i) q e h = any_at test qs i q e h
 
@@ -59,7 +65,8 @@ module _ (p : Program) (standard : IsStandardMachine p) where
   rules_tell =
       let final = eq-eqb (final_of p.quints) (final_of p.quints) refl in
       each_rule (Tells p) p
-      (λ m q e. let other = not_equal q.state (final_of p.quints) (state_not_final m q e) in record { before = (refl, rw other refl); after = (refl, refl, refl) })
+      (λ m q e. let other = not_equal q.state (final_of p.quints) (state_not_final m q e) in record
+      { before = (refl, rw other refl); after = (refl, refl, refl) })
       (λ m q e. record { before = (refl, refl); after = (entered_is m q e, refl, refl) })
       (record { before = (refl, rw final refl); after = (refl, refl, refl) })
       (record { before = refl; after = tt })
@@ -68,5 +75,7 @@ module _ (p : Program) (standard : IsStandardMachine p) where
       (record { before = refl; after = tt })
       (λ x low high. record { before = (refl, refl); after = (refl, refl, refl) })
       (record { before = (refl, refl); after = (rw final refl, refl, rw final refl) })
-      (λ m q e. let other = not_equal q.next (start_of p.quints) (next_not_start m q e) in record { before = (rw other refl, refl); after = (refl, refl, refl) })
-      (λ m q e. let other = not_equal q.state (final_of p.quints) (state_not_final m q e) in record { before = (refl, refl); after = (rw other (left_is m q e), refl, rw other refl) })
+      (λ m q e. let other = not_equal q.next (start_of p.quints) (next_not_start m q e) in record
+      { before = (rw other refl, refl); after = (refl, refl, refl) })
+      (λ m q e. let other = not_equal q.state (final_of p.quints) (state_not_final m q e) in record
+      { before = (refl, refl); after = (rw other (left_is m q e), refl, rw other refl) })

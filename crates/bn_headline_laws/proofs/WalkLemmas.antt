@@ -1,5 +1,6 @@
 -- The run of the machine of k increments on 1011, walked through on a list of cells.
-use Rattle.std.specs.Prelude.{◌≡◌, ℕ, ◌+◌, ◌*◌, ◌<◌, ◌&&◌, pos, ◌+ℤ◌, List, [], ◌∷◌, ◌++◌, length, Option, Some, None, Bool, true, false, if◌then◌else◌, slice_get, position, unwrap_or, replicate, refl}
+use Rattle.std.specs.Prelude.{◌≡◌, ℕ, ◌+◌, ◌*◌, ◌<◌, ◌&&◌, pos, ◌+ℤ◌, List, [], ◌∷◌, ◌++◌, length, Option, Some, None}
+use Rattle.std.specs.Prelude.{Bool, true, false, if◌then◌else◌, slice_get, position, unwrap_or, replicate, refl}
 use Rattle.std.specs.List.{list_all}
 use Rattle.std.specs.Option.{option_and_then}
 use Rattle.std.proofs.lemmas.List.Sums.{AllPass-from_list_all}
@@ -90,15 +91,18 @@ place_moved (suc at) to Left e = let same : at ≡ to = cc in omega (arith, ints
 place_moved at to Stay e = let same : at ≡ to = cc in ap pos (sym same)
 place_moved at to Right e = let same : suc at ≡ to = cc in omega (arith, ints)
 
-passed : (right : ℕ) (s e : Spot) (q : Quint) (at : ℕ) → next_at right s q at ≡ Some e → (tests right s q at ≡ true) × (put s q at ≡ e)
+passed : (right : ℕ) (s e : Spot) (q : Quint) (at : ℕ) → next_at right s q at ≡ Some e
+    → (tests right s q at ≡ true) × (put s q at ≡ e)
 passed right s e q at h = by (tests right s q at) refl h
   where
-    by : (b : Bool) → tests right s q at ≡ b → (if b then Some (put s q at) else None) ≡ Some e → (tests right s q at ≡ true) × (put s q at ≡ e)
+    by : (b : Bool) → tests right s q at ≡ b → (if b then Some (put s q at) else None) ≡ Some e
+        → (tests right s q at ≡ true) × (put s q at ≡ e)
     by true is h = (is, cc)
     by false is h = absurd (cc)
 
 module _ (p : Program) (standard : IsStandard p.quints) (right : ℕ) where
-  goes_by : (s : Spot) (i : ℕ) (q : Quint) (at : ℕ) → slice_get p.quints i ≡ Some q → place_by s.at q.shift ≡ Some at → tests right s q at ≡ true →
+  goes_by : (s : Spot) (i : ℕ) (q : Quint) (at : ℕ) → slice_get p.quints i ≡ Some q → place_by s.at q.shift ≡ Some at
+      → tests right s q at ≡ true →
       MachineRunsTo (within 0 right) p (moment_of s) (moment_of (put s q at))
   goes_by s i q at stands place test =
       let parts = and_parts (is_match s.state (symbol_in s) q) (ltb s.at (length s.cells) && ltb at (suc right)) test in
@@ -109,13 +113,19 @@ module _ (p : Program) (standard : IsStandard p.quints) (right : ℕ) where
       let inside : s.at < length s.cells = ltb-true s.at (length s.cells) low.0 in
       let within_right : at < suc right = ltb-true at (suc right) low.1 in
       let there : pos s.at ≡ pos 0 +ℤ pos s.at = omega (arith, ints) in
-      let scans : scanned (moment_of s).tape ≡ symbol_in s = symbol_at-cells_from s.cells (pos 0) s.at (pos s.at) there in
-      let matches : Matches q s.state (scanned (moment_of s).tape) = record { from = sym state; reads = scans ∙ sym read } in
+      let scans : scanned (moment_of s).tape ≡ symbol_in s = symbol_at-cells_from s.cells (pos 0) s.at (pos s.at) there
+      in
+      let matches : Matches q s.state (scanned (moment_of s).tape) =
+      record { from = sym state; reads = scans ∙ sym read } in
       let cells = cells_from-set s.cells (pos 0) s.at q.write (pos s.at) inside there in
       let head = place_moved s.at at q.shift place in (
         suc i,
         record {
-          going = λ is. standard.lone_final.none (suc i) (record { quint = q; stands = stands; names = inl (state ∙ is) });
+          going = λ is. standard.lone_final.none (suc i) (record {
+            quint = q;
+            stands = stands;
+            names = inl (state ∙ is);
+          });
           quint = q;
           match = record {
             stands = stands;
@@ -125,7 +135,12 @@ module _ (p : Program) (standard : IsStandard p.quints) (right : ℕ) where
               second = q;
               first_stands = at_m;
               second_stands = stands;
-              clashes = record { before = below; state = sym other.from ∙ sym state; read = sym other.reads ∙ (scans ∙ sym read) };
+              clashes = record {
+                before = below;
+                state = sym other.from ∙ sym state;
+                read = sym other.reads
+                    ∙ (scans ∙ sym read);
+              };
             });
           };
           applies = record {
@@ -138,10 +153,12 @@ module _ (p : Program) (standard : IsStandard p.quints) (right : ℕ) where
         },
       )
 
-  next_goes : (s e : Spot) → next_in p.quints right s ≡ Some e → MachineRunsTo (within 0 right) p (moment_of s) (moment_of e)
+  next_goes : (s e : Spot) → next_in p.quints right s ≡ Some e
+      → MachineRunsTo (within 0 right) p (moment_of s) (moment_of e)
   next_goes s e h = by (slice_get p.quints (number_in p.quints s)) refl h
     where
-      by : (o : Option Quint) → slice_get p.quints (number_in p.quints s) ≡ o → next_by right s o ≡ Some e → MachineRunsTo (within 0 right) p (moment_of s) (moment_of e)
+      by : (o : Option Quint) → slice_get p.quints (number_in p.quints s) ≡ o → next_by right s o ≡ Some e
+          → MachineRunsTo (within 0 right) p (moment_of s) (moment_of e)
       by None is h = absurd (cc)
       by (Some q) is h = option_and_then_some (next_at right s q) (place_by s.at q.shift) e h
           (λ at place next.
@@ -149,7 +166,8 @@ module _ (p : Program) (standard : IsStandard p.quints) (right : ℕ) where
           subst (λ (x : Spot). MachineRunsTo (within 0 right) p (moment_of s) (moment_of x)) done.1
           (goes_by s (number_in p.quints s) q at is place done.0))
 
-  walk_reaches : (n : ℕ) (s e : Spot) → walk p.quints right n s ≡ Some e → Reaches (MachineRunsTo (within 0 right) p) n (moment_of s) (moment_of e)
+  walk_reaches : (n : ℕ) (s e : Spot) → walk p.quints right n s ≡ Some e
+      → Reaches (MachineRunsTo (within 0 right) p) n (moment_of s) (moment_of e)
   walk_reaches zero s e h = let same : s ≡ e = cc in ap moment_of same
   walk_reaches (suc n) s e h = option_and_then_some (walk p.quints right n) (next_in p.quints right s) e h
       (λ m next rest. (moment_of m, next_goes s m next, walk_reaches n m e rest))
@@ -175,7 +193,8 @@ begins : (k : ℕ) → moment_of first_spot ≡ start (incrementer k) (binary 11
 begins k = λ i. record { state = 0; tape = record { cells = same i; head = pos 0 } }
   where
     same : cells_from (pos 0) (replicate 1 0 ++ (binary 11 ++ replicate 1 0)) ≡ cells_from (pos 1) (binary 11)
-    same = cells_from-blanks 1 (pos 0) (binary 11 ++ replicate 1 0) (pos 1) refl ∙ cells_from-trailing (binary 11) (pos 1) 1
+    same = cells_from-blanks 1 (pos 0) (binary 11 ++ replicate 1 0) (pos 1) refl
+        ∙ cells_from-trailing (binary 11) (pos 1) 1
 
 output_at : (k : ℕ) → IsRoundCount k → IsOutput (moment_of (last_spot k)).tape (binary (11 + k))
 output_at k h = record {
@@ -190,10 +209,12 @@ output_at k h = record {
   ended = symbol_at-cells_from (last_spot k).cells (pos 0) 5 (pos 0 +ℤ pos 5) refl;
 }
 
-pub increments-halt : (k : ℕ) → IsRoundCount k → HasOutcome (incrementer k) (binary 11) (window k) (10 * k + 1) (Halted (binary (11 + k)))
+pub increments-halt : (k : ℕ) → IsRoundCount k → HasOutcome (incrementer k) (binary 11) (window k) (10 * k + 1)
+    (Halted (binary (11 + k)))
 increments-halt k h = record {
   moment = moment_of (last_spot k);
-  run = subst (λ (m : Moment). Reaches (MachineRunsTo (within 0 5) (incrementer k)) (10 * k + 1) m (moment_of (last_spot k))) (begins k)
+  run = subst (λ (m : Moment). Reaches (MachineRunsTo (within 0 5) (incrementer k)) (10 * k + 1) m
+      (moment_of (last_spot k))) (begins k)
       (walk_reaches (incrementer k) (standard k h) 5 (10 * k + 1) first_spot (last_spot k) (walked k h));
   in_time = omega arith;
   ends = halts (binary (11 + k)) (ends k h) (output_at k h)

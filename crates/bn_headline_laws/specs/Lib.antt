@@ -12,3 +12,4 @@ pub mod GeneratedRuns
 pub mod CommandHeadlines
 pub mod CommandLaws
 pub mod CountLaws
+pub mod FoundMachineHeadline

@@ -1,18 +1,17 @@
 -- The headline by the machine alone: what `run` prints for a machine, a word and a window is what the machine's own
 -- bounded run names (Bennett 1973 for the machine; window and text are this project's own profile).
-use Rattle.std.specs.Prelude.{◌≡◌, ℕ, ◌+◌, ◌*◌, ◌<◌, ◌≤◌, ℤ, pos, ◌-ℤ◌, List, [], ◌∷◌, ◌++◌, length}
-use Rattle.std.specs.Prelude.{Option, Some, slice_get, codes, decimal}
+use Rattle.std.specs.Prelude.{◌≡◌, ℕ, ◌+◌, ◌*◌, ◌<◌, ◌≤◌, List, [], ◌∷◌, ◌++◌, length, Option, codes, decimal}
 use Rattle.bn_base.specs.Number.{greatest}
 use Rattle.bn_io.specs.Told.{Grows}
 use Rattle.bn_circuits.specs.declared.line.Line.{Line}
 use Rattle.bn_machine.specs.Tape.{Tape, blank_tape, word_tape}
-use Rattle.bn_machine.specs.Window.{IsBetween}
 use Rattle.bn_machine.specs.Machine.{Program}
 use Rattle.bn_machine.specs.Outcome.{Limits, Outcome, Halted, HasOutcome}
 use Rattle.bn_net.specs.declared.net.TheConstants.{MOST_ELEMENTS}
 use Rattle.bn_netlist_laws.specs.Sentences.{line_text}
 use Rattle.bn_table.specs.Rows.{Named}
 use Rattle.bn_board_spec.specs.declared.spelled.SpelledTape.{SpelledTape}
+use Rattle.bn_board_spec.specs.Spans.{Spans}
 use Rattle.bn_board_laws.specs.Headline.{HasEndTapes}
 use Rattle.bn_reply.specs.Lines.{line}
 use Rattle.bn_reply.specs.declared.limits.TheConstants.{MOST_INPUT_BYTES}
@@ -35,14 +34,6 @@ pub record IsOwnRun (bytes word : List ℕ) (l : Limits) (t : Named) (symbols : 
   pub outcome : HasOutcome t.machine symbols l i o
 
 -- ---- what is printed
-
--- A tape from -left to right: its head, where a cell shows it, is there, and each symbol that a cell shows is one of so
--- many.
-pub record Spans (left right symbols : ℕ) (tape : SpelledTape) : Type 0 where
-  pub first : tape.first ≡ pos 0 -ℤ pos left
-  pub cells : length tape.cells ≡ left + right + 1
-  pub head : (p : ℤ) → tape.head ≡ Some p → IsBetween left right p
-  pub known : (k s : ℕ) → slice_get tape.cells k ≡ Some (Some s) → s < symbols
 
 -- Three lines, one for each tape of the window, and nothing else; the symbols of the history are the blank and one for
 -- each quintuple.

@@ -3,6 +3,7 @@ ghost use Rattle.bn_headline_laws.specs.Laws.{ElementsAreCounted, GeneratedTells
 ghost use Rattle.bn_headline_laws.specs.Laws.{IncrementsRun};
 ghost use Rattle.bn_headline_laws.specs.Laws.{BoardsReturn, HeadlinesAgree, OwnRunsAreOne, RepliesTellMachine};
 ghost use Rattle.bn_headline_laws.specs.CircuitLaws.{HeadlineTellsCircuit};
+ghost use Rattle.bn_headline_laws.specs.FoundMachineHeadline.{FoundTellsMachine};
 
 /// The elements of a machine's network are counted by the machine and its limits alone.
 pub fn elements_are_counted()
@@ -39,8 +40,8 @@ pub fn boards_return()
     ensures { BoardsReturn }
 {}
 
-/// Two answers of which the headline holds differ at most in the number of element steps, where the machine halts or is
-/// stuck; and they have one status.
+/// Two answers of which the headline without a greatest number of steps holds have one status, and one text, or two
+/// that differ in the number of element steps alone.
 pub fn headlines_agree()
     ensures { HeadlinesAgree }
 {}
@@ -48,4 +49,9 @@ pub fn headlines_agree()
 /// What tells the headline of the boards tells that by the circuit.
 pub fn headline_tells_circuit()
     ensures { HeadlineTellsCircuit }
+{}
+
+/// What tells the headline where the window is found tells it by the machine alone.
+pub fn found_tells_machine()
+    ensures { FoundTellsMachine }
 {}

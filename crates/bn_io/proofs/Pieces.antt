@@ -1,5 +1,6 @@
 -- Facts on lists that are given and taken in pieces.
-use Rattle.std.proofs.Common.{◌≡◌, ◌≤◌, ◌<◌, ◌+◌, ◌-◌, ℕ, List, [], ◌++◌, length, take, drop, sym, ◌∙◌, ap, arith, append_assoc, length-append, length-drop, Option, Some, None, IfSome}
+use Rattle.std.proofs.Common.{◌≡◌, ◌≤◌, ◌<◌, ◌+◌, ◌-◌, ℕ, List, [], ◌++◌, length, take, drop, sym, ◌∙◌, ap, arith}
+use Rattle.std.proofs.Common.{append_assoc, length-append, length-drop, Option, Some, None, IfSome}
 use Rattle.std.proofs.lemmas.List.{append-nil, drop-drop, take-append-drop, take-append-le, length-take-le}
 use Rattle.std.proofs.Math.Seq.{take-length}
 use Rattle.bn_io.specs.Told.{Loses, ReadsWithin}
@@ -10,7 +11,8 @@ take-all : (n : ℕ) (xs : List ℕ) → n ≡ length xs → take n xs ≡ xs
 take-all n xs e = rw e (take-length xs)
 
 -- a piece more of the front, and what is behind it
-pub front-more : (xs given rest : List ℕ) (count n : ℕ) → xs ≡ given ++ rest → n ≡ length rest → xs ≡ (given ++ take count rest) ++ take (n - count) (drop count rest)
+pub front-more : (xs given rest : List ℕ) (count n : ℕ) → xs ≡ given ++ rest → n ≡ length rest
+    → xs ≡ (given ++ take count rest) ++ take (n - count) (drop count rest)
 front-more xs given rest count n split all =
     let l : n - count ≡ length (drop count rest) = omega (arith, length-drop count rest) in
     split
@@ -19,7 +21,9 @@ front-more xs given rest count n split all =
     ∙ ap (λ s. (given ++ take count rest) ++ s) (sym (take-all _ _ l))
 
 -- a buffer begins with the piece that was copied to its front, and the rest of the bytes is behind that piece
-pub copied-split : (bytes piece into left : List ℕ) (next count : ℕ) → left ≡ drop next bytes → next + count ≤ length bytes → piece ≡ take (next + count - next) (drop next bytes) → left ≡ take count (piece ++ drop count into) ++ drop (next + count) bytes
+pub copied-split : (bytes piece into left : List ℕ) (next count : ℕ) → left ≡ drop next bytes
+    → next + count ≤ length bytes → piece ≡ take (next + count - next) (drop next bytes)
+    → left ≡ take count (piece ++ drop count into) ++ drop (next + count) bytes
 copied-split bytes piece into left next count is fits copy =
     let e : next + count - next ≡ count = omega arith in
     let p : piece ≡ take count (drop next bytes) = copy ∙ ap (λ k. take k (drop next bytes)) e in
@@ -28,10 +32,13 @@ copied-split bytes piece into left next count is fits copy =
     let t : take count (piece ++ drop count into) ≡ piece =
     take-append-le count piece (drop count into) (omega arith) ∙ take-all count piece (sym m)
     in
-    rw (t, p) (is ∙ sym (take-append-drop count (drop next bytes)) ∙ ap (λ s. take count (drop next bytes) ++ s) (drop-drop count next bytes))
+    rw (t, p) (is ∙ sym (take-append-drop count (drop next bytes))
+    ∙ ap (λ s. take count (drop next bytes) ++ s) (drop-drop count next bytes))
 
 -- a read of a piece behind another is a read of both
-pub reads-behind : (a b c : Option (List ℕ)) (limit count : ℕ) (part whole : Type 0) (p q : List ℕ) → Loses a b p → count ≡ length p → count ≤ limit → (part → whole) → (whole → part) → ReadsWithin b c (limit - count) part q → ReadsWithin a c limit whole (p ++ q)
+pub reads-behind : (a b c : Option (List ℕ)) (limit count : ℕ) (part whole : Type 0) (p q : List ℕ) → Loses a b p
+    → count ≡ length p → count ≤ limit → (part → whole) → (whole → part) → ReadsWithin b c (limit - count) part q
+    → ReadsWithin a c limit whole (p ++ q)
 reads-behind a b c limit count part whole p q first is_count fits up down second =
     let l : length (p ++ q) ≡ length p + length q = length-append p q in record {
       lost = Loses-joins a b c p q first second.lost;
@@ -41,13 +48,15 @@ reads-behind a b c limit count part whole p q first is_count fits up down second
     }
 
 -- what was told and lost to the last byte is what was read
-pub reads-whole : (a b : Option (List ℕ)) (p : List ℕ) → Loses a b p → IfSome b (λ ys. ys ≡ []) → IfSome a (λ xs. p ≡ xs)
+pub reads-whole : (a b : Option (List ℕ)) (p : List ℕ) → Loses a b p → IfSome b (λ ys. ys ≡ [])
+    → IfSome a (λ xs. p ≡ xs)
 reads-whole None b p lost ended = tt
 reads-whole (Some xs) None p lost ended = absurd lost
 reads-whole (Some xs) (Some ys) p lost ended = sym (lost ∙ ap (λ s. p ++ s) ended ∙ append-nil p)
 
 -- a source that gave more than the limit had more than the limit
-pub reads-too_long : (a b : Option (List ℕ)) (limit : ℕ) (too_long : Type 0) (p : List ℕ) → ReadsWithin a b limit too_long p → too_long → IfSome a (λ xs. limit < length xs)
+pub reads-too_long : (a b : Option (List ℕ)) (limit : ℕ) (too_long : Type 0) (p : List ℕ)
+    → ReadsWithin a b limit too_long p → too_long → IfSome a (λ xs. limit < length xs)
 reads-too_long None b limit too_long p read is = tt
 reads-too_long (Some xs) None limit too_long p read is = absurd read.lost
 reads-too_long (Some xs) (Some ys) limit too_long p read is =

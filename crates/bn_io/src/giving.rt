@@ -11,7 +11,7 @@ pub const PIECE: usize = 4096;
 
 /// Gives all whole pieces of `text` to the sink, and keeps what is behind them, which is shorter than a piece.
 /// `WriteFault` comes only where the sink's count of faults rose in this call or stands at its last value, and the sink
-/// has then taken a front of `text`. It takes no memory.
+/// has then taken a front of `text`; otherwise the count is what it was. It takes no memory.
 pub fn give_pieces<K: Sink>(sink: &mut K, text: &mut Vec<u8>) -> Result<(), WriteFault>
     ensures given { OnOk result ((pieces : List ℕ) × (text.old.items ≡ pieces ++ text.new.items)
         × Grows (K.taken sink.old) (K.taken sink.new) pieces) }
@@ -19,6 +19,7 @@ pub fn give_pieces<K: Sink>(sink: &mut K, text: &mut Vec<u8>) -> Result<(), Writ
     ensures front { OnErr result (GrowsByFront (K.taken sink.old) (K.taken sink.new) text.old.items) }
     ensures later { K.faults sink.old ≤ K.faults sink.new }
     ensures write_fault { OnErr result (Rose (K.faults sink.old) (K.faults sink.new)) }
+    ensures kept { OnOk result (K.faults sink.new ≡ K.faults sink.old) }
 {
     while text.len() >= PIECE {
         give_piece(sink, text)?;
@@ -35,6 +36,7 @@ fn give_piece<K: Sink>(sink: &mut K, text: &mut Vec<u8>) -> Result<(), WriteFaul
     ensures front { OnErr result (GrowsByFront (K.taken sink.old) (K.taken sink.new) text.old.items) }
     ensures later { K.faults sink.old ≤ K.faults sink.new }
     ensures write_fault { OnErr result (Rose (K.faults sink.old) (K.faults sink.new)) }
+    ensures kept { OnOk result (K.faults sink.new ≡ K.faults sink.old) }
 {
     let piece = &text.as_slice()[..PIECE];
     write_all(sink, piece)?;
@@ -47,5 +49,7 @@ fn drop_piece(text: &mut Vec<u8>)
     requires { PIECE ≤ vec_len text.old }
     ensures { text.new.items ≡ drop PIECE text.old.items }
 {
-    text.drain(..PIECE);
+    let rest = text.len() - PIECE;
+    text.copy_within(PIECE.., 0);
+    text.truncate(rest);
 }

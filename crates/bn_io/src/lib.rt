@@ -7,6 +7,7 @@
 
 mod giving;
 mod input;
+mod laws;
 mod mem_sink;
 mod mem_source;
 mod reading;
@@ -21,9 +22,10 @@ mod writing;
 pub use bn_lists::NoMemory;
 pub use giving::{PIECE, give_pieces};
 pub use input::Input;
+pub use laws::sizes_are_stated;
 pub use mem_sink::MemSink;
 pub use mem_source::MemSource;
-pub use reading::{ReadRefusal, piece_size, read_all, read_whole};
+pub use reading::{CHUNK, ReadRefusal, piece_size, read_all, read_whole};
 pub use sinks::{Sink, SinkFailed};
 pub use slice_input::SliceInput;
 pub use sources::{Source, SourceFailed};

@@ -1,7 +1,7 @@
 //! Reading a whole input within a limit.
 ghost use Rattle.std.specs.Prelude.{◌≡◌, ◌↔◌, ℕ, ◌+◌, ◌-◌, ◌<◌, ◌≤◌, List, [], ◌++◌, length, min, vec_len, false, IfOk};
 ghost use Rattle.std.specs.Prelude.{IfErr, OnOk, IfSome, IsErrOf, IsTrue};
-ghost use Rattle.bn_io.specs.Faults.{Rose};
+ghost use Rattle.bn_io.specs.Faults.{Rose, StaysUnless};
 ghost use Rattle.bn_io.specs.Told.{ReadsWithin};
 
 use crate::input::Input;
@@ -9,7 +9,7 @@ use crate::sources::{Source, SourceFailed};
 use std::alloc::{AllocError, Global};
 
 /// How many bytes one call asks of a source, at most.
-const CHUNK: usize = 65536;
+pub const CHUNK: usize = 65536;
 
 /// Why an input was not read whole.
 #[derive(Clone, Copy, Debug, PartialEq, Eq)]
@@ -33,11 +33,10 @@ impl From<AllocError> for ReadRefusal {
     }
 }
 
-/// Reads to the end of input, and answers all the bytes, which are at most `limit`. `TooLong` comes
-/// exactly where the source gave more than `limit` bytes; the read ends at the first byte above it.
-/// `ReadFault` comes only where the source's count of faults rose in this call or stands at its
-/// last value. After each answer a source that told its bytes still does, and has lost just those
-/// that were read.
+/// Reads to the end of input, and answers all the bytes, which are at most `limit`. `TooLong` comes exactly where the
+/// source gave more than `limit` bytes; the read ends at the first byte above it. `ReadFault` comes only where the
+/// source's count of faults rose in this call or stands at its last value; after any other answer the count is what it
+/// was. After each answer a source that told its bytes still does, and has lost just those that were read.
 pub fn read_all<S: Source>(
     alloc: Global,
     source: &mut S,
@@ -53,6 +52,8 @@ pub fn read_all<S: Source>(
     ensures later { S.faults source.old ≤ S.faults source.new }
     ensures read_fault { IsErrOf result ReadRefusal.ReadFault →
         Rose (S.faults source.old) (S.faults source.new) }
+    ensures stays { StaysUnless (IsErrOf result ReadRefusal.ReadFault) (S.faults source.old)
+        (S.faults source.new) }
 {
     read_whole(alloc, source, limit)
 }
@@ -73,6 +74,8 @@ pub fn read_whole<I: Input>(
     ensures later { I.faults input.old ≤ I.faults input.new }
     ensures read_fault { IsErrOf result ReadRefusal.ReadFault →
         Rose (I.faults input.old) (I.faults input.new) }
+    ensures stays { StaysUnless (IsErrOf result ReadRefusal.ReadFault) (I.faults input.old)
+        (I.faults input.new) }
 {
     let mut buffer = chunk(alloc)?;
     let mut bytes = Vec::new(alloc);
@@ -106,6 +109,8 @@ fn read_onto<I: Input>(
     ensures later { I.faults input.old ≤ I.faults input.new }
     ensures read_fault { IsErrOf result ReadRefusal.ReadFault →
         Rose (I.faults input.old) (I.faults input.new) }
+    ensures stays { StaysUnless (IsErrOf result ReadRefusal.ReadFault) (I.faults input.old)
+        (I.faults input.new) }
 {
     while !read_piece(input, buffer, bytes, limit)? {}
     Ok(())
@@ -131,6 +136,8 @@ fn read_piece<I: Input>(
     ensures later { I.faults input.old ≤ I.faults input.new }
     ensures read_fault { IsErrOf result ReadRefusal.ReadFault →
         Rose (I.faults input.old) (I.faults input.new) }
+    ensures stays { StaysUnless (IsErrOf result ReadRefusal.ReadFault) (I.faults input.old)
+        (I.faults input.new) }
 {
     let room = limit - bytes.len() as u64;
     let asked = piece_size(room, buffer.len());

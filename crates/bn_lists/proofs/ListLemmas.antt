@@ -73,7 +73,8 @@ none_to_end P xs n past before = record {
 }
 
 -- the first entry with a property is one
-pub first_once : {X : Type 0} (P : X → Type 0) (xs : List X) (m n : ℕ) (x y : X) → IsFirstWith P xs m x → IsFirstWith P xs n y
+pub first_once : {X : Type 0} (P : X → Type 0) (xs : List X) (m n : ℕ) (x y : X) → IsFirstWith P xs m x
+    → IsFirstWith P xs n y
     → (m ≡ n) × (x ≡ y)
 first_once P xs m n x y a b =
     let same : m ≡ n = least_once m n (λ h. b.first m x h a.stands a.holds) (λ h. a.first n y h b.stands b.holds) in

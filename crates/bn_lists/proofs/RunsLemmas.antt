@@ -39,7 +39,8 @@ module _ {S : Type 0} (step : S → S → Type 0) where
   runs_turned zero x y run = sym run
   runs_turned (suc n) x y run = turned_more n y run.0 x (runs_turned n run.0 y run.2) run.1
     where
-      turned_more : (n : ℕ) (x y z : S) → Reaches (λ c d. step d c) n x y → step z y → Reaches (λ c d. step d c) (suc n) x z
+      turned_more : (n : ℕ) (x y z : S) → Reaches (λ c d. step d c) n x y → step z y
+          → Reaches (λ c d. step d c) (suc n) x z
       turned_more zero x y z first last = (z, subst (λ v. step z v) (sym first) last, refl)
       turned_more (suc n) x y z first last = (first.0, first.1, turned_more n first.0 y z first.2 last)
 
@@ -49,16 +50,26 @@ module _ {S : Type 0} (step : S → S → Type 0) where
   passes_run test (suc n) x y path = (path.0, path.1, passes_run test n path.0 y path.3)
 
   -- two paths make one where the state in the middle passes the test, unless it is an end
-  pub passes_join : (test : S → Bool) (p m n : ℕ) (x y z : S) → p ≡ m + n → (0 < m → 0 < n → test y ≡ true) → Passes step test m x y → Passes step test n y z → Passes step test p x z
+  pub passes_join : (test : S → Bool) (p m n : ℕ) (x y z : S) → p ≡ m + n → (0 < m → 0 < n → test y ≡ true)
+      → Passes step test m x y → Passes step test n y z → Passes step test p x z
   passes_join test p zero n x y z sum middle first second =
       let e : n ≡ p = omega arith in
       let at_p : Passes step test p y z = subst (λ i. Passes step test i y z) e second in
       subst (λ v. Passes step test p v z) (sym first) at_p
   passes_join test p (suc m) n x y z sum middle first second =
       let e : suc (m + n) ≡ p = omega arith in
-      let here : Before (m + n) (test first.0 ≡ true) = passes_here test m n first.0 y (λ more. middle (omega arith) more) first.2 first.3 in
-      subst (λ i. Passes step test i x z) e (first.0, first.1, here, passes_join test (m + n) m n first.0 y z refl (λ _ more. middle (omega arith) more) first.3 second)
+      let here : Before (m + n) (test first.0 ≡ true) = passes_here test m n first.0 y
+      (λ more. middle (omega arith) more) first.2 first.3 in
+      subst (λ i. Passes step test i x z) e (
+        first.0,
+        first.1,
+        here,
+        passes_join test (m + n) m n first.0 y z refl
+            (λ _ more. middle (omega arith) more) first.3 second,
+      )
     where
-      passes_here : (test : S → Bool) (m n : ℕ) (x y : S) → (0 < n → test y ≡ true) → Before m (test x ≡ true) → Passes step test m x y → Before (m + n) (test x ≡ true)
-      passes_here test zero n x y middle before path = before_by (0 + n) (test x ≡ true) (λ more. subst (λ v. test v ≡ true) (sym path) (middle (omega arith)))
+      passes_here : (test : S → Bool) (m n : ℕ) (x y : S) → (0 < n → test y ≡ true) → Before m (test x ≡ true)
+          → Passes step test m x y → Before (m + n) (test x ≡ true)
+      passes_here test zero n x y middle before path = before_by (0 + n) (test x ≡ true)
+          (λ more. subst (λ v. test v ≡ true) (sym path) (middle (omega arith)))
       passes_here test (suc m) n x y middle before path = before_by (suc m + n) (test x ≡ true) (λ _. before)

@@ -15,8 +15,12 @@ final_of-last (q ∷ r ∷ qs) zero d e = absurd (omega arith)
 final_of-last (q ∷ r ∷ qs) (suc k) d e = final_of-last (r ∷ qs) k d (omega arith)
 
 -- a search that has come to an entry that matches, and one that has come to the end
-pub first_match_at : (qs : List Quint) (state symbol n : ℕ) (q : Quint) → AllBefore (λ r. Matches r state symbol → ⊥) qs n → nth qs n ≡ Some q → Matches q state symbol → IsFirstMatch qs state symbol n q
-first_match_at qs state symbol n q before here matches = first_at (λ r. Matches r state symbol) qs n q before here matches
+pub first_match_at : (qs : List Quint) (state symbol n : ℕ) (q : Quint)
+    → AllBefore (λ r. Matches r state symbol → ⊥) qs n → nth qs n ≡ Some q → Matches q state symbol
+    → IsFirstMatch qs state symbol n q
+first_match_at qs state symbol n q before here matches = first_at (λ r. Matches r state symbol) qs n q before here
+    matches
 
-pub no_match : (qs : List Quint) (state symbol n : ℕ) → length qs < n → AllBefore (λ r. Matches r state symbol → ⊥) qs n → HasNoMatch qs state symbol
+pub no_match : (qs : List Quint) (state symbol n : ℕ) → length qs < n → AllBefore (λ r. Matches r state symbol → ⊥) qs n
+    → HasNoMatch qs state symbol
 no_match qs state symbol n past before = none_to_end (λ r. Matches r state symbol) qs n past before

@@ -1,5 +1,6 @@
 -- Lemmas on outputs: there is one longest word without blanks right of a head, and only one.
-use Rattle.std.specs.Prelude.{◌≡◌, ◌≢◌, ℕ, zero, suc, ◌+◌, ◌<◌, ◌≤◌, ℤ, pos, ◌+ℤ◌, ◌≤ℤ◌, ◌<ℤ◌, List, [], ◌∷◌, length, Option, Some, None, slice_index}
+use Rattle.std.specs.Prelude.{◌≡◌, ◌≢◌, ℕ, zero, suc, ◌+◌, ◌<◌, ◌≤◌, ℤ, pos, ◌+ℤ◌, ◌≤ℤ◌, ◌<ℤ◌, List, [], ◌∷◌, length}
+use Rattle.std.specs.Prelude.{Option, Some, None, slice_index}
 use Rattle.std.specs.Ordering.{int_cmp, int_eq}
 use Rattle.std.specs.FinMap.{entries, get-entries, find}
 use Rattle.std.specs.Int.RustNames.{unsigned_abs}
@@ -23,7 +24,8 @@ output_once t y z a b = by_length (cases_lt (length y) (length z)) (cases_lt (le
     by_length (inr h) (inl k) = absurd (not_shorter t z y b a k)
     by_length (inr h) (inr k) =
         let same : length y ≡ length z = omega arith in
-        same_number_lists y z same (λ i low. let also : i < length z = omega arith in sym (a.spelled i low) ∙ b.spelled i also)
+        same_number_lists y z same (λ i low. let also : i < length z = omega arith in sym (a.spelled i low)
+        ∙ b.spelled i also)
 
 -- nothing is found at a key beyond all others
 beyond_all : (es : List (ℤ × ℕ)) → (k : ℕ) × ((q : ℤ) → pos k <ℤ q → find int_cmp q es ≡ None)
@@ -37,7 +39,8 @@ beyond_all (e ∷ es) =
           passed q e (int_eq q e.0) refl apart (find int_cmp q es) ∙ rest.1 q beyond,
     )
   where
-    passed : (q : ℤ) (e : ℤ × ℕ) (b : Bool) → int_eq q e.0 ≡ b → q ≢ e.0 → (rest : Option ℕ) → cond b (Some e.1) rest ≡ rest
+    passed : (q : ℤ) (e : ℤ × ℕ) (b : Bool) → int_eq q e.0 ≡ b → q ≢ e.0 → (rest : Option ℕ)
+        → cond b (Some e.1) rest ≡ rest
     passed q e true is apart rest = absurd (apart ((Decides-int_eq q e.0).0 is))
     passed q e false is apart rest = refl
 
@@ -55,9 +58,14 @@ record Follows (m : Cells) (p : ℤ) (y : List ℕ) : Type 0 where
   ended : symbol_at m (p +ℤ pos (suc (length y))) ≡ 0
 
 none_follows : (m : Cells) (p : ℤ) → symbol_at m (p +ℤ pos 1) ≡ 0 → Follows m p []
-none_follows m p blank = record { letters = λ k h. absurd (omega arith); spelled = λ k h. absurd (omega arith); ended = blank }
+none_follows m p blank = record {
+  letters = λ k h. absurd (omega arith);
+  spelled = λ k h. absurd (omega arith);
+  ended = blank;
+}
 
-one_follows : (m : Cells) (p : ℤ) (a : ℕ) (y : List ℕ) → a ≢ 0 → symbol_at m (p +ℤ pos 1) ≡ a → Follows m (p +ℤ pos 1) y → Follows m p (a ∷ y)
+one_follows : (m : Cells) (p : ℤ) (a : ℕ) (y : List ℕ) → a ≢ 0 → symbol_at m (p +ℤ pos 1) ≡ a → Follows m (p +ℤ pos 1) y
+    → Follows m p (a ∷ y)
 one_follows m p a y letter here rest = record { letters = letters; spelled = spelled; ended = ended }
   where
     letters : (k : ℕ) → k < length (a ∷ y) → slice_index (a ∷ y) k ≢ 0
@@ -76,14 +84,20 @@ one_follows m p a y letter here rest = record { letters = letters; spelled = spe
         let further : p +ℤ pos (suc (length (a ∷ y))) ≡ (p +ℤ pos 1) +ℤ pos (suc (length y)) = omega (arith, ints) in
         ap (symbol_at m) further ∙ rest.ended
 
-follows_some : (m : Cells) (k : ℕ) → ((q : ℤ) → pos k <ℤ q → symbol_at m q ≡ 0) → (fuel : ℕ) (p : ℤ) → pos k ≤ℤ (p +ℤ pos fuel) → (y : List ℕ) × Follows m p y
-follows_some m k blank zero p h = let far : pos k <ℤ (p +ℤ pos 1) = omega (arith, ints) in ([], none_follows m p (blank (p +ℤ pos 1) far))
+follows_some : (m : Cells) (k : ℕ) → ((q : ℤ) → pos k <ℤ q → symbol_at m q ≡ 0) → (fuel : ℕ) (p : ℤ)
+    → pos k ≤ℤ (p +ℤ pos fuel) → (y : List ℕ) × Follows m p y
+follows_some m k blank zero p h = let far : pos k <ℤ (p +ℤ pos 1) =
+    omega (arith, ints) in ([], none_follows m p (blank (p +ℤ pos 1) far))
 follows_some m k blank (suc fuel) p h =
     let near : pos k ≤ℤ ((p +ℤ pos 1) +ℤ pos fuel) = omega (arith, ints) in
     let rest = follows_some m k blank fuel (p +ℤ pos 1) near in
     elim (eqb_tells (symbol_at m (p +ℤ pos 1)) 0) [
       | inl blank_here ↦ ([], none_follows m p blank_here.1)
-      | inr letter ↦ (symbol_at m (p +ℤ pos 1) ∷ rest.0, one_follows m p (symbol_at m (p +ℤ pos 1)) rest.0 letter.1 refl rest.1)
+      | inr letter ↦ (
+        symbol_at m (p +ℤ pos 1) ∷ rest.0,
+        one_follows m p (symbol_at m (p +ℤ pos 1)) rest.0 letter.1 refl
+            rest.1,
+      )
     ]
 
 pub output_exists : (t : Tape) → (y : List ℕ) × IsOutput t y

@@ -17,6 +17,8 @@ same_by_cells (x ∷ xs) (y ∷ ys) n h =
 
 pub windows-one : WindowsHaveOneList
 windows-one left right xs ys a b n same = (
-  same_by_cells xs ys n (λ k. sym (cell-window_of left right xs a k (pos k -ℤ pos left) refl) ∙ ap (λ t. cell t (pos k -ℤ pos left)) same ∙ cell-window_of left right ys b k (pos k -ℤ pos left) refl),
-  (let heads : (pos a -ℤ pos left) ≡ (pos b -ℤ pos left) = ap (λ (t : Tape). t.head) same in omega (arith, ints, heads)),
+  same_by_cells xs ys n (λ k. sym (cell-window_of left right xs a k (pos k -ℤ pos left) refl)
+      ∙ ap (λ t. cell t (pos k -ℤ pos left)) same ∙ cell-window_of left right ys b k (pos k -ℤ pos left) refl),
+  (let heads : (pos a -ℤ pos left) ≡ (pos b -ℤ pos left) = ap (λ (t : Tape). t.head) same in omega
+      (arith, ints, heads)),
 )

@@ -16,11 +16,16 @@ use Rattle.bn_mirror.proofs.AdmittedLemmas.{mirrors-admitted}
 use Rattle.bn_mirror.proofs.ListingLemmas.{listed_mirrored}
 
 -- the place of what may be spelled is one of the net
-pub spelled_place : (v : Version) (a : NetConfig) → Admits v (spelling_of a) → IsPlace (rotary_circuit a.net) a.config.place
-spelled_place v a admitted = subst (λ (k : Circuit). IsPlace k a.config.place) (sym (circuits-agree a)) admitted.config.place
+pub spelled_place : (v : Version) (a : NetConfig) → Admits v (spelling_of a)
+    → IsPlace (rotary_circuit a.net) a.config.place
+spelled_place v a admitted = subst (λ (k : Circuit). IsPlace k a.config.place) (sym (circuits-agree a))
+    admitted.config.place
 
-pub is_mirror : (a b : NetConfig) (ws : List Wire) (n : ℕ) → IsCircuit (rotary_circuit a.net) → IsCircuit (rotary_circuit b.net) → n ≡ length a.net.elements → AreWiresOf (IsMirroredWire a.net.wires) ws → IsNetOf b.net n ws →
-    b.config.states ≡ a.config.states → b.config.place ≡ mirrored_place a.net.wires a.config.place → b.config.steps ≡ 0 → b.start ≡ mirrored_line a.end → b.end ≡ mirrored_line a.start →
+pub is_mirror : (a b : NetConfig) (ws : List Wire) (n : ℕ) → IsCircuit (rotary_circuit a.net)
+    → IsCircuit (rotary_circuit b.net) → n ≡ length a.net.elements → AreWiresOf (IsMirroredWire a.net.wires) ws
+    → IsNetOf b.net n ws →
+    b.config.states ≡ a.config.states → b.config.place ≡ mirrored_place a.net.wires a.config.place → b.config.steps ≡ 0
+    → b.start ≡ mirrored_line a.end → b.end ≡ mirrored_line a.start →
     IsMirror (spelling_of a) (spelling_of b)
 is_mirror a b ws n circuit other count are is states place steps start end = record {
   elements = is.elements ∙ count;
@@ -33,5 +38,6 @@ is_mirror a b ws n circuit other count are is states place steps start end = rec
   steps = steps;
 }
 
-pub is_admitted : (v : Version) (a b : NetConfig) → Admits v (spelling_of a) → IsMirror (spelling_of a) (spelling_of b) → Admits v (spelling_of b)
+pub is_admitted : (v : Version) (a b : NetConfig) → Admits v (spelling_of a) → IsMirror (spelling_of a) (spelling_of b)
+    → Admits v (spelling_of b)
 is_admitted v a b admitted is = mirrors-admitted v (spelling_of a) (spelling_of b) admitted is

@@ -18,7 +18,11 @@ stays : (line : ℕ) → (line ≡ east → ⊥) → (line ≡ west → ⊥) →
 stays line not_east not_west =
     elim (eqb_tells line east) [
       | inl is ↦ absurd (not_east is.1)
-      | inr other ↦ elim (eqb_tells line west) [ inl is ↦ absurd (not_west is.1) | inr apart ↦ rw (other.0, apart.0) refl ]
+      | inr other ↦ elim (eqb_tells line west) [
+        | inl is ↦ absurd (not_west is.1)
+        | inr apart
+            ↦ rw (other.0, apart.0) refl
+      ]
     ]
 
 twice_other : (line : ℕ) → (line ≡ east → ⊥) → (line ≡ west → ⊥) → exchanged (exchanged line) ≡ line
@@ -29,7 +33,8 @@ exchanged_twice zero = refl
 exchanged_twice (suc zero) = refl
 exchanged_twice (suc (suc zero)) = refl
 exchanged_twice (suc (suc (suc zero))) = refl
-exchanged_twice (suc (suc (suc (suc line)))) = twice_other (suc (suc (suc (suc line)))) (λ e. absurd (omega (arith, e))) (λ e. absurd (omega (arith, e)))
+exchanged_twice (suc (suc (suc (suc line)))) = twice_other (suc (suc (suc (suc line)))) (λ e. absurd (omega (arith, e)))
+    (λ e. absurd (omega (arith, e)))
 
 pub line_twice : (l : Line) → mirrored_line (mirrored_line l) ≡ l
 line_twice l = same_lines (mirrored_line (mirrored_line l)) l refl (exchanged_twice l.line)
@@ -51,7 +56,8 @@ turned_pair q i (Some m) h =
 
 -- a move turned round is a move, with east and west exchanged
 go_turned : (q i r o : ℕ) → rotary.go q i ≡ Some (r, o) → rotary.go r (exchanged o) ≡ Some (q, exchanged i)
-go_turned q i r o h = turned_pair q i (rotary.go r (exchanged o)) (sym (rotary-inverse r o) ∙ rotary-IsReversible.undone q i r o h)
+go_turned q i r o h = turned_pair q i (rotary.go r (exchanged o))
+    (sym (rotary-inverse r o) ∙ rotary-IsReversible.undone q i r o h)
 
 -- ---- circuits of rotary elements
 
@@ -68,11 +74,14 @@ module _ (ts : List Table) (rotaries : AreAllRotary ts) where
   go_of_turned e q i r o h =
       option_and_then_some (λ (t : Table). t.go q i) (slice_get ts e) (r, o) h (λ t has goes.
       let is : t ≡ rotary = rotaries e t has in
-      let there : rotary.go r (exchanged o) ≡ Some (q, exchanged i) = go_turned q i r o (subst (λ (x : Table). x.go q i ≡ Some (r, o)) is goes) in
-      let at_t : t.go r (exchanged o) ≡ Some (q, exchanged i) = subst (λ (x : Table). x.go r (exchanged o) ≡ Some (q, exchanged i)) (sym is) there in
+      let there : rotary.go r (exchanged o) ≡ Some (q, exchanged i) =
+      go_turned q i r o (subst (λ (x : Table). x.go q i ≡ Some (r, o)) is goes) in
+      let at_t : t.go r (exchanged o) ≡ Some (q, exchanged i) =
+      subst (λ (x : Table). x.go r (exchanged o) ≡ Some (q, exchanged i)) (sym is) there in
       rw has at_t)
 
-  inputs_are : (e : ℕ) (t : Option Table) → slice_get ts e ≡ t → option_map_or (λ (x : Table). x.inputs) t 0 ≡ option_map_or (λ (x : Table). x.outputs) t 0
+  inputs_are : (e : ℕ) (t : Option Table) → slice_get ts e ≡ t
+      → option_map_or (λ (x : Table). x.inputs) t 0 ≡ option_map_or (λ (x : Table). x.outputs) t 0
   inputs_are e None is = refl
   inputs_are e (Some t) is = subst (λ (x : Table). x.inputs ≡ x.outputs) (sym (rotaries e t is)) refl
 
@@ -80,7 +89,8 @@ module _ (ts : List Table) (rotaries : AreAllRotary ts) where
   pub lines_are : (e : ℕ) → inputs_of ts e ≡ outputs_of ts e
   lines_are e = inputs_are e (slice_get ts e) refl
 
-  turned_in : (e line : ℕ) (t : Option Table) → slice_get ts e ≡ t → line < option_map_or (λ (x : Table). x.inputs) t 0 → exchanged line < option_map_or (λ (x : Table). x.inputs) t 0
+  turned_in : (e line : ℕ) (t : Option Table) → slice_get ts e ≡ t → line < option_map_or (λ (x : Table). x.inputs) t 0
+      → exchanged line < option_map_or (λ (x : Table). x.inputs) t 0
   turned_in e line None is h = absurd (omega arith)
   turned_in e line (Some t) is h =
       let at : t ≡ rotary = rotaries e t is in

@@ -24,16 +24,20 @@ in_time : (k : Circuit) (t : ℕ) (c d : Config) → Reaches (Goes k) t c d → 
 in_time k t c d made limit = let e : d.steps ≡ c.steps + t = steps_of_run k t c d made in omega arith
 
 -- the steps back that can be made are made forward in the mirror
-mirror_reaches : (v : Version) (s m : Spelling) → Admits v s → IsMirror s m → (t : ℕ) (c : Config) → Reaches (Goes (circuit_of s)) t c s.config
+mirror_reaches : (v : Version) (s m : Spelling) → Admits v s → IsMirror s m → (t : ℕ) (c : Config)
+    → Reaches (Goes (circuit_of s)) t c s.config
     → Reaches (Goes (circuit_of m)) t m.config (mirrored_config s.wires t c)
 mirror_reaches v s m admitted is t c made =
     let tables : (circuit_of m).tables ≡ (circuit_of s).tables = ap (λ n. replicate n rotary) is.elements in
-    let from_start : Reaches (Goes (circuit_of m)) t (mirrored_config s.wires 0 s.config) (mirrored_config s.wires t c) =
-    turned_Reaches (circuit_of s) (circuit_of m) tables (all_rotary s.elements) is.wires admitted.circuit.one_to_one t c s.config made (in_time (circuit_of s) t c s.config made admitted.config.in_time) in
+    let from_start : Reaches (Goes (circuit_of m)) t (mirrored_config s.wires 0 s.config)
+    (mirrored_config s.wires t c) =
+    turned_Reaches (circuit_of s) (circuit_of m) tables (all_rotary s.elements) is.wires admitted.circuit.one_to_one t c
+    s.config made (in_time (circuit_of s) t c s.config made admitted.config.in_time) in
     subst (λ x. Reaches (Goes (circuit_of m)) t x (mirrored_config s.wires t c)) (sym (config_of s m is)) from_start
 
 -- so the run of the mirror, and the mirror of where the steps back lead
-module _ (v : Version) (s m n : Spelling) (admitted : Admits v s) (is : IsMirror s m) (t : ℕ) (c : Config) (made : Reaches (Goes (circuit_of s)) t c s.config) (other : IsMirror (moved_to s c) n) where
+module _ (v : Version) (s m n : Spelling) (admitted : Admits v s) (is : IsMirror s m) (t : ℕ) (c : Config)
+    (made : Reaches (Goes (circuit_of s)) t c s.config) (other : IsMirror (moved_to s c) n) where
   ran : run (circuit_of m) m.config t ≡ mirrored_config s.wires t c
   ran = Reaches-run (circuit_of m) t m.config (mirrored_config s.wires t c) (mirror_reaches v s m admitted is t c made)
 
@@ -44,7 +48,8 @@ module _ (v : Version) (s m n : Spelling) (admitted : Admits v s) (is : IsMirror
   mirror_situation = ap situation_of ran ∙ sym (ap situation_of (config_of (moved_to s c) n other))
 
 -- the last t steps of a run
-last_steps : (k : Circuit) → IsCircuit k → (most t : ℕ) (c d : Config) → Reaches (Goes k) most c d → t ≤ most → Reaches (Goes k) t (back k d t) d
+last_steps : (k : Circuit) → IsCircuit k → (most t : ℕ) (c d : Config) → Reaches (Goes k) most c d → t ≤ most
+    → Reaches (Goes k) t (back k d t) d
 last_steps k circuit most t c d made within =
     let cut = runs_split (Goes k) (most - t) t most c d (omega arith) made in
     subst (λ x. Reaches (Goes k) t x d) (sym (Reaches-back k circuit t cut.0 d cut.2)) cut.2
@@ -60,16 +65,19 @@ mirrors-run_back v s m n admitted is most t c made within other =
 pub mirrors-exchange_ends : MirrorsExchangeEnds
 mirrors-exchange_ends v s m admitted is = (
   λ left. is.place ∙ ap (mirrored_place s.wires) left ∙ ap (λ (l : Line). Enter l.element l.line) (sym is.start),
-  λ begins. is.place ∙ ap (mirrored_place s.wires) begins ∙ ap (λ o. fed_place o s.start) admitted.unfed ∙ ap (λ (l : Line). Left l.element l.line) (sym is.end),
+  λ begins. is.place ∙ ap (mirrored_place s.wires) begins ∙ ap (λ o. fed_place o s.start) admitted.unfed
+      ∙ ap (λ (l : Line). Left l.element l.line) (sym is.end),
 )
 
 pub runs-come_back : RunsComeBack
 runs-come_back v s m n admitted begins t c made is other =
-    let there : Admits v (moved_to s c) = spellings-move v s c admitted (Reaches-IsConfig (circuit_of s) admitted.circuit t s.config c admitted.config made) in
+    let there : Admits v (moved_to s c) = spellings-move v s c admitted
+    (Reaches-IsConfig (circuit_of s) admitted.circuit t s.config c admitted.config made) in
     let restored = mirror_situation v (moved_to s c) m n there is t s.config made other in
     let end : n.end ≡ m.end = other.end ∙ sym is.end in
     record {
       reaches = mirror_runs v (moved_to s c) m n there is t s.config made other;
       restored = restored;
-      left = ap (λ x. x.place) restored ∙ (mirrors-exchange_ends v s n admitted other).1 begins ∙ ap (λ (l : Line). Left l.element l.line) end;
+      left = ap (λ x. x.place) restored ∙ (mirrors-exchange_ends v s n admitted other).1 begins
+          ∙ ap (λ (l : Line). Left l.element l.line) end;
     }

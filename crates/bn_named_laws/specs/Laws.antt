@@ -82,6 +82,5 @@ pub record Laws : Type 0 where
   pub erasings_are_tables : ErasingsAreTables
   -- What is written of the inverse of a table's machine, with the table's names, is read as a table, whose machine is
   -- that inverse but for the numbers; it is deterministic where the table's machine is reversible, reversible where
-  -- that
-  -- one is deterministic, and uniform where that one is.
+  -- that one is deterministic, and uniform where that one is.
   pub inverses_are_tables : InversesAreTables

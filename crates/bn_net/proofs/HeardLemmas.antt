@@ -29,10 +29,12 @@ hears-lost : (room : ℕ) (heard : List Place) (place : Place) → room ≤ leng
 hears-lost room heard place high = rw (test_high (length heard) room high) refl
 
 -- what was lost once stays lost
-loses-on : (room : ℕ) (heard more : List Place) → room ≤ length heard → told_by (hears_all (losing room heard) more) ≡ None
+loses-on : (room : ℕ) (heard more : List Place) → room ≤ length heard
+    → told_by (hears_all (losing room heard) more) ≡ None
 loses-on room heard [] high = refl
 loses-on room heard (place ∷ more) high =
-    let next : hears_next (losing room heard) place ≡ losing room heard = rw (test_high (length heard) room high) refl in
+    let next : hears_next (losing room heard) place ≡ losing room heard =
+    rw (test_high (length heard) room high) refl in
     ap (λ h. told_by (hears_all h more)) next ∙ loses-on room heard more high
 
 longer : (heard : List Place) (place : Place) → length (heard ++ place ∷ []) ≡ length heard + 1
@@ -50,13 +52,16 @@ keeps-all room heard (place ∷ more) few =
 loses-some : (room : ℕ) (heard more : List Place) → length heard ≤ room → room < length heard + length more
     → told_by (hears_all (keeping room heard) more) ≡ None
 loses-some room heard [] within many = absurd (omega arith)
-loses-some room heard (place ∷ more) within many = by_room (cases_lt (length heard) room) (λ low. loses-some room (heard ++ place ∷ []) more (omega (arith, low, longer heard place)) (omega (arith, low, longer heard place)))
+loses-some room heard (place ∷ more) within many = by_room (cases_lt (length heard) room)
+    (λ low. loses-some room (heard ++ place ∷ []) more (omega (arith, low, longer heard place))
+    (omega (arith, low, longer heard place)))
   where
     by_room : (length heard < room) ⊎ (room ≤ length heard)
         → (length heard < room → told_by (hears_all (keeping room (heard ++ place ∷ [])) more) ≡ None)
         → told_by (hears_all (hears_next (keeping room heard) place) more) ≡ None
     by_room (inl low) later = ap (λ h. told_by (hears_all h more)) (hears-kept room heard place low) ∙ later low
-    by_room (inr high) later = ap (λ h. told_by (hears_all h more)) (hears-lost room heard place high) ∙ loses-on room heard more high
+    by_room (inr high) later = ap (λ h. told_by (hears_all h more)) (hears-lost room heard place high)
+        ∙ loses-on room heard more high
 
 pub watches-tell : WatchesTellWithinRoom
 watches-tell room places =

@@ -15,7 +15,8 @@ pub rotary-tables : {X : Type 0} (xs : List X) → map (λ _. rotary) xs ≡ rep
 rotary-tables [] = refl
 rotary-tables (x ∷ xs) = ap (λ (ts : List Table). rotary ∷ ts) (rotary-tables xs)
 
-pub rotary-table_at : {X : Type 0} (xs : List X) (e : ℕ) → e < length xs → slice_get (map (λ _. rotary) xs) e ≡ Some rotary
+pub rotary-table_at : {X : Type 0} (xs : List X) (e : ℕ) → e < length xs
+    → slice_get (map (λ _. rotary) xs) e ≡ Some rotary
 rotary-table_at [] e within = absurd (omega arith)
 rotary-table_at (x ∷ xs) zero within = refl
 rotary-table_at (x ∷ xs) (suc e) within = rotary-table_at xs e (omega arith)
@@ -25,7 +26,9 @@ length-tables [] = refl
 length-tables (x ∷ xs) = ap suc (length-tables xs)
 
 -- bars that are horizontal or vertical, one an element, make a configuration
-pub bars-IsConfig : (net : Parts Rotary) (c : Config) → length c.states ≡ length net.elements → ((e q : ℕ) → slice_get c.states e ≡ Some q → q < 2) → IsPlace (rotary_circuit net) c.place → c.steps ≤ clock → IsConfig (rotary_circuit net) c
+pub bars-IsConfig : (net : Parts Rotary) (c : Config) → length c.states ≡ length net.elements
+    → ((e q : ℕ) → slice_get c.states e ≡ Some q → q < 2) → IsPlace (rotary_circuit net) c.place → c.steps ≤ clock
+    → IsConfig (rotary_circuit net) c
 bars-IsConfig net c count bars place in_time =
     record {
       count = count ∙ sym (length-tables net.elements);

@@ -20,7 +20,8 @@ line_tells a b =
     ]
 
 -- a wire more at the end, whose output line had none
-pub target-push : (xs : List Wire) (w : Wire) (from : Line) → target xs w.from ≡ None → target (xs ++ w ∷ []) from ≡ (if same_line w.from from then Some w.to else target xs from)
+pub target-push : (xs : List Wire) (w : Wire) (from : Line) → target xs w.from ≡ None
+    → target (xs ++ w ∷ []) from ≡ (if same_line w.from from then Some w.to else target xs from)
 target-push [] w from none = refl
 target-push (x ∷ xs) w from none =
     elim (line_tells x.from w.from) [
@@ -37,7 +38,8 @@ target-push (x ∷ xs) w from none =
           ])
     ]
 
-pub source-push : (xs : List Wire) (w : Wire) (to : Line) → source xs w.to ≡ None → source (xs ++ w ∷ []) to ≡ (if same_line w.to to then Some w.from else source xs to)
+pub source-push : (xs : List Wire) (w : Wire) (to : Line) → source xs w.to ≡ None
+    → source (xs ++ w ∷ []) to ≡ (if same_line w.to to then Some w.from else source xs to)
 source-push [] w to none = refl
 source-push (x ∷ xs) w to none =
     elim (line_tells x.to w.to) [

@@ -1,5 +1,6 @@
 -- The wires of some outputs of an element as they are added one by one.
-use Rattle.std.specs.Prelude.{◌≡◌, ℕ, ◌+◌, ◌*◌, ◌<◌, ◌≤◌, Bool, true, List, [], ◌∷◌, ◌++◌, length, drop, Option, Some, None, Ok, Err, slice_get, slice_set, refl}
+use Rattle.std.specs.Prelude.{◌≡◌, ℕ, ◌+◌, ◌*◌, ◌<◌, ◌≤◌, Bool, true, List, [], ◌∷◌, ◌++◌, length, drop, Option, Some}
+use Rattle.std.specs.Prelude.{None, Ok, Err, slice_get, slice_set, refl}
 use Rattle.std.proofs.Common.{zero, suc, arith, sym, ap, subst, ◌∙◌}
 use Rattle.std.proofs.lemmas.List.{append_assoc, append-nil}
 use Rattle.std.proofs.lemmas.Option.{same_Some}
@@ -18,7 +19,8 @@ use Rattle.bn_netlist.specs.declared.line_refusal.NetlistRefusal.{NetlistRefusal
 use Rattle.bn_netlist.proofs.DraftLemmas.{fed_more}
 
 -- what a test answered
-pub tested-Err : (o : Option Fault) (line : ℕ) (to : Line) (r : NetlistRefusal) → Err r ≡ tested o line to → RefusesBy o line r
+pub tested-Err : (o : Option Fault) (line : ℕ) (to : Line) (r : NetlistRefusal) → Err r ≡ tested o line to
+    → RefusesBy o line r
 tested-Err None line to r h = absurd (cc)
 tested-Err (Some f) line to r h = finds f refl cc
 
@@ -26,27 +28,37 @@ pub tested-Ok : (o : Option Fault) (line : ℕ) (to l : Line) → Ok l ≡ teste
 tested-Ok None line to l h = (refl, cc)
 tested-Ok (Some f) line to l h = absurd (cc)
 
-pub connected : (h : Header) (n : ℕ) (from to l : Line) (old new : List Wire) (fed : List Bool) → IsFed h.count old fed → Ok l ≡ tested (wire_fault (header_then h []) old from to) n to → to.line < 4 → new ≡ old ++ record { from = from; to = l } ∷ [] → Connects h from to old new (slice_set fed (4 * l.element + l.line) true)
+pub connected : (h : Header) (n : ℕ) (from to l : Line) (old new : List Wire) (fed : List Bool) → IsFed h.count old fed
+    → Ok l ≡ tested (wire_fault (header_then h []) old from to) n to → to.line < 4
+    → new ≡ old ++ record { from = from; to = l } ∷ [] → Connects h from to old new
+    (slice_set fed (4 * l.element + l.line) true)
 connected h n from to l old new fed is answer low push =
     let both = tested-Ok (wire_fault (header_then h []) old from to) n to l answer in
     let there = (wire_passes h [] old from to both.0).there in
     let w : Line → Wire = λ x. record { from = from; to = x } in
     let pushed : new ≡ old ++ w to ∷ [] = push ∙ ap (λ (x : Line). old ++ w x ∷ []) both.1 in
-    let more : IsFed h.count (old ++ w to ∷ []) (slice_set fed (4 * to.element + to.line) true) = fed_more h.count old (w to) fed is there low in
-    let at_new : IsFed h.count new (slice_set fed (4 * to.element + to.line) true) = subst (λ (ws : List Wire). IsFed h.count ws (slice_set fed (4 * to.element + to.line) true)) (sym pushed) more in
+    let more : IsFed h.count (old ++ w to ∷ []) (slice_set fed (4 * to.element + to.line) true) =
+    fed_more h.count old (w to) fed is there low in
+    let at_new : IsFed h.count new (slice_set fed (4 * to.element + to.line) true) =
+    subst (λ (ws : List Wire). IsFed h.count ws (slice_set fed (4 * to.element + to.line) true)) (sym pushed) more
+    in
     record {
       faultless = both.0;
       wires = pushed;
-      marked = subst (λ (x : Line). IsFed h.count new (slice_set fed (4 * x.element + x.line) true)) (sym both.1) at_new;
+      marked = subst (λ (x : Line). IsFed h.count new (slice_set fed (4 * x.element + x.line) true)) (sym both.1)
+          at_new;
     }
 
--- The wires of outputs of an element have been added up to output p, the i-th of them, and the others are still to come.
-pub record IsConnected (h : Header) (e o : ℕ) (xs : List (Option Line)) (old wires : List Wire) (fed : List Bool) (i p : ℕ) : Type 0 where
+-- The wires of outputs of an element have been added up to output p, the i-th of them, and the others are still to
+-- come.
+pub record IsConnected (h : Header) (e o : ℕ) (xs : List (Option Line)) (old wires : List Wire) (fed : List Bool)
+    (i p : ℕ) : Type 0 where
   pub fault : outputs_fault (header_then h []) old e o xs ≡ outputs_fault (header_then h []) wires e p (drop i xs)
   pub wires_are : wires ++ wires_from e p (drop i xs) ≡ old ++ wires_from e o xs
   pub marked : IsFed h.count wires fed
 
-pub connected_start : (h : Header) (e o p : ℕ) (xs : List (Option Line)) (old : List Wire) (fed : List Bool) → p ≡ o → IsFed h.count old fed → IsConnected h e o xs old old fed 0 p
+pub connected_start : (h : Header) (e o p : ℕ) (xs : List (Option Line)) (old : List Wire) (fed : List Bool) → p ≡ o
+    → IsFed h.count old fed → IsConnected h e o xs old old fed 0 p
 connected_start h e o p xs old fed at_o marked =
     record {
       fault = ap (λ (n : ℕ). outputs_fault (header_then h []) old e n xs) (sym at_o);
@@ -59,16 +71,22 @@ drop_next [] i x h = absurd (cc)
 drop_next (y ∷ xs) zero x h = let same = same_Some y x h in ap (λ z. z ∷ xs) same
 drop_next (y ∷ xs) (suc i) x h = drop_next xs i x h
 
-target_named : (ts : List (Option (ℕ × ℕ))) (i : ℕ) (t : Option (ℕ × ℕ)) → slice_get ts i ≡ Some t → slice_get (named_targets ts) i ≡ Some (named_target t)
+target_named : (ts : List (Option (ℕ × ℕ))) (i : ℕ) (t : Option (ℕ × ℕ)) → slice_get ts i ≡ Some t
+    → slice_get (named_targets ts) i ≡ Some (named_target t)
 target_named [] i t h = absurd (cc)
 target_named (u ∷ ts) zero t h = ap (λ (v : Option (ℕ × ℕ)). Some (named_target v)) (same_Some u t h)
 target_named (u ∷ ts) (suc i) t h = target_named ts i t h
 
-at_next : (h : Header) (e o : ℕ) (xs : List (Option Line)) (old wires : List Wire) (fed : List Bool) (i p j q : ℕ) → j ≡ suc i → q ≡ suc p → IsConnected h e o xs old wires fed (suc i) (suc p) → IsConnected h e o xs old wires fed j q
+at_next : (h : Header) (e o : ℕ) (xs : List (Option Line)) (old wires : List Wire) (fed : List Bool) (i p j q : ℕ)
+    → j ≡ suc i → q ≡ suc p → IsConnected h e o xs old wires fed (suc i) (suc p)
+    → IsConnected h e o xs old wires fed j q
 at_next h e o xs old wires fed i p j q next further is =
-    subst (λ (n : ℕ). IsConnected h e o xs old wires fed n q) (sym next) (subst (IsConnected h e o xs old wires fed (suc i)) (sym further) is)
+    subst (λ (n : ℕ). IsConnected h e o xs old wires fed n q) (sym next)
+    (subst (IsConnected h e o xs old wires fed (suc i)) (sym further) is)
 
-pub connected_skip : (h : Header) (e o : ℕ) (ts : List (Option (ℕ × ℕ))) (old wires : List Wire) (fed : List Bool) (i p j q : ℕ) → j ≡ suc i → q ≡ suc p → slice_get ts i ≡ Some None → IsConnected h e o (named_targets ts) old wires fed i p → IsConnected h e o (named_targets ts) old wires fed j q
+pub connected_skip : (h : Header) (e o : ℕ) (ts : List (Option (ℕ × ℕ))) (old wires : List Wire) (fed : List Bool)
+    (i p j q : ℕ) → j ≡ suc i → q ≡ suc p → slice_get ts i ≡ Some None
+    → IsConnected h e o (named_targets ts) old wires fed i p → IsConnected h e o (named_targets ts) old wires fed j q
 connected_skip h e o ts old wires fed i p j q next further has is =
     let here = drop_next (named_targets ts) i None (target_named ts i None has) in
     at_next h e o (named_targets ts) old wires fed i p j q next further
@@ -78,18 +96,26 @@ connected_skip h e o ts old wires fed i p j q next further has is =
       marked = is.marked;
     })
 
-pub connected_more : (h : Header) (e o : ℕ) (ts : List (Option (ℕ × ℕ))) (to : ℕ × ℕ) (old wires new : List Wire) (fed fed_new : List Bool) (i p j q : ℕ) → j ≡ suc i → q ≡ suc p → slice_get ts i ≡ Some (Some to) → IsConnected h e o (named_targets ts) old wires fed i p → Connects h (record { element = e; line = p }) (named to) wires new fed_new → IsConnected h e o (named_targets ts) old new fed_new j q
+pub connected_more : (h : Header) (e o : ℕ) (ts : List (Option (ℕ × ℕ))) (to : ℕ × ℕ) (old wires new : List Wire)
+    (fed fed_new : List Bool) (i p j q : ℕ) → j ≡ suc i → q ≡ suc p → slice_get ts i ≡ Some (Some to)
+    → IsConnected h e o (named_targets ts) old wires fed i p → Connects h (record { element = e; line = p }) (named to)
+    wires new fed_new → IsConnected h e o (named_targets ts) old new fed_new j q
 connected_more h e o ts to old wires new fed fed_new i p j q next further has is connects =
     let from : Line = record { element = e; line = p } in
     let w : Wire = record { from = from; to = named to } in
     let rest = drop (suc i) (named_targets ts) in
     let here = drop_next (named_targets ts) i (Some (named to)) (target_named ts i (Some to) has) in
     let none = connects.faultless in
-    let fault_here : outputs_fault (header_then h []) wires e p (Some (named to) ∷ rest) ≡ outputs_fault (header_then h []) (wires ++ w ∷ []) e (suc p) rest = rw none refl in
+    let fault_here : outputs_fault (header_then h []) wires e p (Some (named to) ∷ rest)
+    ≡ outputs_fault (header_then h []) (wires ++ w ∷ []) e (suc p) rest = rw none refl in
     at_next h e o (named_targets ts) old new fed_new i p j q next further
     (record {
-      fault = is.fault ∙ ap (λ (xs : List (Option Line)). outputs_fault (header_then h []) wires e p xs) here ∙ fault_here ∙ ap (λ (ws : List Wire). outputs_fault (header_then h []) ws e (suc p) rest) (sym connects.wires);
-      wires_are = ap (λ (ws : List Wire). ws ++ wires_from e (suc p) rest) connects.wires ∙ append_assoc wires (w ∷ []) (wires_from e (suc p) rest) ∙ ap (λ (xs : List (Option Line)). wires ++ wires_from e p xs) (sym here) ∙ is.wires_are;
+      fault = is.fault ∙ ap (λ (xs : List (Option Line)). outputs_fault (header_then h []) wires e p xs) here
+          ∙ fault_here ∙ ap (λ (ws : List Wire). outputs_fault (header_then h []) ws e (suc p) rest)
+          (sym connects.wires);
+      wires_are = ap (λ (ws : List Wire). ws ++ wires_from e (suc p) rest) connects.wires
+          ∙ append_assoc wires (w ∷ []) (wires_from e (suc p) rest)
+          ∙ ap (λ (xs : List (Option Line)). wires ++ wires_from e p xs) (sym here) ∙ is.wires_are;
       marked = connects.marked;
     })
 
@@ -99,27 +125,37 @@ drop_past [] (suc i) h = refl
 drop_past (x ∷ xs) zero h = absurd (omega arith)
 drop_past (x ∷ xs) (suc i) h = drop_past xs i (omega arith)
 
-pub connected_end : (h : Header) (e o : ℕ) (xs : List (Option Line)) (old wires : List Wire) (fed : List Bool) (i p : ℕ) → length xs ≤ i → IsConnected h e o xs old wires fed i p → ConnectsAll h e o xs old wires fed
+pub connected_end : (h : Header) (e o : ℕ) (xs : List (Option Line)) (old wires : List Wire) (fed : List Bool) (i p : ℕ)
+    → length xs ≤ i → IsConnected h e o xs old wires fed i p → ConnectsAll h e o xs old wires fed
 connected_end h e o xs old wires fed i p past is =
     let none = drop_past xs i past in
     record {
       faultless = is.fault ∙ ap (λ (ys : List (Option Line)). outputs_fault (header_then h []) wires e p ys) none;
-      wires = sym (append-nil wires) ∙ ap (λ (ys : List (Option Line)). wires ++ wires_from e p ys) (sym none) ∙ is.wires_are;
+      wires = sym (append-nil wires) ∙ ap (λ (ys : List (Option Line)). wires ++ wires_from e p ys) (sym none)
+          ∙ is.wires_are;
       marked = is.marked;
     }
 
-pub connected_fault : (h : Header) (e o n : ℕ) (ts : List (Option (ℕ × ℕ))) (to : ℕ × ℕ) (old wires : List Wire) (fed : List Bool) (i p : ℕ) (r : NetlistRefusal) → slice_get ts i ≡ Some (Some to) → IsConnected h e o (named_targets ts) old wires fed i p → RefusesBy (wire_fault (header_then h []) wires (record { element = e; line = p }) (named to)) n r → RefusesBy (outputs_fault (header_then h []) old e o (named_targets ts)) n r
+pub connected_fault : (h : Header) (e o n : ℕ) (ts : List (Option (ℕ × ℕ))) (to : ℕ × ℕ) (old wires : List Wire)
+    (fed : List Bool) (i p : ℕ) (r : NetlistRefusal) → slice_get ts i ≡ Some (Some to)
+    → IsConnected h e o (named_targets ts) old wires fed i p → RefusesBy
+    (wire_fault (header_then h []) wires (record { element = e; line = p }) (named to)) n r
+    → RefusesBy (outputs_fault (header_then h []) old e o (named_targets ts)) n r
 connected_fault h e o n ts to old wires fed i p r has is (wants_memory want) = wants_memory want
 connected_fault h e o n ts to old wires fed i p r has is (finds f found named_r) =
     let rest = drop (suc i) (named_targets ts) in
     let here = drop_next (named_targets ts) i (Some (named to)) (target_named ts i (Some to) has) in
     let fault_here : outputs_fault (header_then h []) wires e p (Some (named to) ∷ rest) ≡ Some f = rw found refl in
-    finds f (is.fault ∙ ap (λ (xs : List (Option Line)). outputs_fault (header_then h []) wires e p xs) here ∙ fault_here) named_r
+    finds f (is.fault ∙ ap (λ (xs : List (Option Line)). outputs_fault (header_then h []) wires e p xs) here
+    ∙ fault_here) named_r
 
-pub nameable_at : (ts : List (Option (ℕ × ℕ))) (i : ℕ) (to : ℕ × ℕ) → AreNameable (named_targets ts) → slice_get ts i ≡ Some (Some to) → to.1 < 4
+pub nameable_at : (ts : List (Option (ℕ × ℕ))) (i : ℕ) (to : ℕ × ℕ) → AreNameable (named_targets ts)
+    → slice_get ts i ≡ Some (Some to) → to.1 < 4
 nameable_at [] i to named_all h = absurd (cc)
 nameable_at (None ∷ ts) zero to named_all h = absurd (let same = same_Some None (Some to) h in cc)
-nameable_at (Some l ∷ ts) zero to named_all h = let same = same_Some (Some l) (Some to) h in let one : l ≡ to = same_Some l to same in let low : l.1 < 4 = named_all.0.1 in let second : l.1 ≡ to.1 = ap (λ (p : ℕ × ℕ). p.1) one in omega arith
+nameable_at (Some l ∷ ts) zero to named_all h = let same = same_Some (Some l) (Some to) h in let one : l ≡ to =
+    same_Some l to same in let low : l.1 < 4 = named_all.0.1 in let second : l.1
+    ≡ to.1 = ap (λ (p : ℕ × ℕ). p.1) one in omega arith
 nameable_at (None ∷ ts) (suc i) to named_all h = nameable_at ts i to named_all h
 nameable_at (Some l ∷ ts) (suc i) to named_all h = nameable_at ts i to named_all.1 h
 

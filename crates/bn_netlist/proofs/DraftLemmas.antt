@@ -1,5 +1,6 @@
 -- The wires of a column as they are tested and added.
-use Rattle.std.specs.Prelude.{◌≡◌, ◌≢◌, ℕ, ◌+◌, ◌*◌, ◌<◌, ◌≤◌, ◌||◌, nat_lt, Bool, true, false, List, [], ◌∷◌, ◌++◌, length, take, Option, Some, None, is_some, slice_get, slice_set, refl}
+use Rattle.std.specs.Prelude.{◌≡◌, ◌≢◌, ℕ, ◌+◌, ◌*◌, ◌<◌, ◌≤◌, ◌||◌, nat_lt, Bool, true, false, List, [], ◌∷◌, ◌++◌}
+use Rattle.std.specs.Prelude.{length, take, Option, Some, None, is_some, slice_get, slice_set, refl}
 use Rattle.std.proofs.Common.{zero, suc, arith, sym, ap, subst, ◌∙◌, inl, inr, ◌⊎◌, get_or}
 use Rattle.std.proofs.lemmas.Bool.{cases_Bool}
 use Rattle.std.proofs.lemmas.Bool.Decides.{nat_tests}
@@ -24,7 +25,8 @@ use Rattle.bn_netlist_laws.proofs.SaidLemmas.{inner_each}
 use Rattle.bn_netlist.specs.Drafting.{column_fault, IsInnerOf, ConnectsColumn}
 
 -- one rung more
-pub rungs_next : (b r x : ℕ) (ws ms : List Wire) → x ≡ b + r → ws ≡ rungs b r → ms ≡ (ws ++ wire_of x 2 (x + 1) 0 ∷ []) ++ wire_of (x + 1) 0 x 2 ∷ [] → ms ≡ rungs b (r + 1)
+pub rungs_next : (b r x : ℕ) (ws ms : List Wire) → x ≡ b + r → ws ≡ rungs b r
+    → ms ≡ (ws ++ wire_of x 2 (x + 1) 0 ∷ []) ++ wire_of (x + 1) 0 x 2 ∷ [] → ms ≡ rungs b (r + 1)
 rungs_next b r x ws ms place is more =
     let next : suc r ≡ r + 1 = omega arith in
     more
@@ -34,7 +36,8 @@ rungs_next b r x ws ms place is more =
 
 -- ---- tests over a list
 
-some_at : (test : Wire → Bool) (ws : List Wire) (n : ℕ) (w : Wire) → slice_get ws n ≡ Some w → test w ≡ true → true ≡ some_wire test ws
+some_at : (test : Wire → Bool) (ws : List Wire) (n : ℕ) (w : Wire) → slice_get ws n ≡ Some w → test w ≡ true
+    → true ≡ some_wire test ws
 some_at test [] n w has is = absurd (cc)
 some_at test (v ∷ ws) zero w has is =
     let same : v ≡ w = same_Some v w has in
@@ -46,34 +49,51 @@ some_at test (v ∷ ws) (suc n) w has is =
       | inr other ↦ rw other (some_at test ws n w has is)
     ]
 
-some_wire-append : (test : Wire → Bool) (xs ys : List Wire) → some_wire test (xs ++ ys) ≡ (some_wire test xs || some_wire test ys)
+some_wire-append : (test : Wire → Bool) (xs ys : List Wire) → some_wire test (xs ++ ys)
+    ≡ (some_wire test xs || some_wire test ys)
 some_wire-append test [] ys = refl
-some_wire-append test (x ∷ xs) ys = ap (λ (b : Bool). test x || b) (some_wire-append test xs ys) ∙ sym (or_assoc (test x) (some_wire test xs) (some_wire test ys))
+some_wire-append test (x ∷ xs) ys = ap (λ (b : Bool). test x || b) (some_wire-append test xs ys)
+    ∙ sym (or_assoc (test x) (some_wire test xs) (some_wire test ys))
   where
     or_assoc : (a b c : Bool) → ((a || b) || c) ≡ (a || (b || c))
     or_assoc true b c = refl
     or_assoc false b c = refl
 
-none_more : (test : Wire → Bool) (ws : List Wire) (n : ℕ) (d : Wire) → n < length ws → some_wire test (take n ws) ≡ false → test (get_or ws n d) ≡ false → some_wire test (take (n + 1) ws) ≡ false
+none_more : (test : Wire → Bool) (ws : List Wire) (n : ℕ) (d : Wire) → n < length ws
+    → some_wire test (take n ws) ≡ false → test (get_or ws n d) ≡ false → some_wire test (take (n + 1) ws) ≡ false
 none_more test ws n d below before here =
     let last : some_wire test (get_or ws n d ∷ []) ≡ false = rw here refl in
-    ap (some_wire test) (take_more ws n d below) ∙ some_wire-append test (take n ws) (get_or ws n d ∷ []) ∙ (λ i. before i || last i)
+    ap (some_wire test) (take_more ws n d below) ∙ some_wire-append test (take n ws) (get_or ws n d ∷ [])
+    ∙ (λ i. before i || last i)
 
-mark_of : (count : ℕ) (all : List Wire) (fed : List Bool) (w : Wire) (b : Bool) → IsFed count all fed → (w.to.element < count) × (w.to.line < 4) → slice_get fed (4 * w.to.element + w.to.line) ≡ Some b → is_some (source all w.to) ≡ b
-mark_of count all fed w b is inside has = same_Some (is_some (source all w.to)) b (sym (is.marks w.to inside.0 inside.1) ∙ has)
+mark_of : (count : ℕ) (all : List Wire) (fed : List Bool) (w : Wire) (b : Bool) → IsFed count all fed
+    → (w.to.element < count) × (w.to.line < 4) → slice_get fed (4 * w.to.element + w.to.line) ≡ Some b
+    → is_some (source all w.to) ≡ b
+mark_of count all fed w b is inside has = same_Some (is_some (source all w.to)) b
+    (sym (is.marks w.to inside.0 inside.1) ∙ has)
 
-pub fed_found : (count : ℕ) (all ws : List Wire) (fed : List Bool) (n : ℕ) (d : Wire) → IsFed count all fed → ((m : ℕ) (w : Wire) → slice_get ws m ≡ Some w → (w.to.element < count) × (w.to.line < 4)) → n < length ws → slice_get fed (4 * (get_or ws n d).to.element + (get_or ws n d).to.line) ≡ Some true → true ≡ some_wire (λ w. is_some (source all w.to)) ws
+pub fed_found : (count : ℕ) (all ws : List Wire) (fed : List Bool) (n : ℕ) (d : Wire) → IsFed count all fed
+    → ((m : ℕ) (w : Wire) → slice_get ws m ≡ Some w → (w.to.element < count) × (w.to.line < 4)) → n < length ws
+    → slice_get fed (4 * (get_or ws n d).to.element + (get_or ws n d).to.line) ≡ Some true
+    → true ≡ some_wire (λ w. is_some (source all w.to)) ws
 fed_found count all ws fed n d is inside below has =
     let at_n = slice_get-get_or ws n d below in
-    some_at (λ w. is_some (source all w.to)) ws n (get_or ws n d) at_n (mark_of count all fed (get_or ws n d) true is (inside n (get_or ws n d) at_n) has)
+    some_at (λ w. is_some (source all w.to)) ws n (get_or ws n d) at_n
+    (mark_of count all fed (get_or ws n d) true is (inside n (get_or ws n d) at_n) has)
 
-pub fed_none : (count : ℕ) (all ws : List Wire) (fed : List Bool) (n : ℕ) (d : Wire) → IsFed count all fed → ((m : ℕ) (w : Wire) → slice_get ws m ≡ Some w → (w.to.element < count) × (w.to.line < 4)) → n < length ws → some_wire (λ w. is_some (source all w.to)) (take n ws) ≡ false → slice_get fed (4 * (get_or ws n d).to.element + (get_or ws n d).to.line) ≡ Some false → some_wire (λ w. is_some (source all w.to)) (take (n + 1) ws) ≡ false
+pub fed_none : (count : ℕ) (all ws : List Wire) (fed : List Bool) (n : ℕ) (d : Wire) → IsFed count all fed
+    → ((m : ℕ) (w : Wire) → slice_get ws m ≡ Some w → (w.to.element < count) × (w.to.line < 4)) → n < length ws
+    → some_wire (λ w. is_some (source all w.to)) (take n ws) ≡ false
+    → slice_get fed (4 * (get_or ws n d).to.element + (get_or ws n d).to.line) ≡ Some false
+    → some_wire (λ w. is_some (source all w.to)) (take (n + 1) ws) ≡ false
 fed_none count all ws fed n d is inside below before has =
     let at_n = slice_get-get_or ws n d below in
-    none_more (λ w. is_some (source all w.to)) ws n d below before (mark_of count all fed (get_or ws n d) false is (inside n (get_or ws n d) at_n) has)
+    none_more (λ w. is_some (source all w.to)) ws n d below before
+    (mark_of count all fed (get_or ws n d) false is (inside n (get_or ws n d) at_n) has)
 
 -- a signal that hasn't left has left by no wire's line
-pub none_left : (place : Place) (e l : ℕ) (ws : List Wire) → place ≡ Enter e l → false ≡ some_wire (λ w. is_left_by place w.from) ws
+pub none_left : (place : Place) (e l : ℕ) (ws : List Wire) → place ≡ Enter e l
+    → false ≡ some_wire (λ w. is_left_by place w.from) ws
 none_left place e l ws is = subst (λ (p : Place). false ≡ some_wire (λ w. is_left_by p w.from) ws) (sym is) (none ws)
   where
     none : (vs : List Wire) → false ≡ some_wire (λ w. is_left_by (Enter e l) w.from) vs
@@ -92,20 +112,55 @@ module _ (h : Header) (ws : List Wire) (e k : ℕ) (inner : List Wire) (is : inn
   at_inner : (test : Wire → Bool) (b : Bool) → b ≡ some_wire test inner → some_wire test (inner_wires e k) ≡ b
   at_inner test b h = ap (some_wire test) (sym is) ∙ sym h
 
-  pub fault_end : e + k < h.count → true ≡ some_wire (λ w. same_line h.end w.from) inner → column_fault h ws e k ≡ Some end_wired
+  pub fault_end : e + k < h.count → true ≡ some_wire (λ w. same_line h.end w.from) inner
+      → column_fault h ws e k ≡ Some end_wired
   fault_end within end = rw (inside within, at_inner (λ w. same_line h.end w.from) true end) refl
 
-  pub fault_left : e + k < h.count → false ≡ some_wire (λ w. same_line h.end w.from) inner → true ≡ some_wire (λ w. is_left_by h.place w.from) inner → column_fault h ws e k ≡ Some left_wired
-  fault_left within end left = rw (inside within, at_inner (λ w. same_line h.end w.from) false end, at_inner (λ w. is_left_by h.place w.from) true left) refl
+  pub fault_left : e + k < h.count → false ≡ some_wire (λ w. same_line h.end w.from) inner
+      → true ≡ some_wire (λ w. is_left_by h.place w.from) inner → column_fault h ws e k ≡ Some left_wired
+  fault_left within end left = rw (
+    inside within,
+    at_inner (λ w. same_line h.end w.from) false end,
+    at_inner
+        (λ w. is_left_by h.place w.from) true left,
+  ) refl
 
-  pub fault_start : e + k < h.count → false ≡ some_wire (λ w. same_line h.end w.from) inner → false ≡ some_wire (λ w. is_left_by h.place w.from) inner → true ≡ some_wire (λ w. same_line h.start w.to) inner → column_fault h ws e k ≡ Some start_fed
-  fault_start within end left start = rw (inside within, at_inner (λ w. same_line h.end w.from) false end, at_inner (λ w. is_left_by h.place w.from) false left, at_inner (λ w. same_line h.start w.to) true start) refl
+  pub fault_start : e + k < h.count → false ≡ some_wire (λ w. same_line h.end w.from) inner
+      → false ≡ some_wire (λ w. is_left_by h.place w.from) inner → true ≡ some_wire (λ w. same_line h.start w.to) inner
+      → column_fault h ws e k ≡ Some start_fed
+  fault_start within end left start = rw (
+    inside within,
+    at_inner (λ w. same_line h.end w.from) false end,
+    at_inner
+        (λ w. is_left_by h.place w.from) false left,
+    at_inner (λ w. same_line h.start w.to) true start,
+  ) refl
 
-  pub fault_source : e + k < h.count → false ≡ some_wire (λ w. same_line h.end w.from) inner → false ≡ some_wire (λ w. is_left_by h.place w.from) inner → false ≡ some_wire (λ w. same_line h.start w.to) inner → true ≡ some_wire (λ w. is_some (source ws w.to)) inner → column_fault h ws e k ≡ Some second_source
-  fault_source within end left start fed = rw (inside within, at_inner (λ w. same_line h.end w.from) false end, at_inner (λ w. is_left_by h.place w.from) false left, at_inner (λ w. same_line h.start w.to) false start, at_inner (λ w. is_some (source ws w.to)) true fed) refl
+  pub fault_source : e + k < h.count → false ≡ some_wire (λ w. same_line h.end w.from) inner
+      → false ≡ some_wire (λ w. is_left_by h.place w.from) inner → false ≡ some_wire (λ w. same_line h.start w.to) inner
+      → true ≡ some_wire (λ w. is_some (source ws w.to)) inner → column_fault h ws e k ≡ Some second_source
+  fault_source within end left start fed = rw (
+    inside within,
+    at_inner (λ w. same_line h.end w.from) false end,
+    at_inner
+        (λ w. is_left_by h.place w.from) false left,
+    at_inner (λ w. same_line h.start w.to) false start,
+    at_inner
+        (λ w. is_some (source ws w.to)) true fed,
+  ) refl
 
-  pub fault_none : e + k < h.count → false ≡ some_wire (λ w. same_line h.end w.from) inner → false ≡ some_wire (λ w. is_left_by h.place w.from) inner → false ≡ some_wire (λ w. same_line h.start w.to) inner → false ≡ some_wire (λ w. is_some (source ws w.to)) inner → column_fault h ws e k ≡ None
-  fault_none within end left start fed = rw (inside within, at_inner (λ w. same_line h.end w.from) false end, at_inner (λ w. is_left_by h.place w.from) false left, at_inner (λ w. same_line h.start w.to) false start, at_inner (λ w. is_some (source ws w.to)) false fed) refl
+  pub fault_none : e + k < h.count → false ≡ some_wire (λ w. same_line h.end w.from) inner
+      → false ≡ some_wire (λ w. is_left_by h.place w.from) inner → false ≡ some_wire (λ w. same_line h.start w.to) inner
+      → false ≡ some_wire (λ w. is_some (source ws w.to)) inner → column_fault h ws e k ≡ None
+  fault_none within end left start fed = rw (
+    inside within,
+    at_inner (λ w. same_line h.end w.from) false end,
+    at_inner
+        (λ w. is_left_by h.place w.from) false left,
+    at_inner (λ w. same_line h.start w.to) false start,
+    at_inner
+        (λ w. is_some (source ws w.to)) false fed,
+  ) refl
 
 -- ---- the ends of a column's wires
 
@@ -121,10 +176,12 @@ each_at P [] n w each has = absurd (cc)
 each_at P (v ∷ ws) zero w each has = subst P (same_Some v w has) each.0
 each_at P (v ∷ ws) (suc n) w each has = each_at P ws n w each.1 has
 
-pub inner_there : (count e k : ℕ) (inner : List Wire) → 0 < k → e + k < count → inner ≡ inner_wires e k → (n : ℕ) (w : Wire) → slice_get inner n ≡ Some w → (w.to.element < count) × (w.to.line < 4)
+pub inner_there : (count e k : ℕ) (inner : List Wire) → 0 < k → e + k < count → inner ≡ inner_wires e k
+    → (n : ℕ) (w : Wire) → slice_get inner n ≡ Some w → (w.to.element < count) × (w.to.line < 4)
 inner_there count e k inner some within is n w has =
     let at_inner : slice_get (inner_wires e k) n ≡ Some w = ap (λ (ws : List Wire). slice_get ws n) (sym is) ∙ has in
-    let to = inner_to e k w.from w.to (each_at (λ v. IsInner e k v.from v.to) (inner_wires e k) n w (inner_each e k some) at_inner) in
+    let to = inner_to e k w.from w.to (each_at (λ v. IsInner e k v.from v.to) (inner_wires e k) n w
+    (inner_each e k some) at_inner) in
     let low : w.to.element ≤ e + k = to.0 in
     (omega arith, to.1)
 
@@ -132,40 +189,64 @@ inner_there count e k inner some within is n w has =
 
 source-same : (ws : List Wire) (w : Wire) → is_some (source (ws ++ w ∷ []) w.to) ≡ true
 source-same [] w = elim (line_tells w.to w.to) [ inl same ↦ rw same.0 refl | inr other ↦ absurd (other.1 refl) ]
-source-same (v ∷ ws) w = elim (line_tells v.to w.to) [ inl same ↦ rw same.0 refl | inr other ↦ rw other.0 (source-same ws w) ]
+source-same (v ∷ ws) w = elim (line_tells v.to w.to) [
+  | inl same ↦ rw same.0 refl
+  | inr other
+      ↦ rw other.0 (source-same ws w)
+]
 
 source-other : (ws : List Wire) (w : Wire) (l : Line) → w.to ≢ l → source (ws ++ w ∷ []) l ≡ source ws l
 source-other [] w l apart = let e = other_line w.to l apart in rw e refl
-source-other (v ∷ ws) w l apart = elim (line_tells v.to l) [ inl same ↦ rw same.0 refl | inr other ↦ rw other.0 (source-other ws w l apart) ]
+source-other (v ∷ ws) w l apart = elim (line_tells v.to l) [
+  | inl same ↦ rw same.0 refl
+  | inr other
+      ↦ rw other.0 (source-other ws w l apart)
+]
 
-pub fed_more : (n : ℕ) (ws : List Wire) (w : Wire) (fed : List Bool) → IsFed n ws fed → w.to.element < n → w.to.line < 4 → IsFed n (ws ++ w ∷ []) (slice_set fed (4 * w.to.element + w.to.line) true)
+pub fed_more : (n : ℕ) (ws : List Wire) (w : Wire) (fed : List Bool) → IsFed n ws fed → w.to.element < n → w.to.line < 4
+    → IsFed n (ws ++ w ∷ []) (slice_set fed (4 * w.to.element + w.to.line) true)
 fed_more n ws w fed is there low =
     record {
       size = length-set fed (4 * w.to.element + w.to.line) true ∙ is.size;
       marks = λ l l_there l_low. mark l l_there l_low (line_tells w.to l);
     }
   where
-    mark : (l : Line) → l.element < n → l.line < 4 → ((same_line w.to l ≡ true) × (w.to ≡ l)) ⊎ ((same_line w.to l ≡ false) × (w.to ≢ l)) → slice_get (slice_set fed (4 * w.to.element + w.to.line) true) (4 * l.element + l.line) ≡ Some (is_some (source (ws ++ w ∷ []) l))
+    mark : (l : Line) → l.element < n → l.line < 4 → ((same_line w.to l ≡ true) × (w.to ≡ l))
+        ⊎ ((same_line w.to l ≡ false) × (w.to ≢ l)) → slice_get (slice_set fed (4 * w.to.element + w.to.line) true)
+        (4 * l.element + l.line) ≡ Some (is_some (source (ws ++ w ∷ []) l))
     mark l l_there l_low (inl same) =
         let size : length fed ≡ 4 * n = is.size in
         let set = slice_get-set_same fed (4 * w.to.element + w.to.line) true (omega arith) in
         let fed_now = source-same ws w in
-        let P : Line → Type 0 = λ m. slice_get (slice_set fed (4 * w.to.element + w.to.line) true) (4 * m.element + m.line) ≡ Some (is_some (source (ws ++ w ∷ []) m)) in
+        let P : Line → Type 0 = λ m. slice_get (slice_set fed (4 * w.to.element + w.to.line) true)
+        (4 * m.element + m.line) ≡ Some (is_some (source (ws ++ w ∷ []) m)) in
         subst P same.1 (set ∙ ap (λ (b : Bool). Some b) (sym fed_now))
     mark l l_there l_low (inr other) =
-        let apart : (4 * l.element + l.line) ≢ (4 * w.to.element + w.to.line) = λ e. other.1 (same_lines w.to l (omega arith) (omega arith)) in
-        slice_get-set_other fed (4 * w.to.element + w.to.line) (4 * l.element + l.line) true apart ∙ is.marks l l_there l_low ∙ ap (λ (o : Option Line). Some (is_some o)) (sym (source-other ws w l other.1))
+        let apart : (4 * l.element + l.line) ≢ (4 * w.to.element + w.to.line) =
+        λ e. other.1 (same_lines w.to l (omega arith) (omega arith)) in
+        slice_get-set_other fed (4 * w.to.element + w.to.line) (4 * l.element + l.line) true apart
+        ∙ is.marks l l_there l_low ∙ ap (λ (o : Option Line). Some (is_some o)) (sym (source-other ws w l other.1))
 
-pub connected_more : (h : Header) (e k n : ℕ) (old wires new inner : List Wire) (fed : List Bool) (w d : Wire) → 0 < k → IsInnerOf h old e k inner → n < length inner → w ≡ get_or inner n d → wires ≡ old ++ take n inner → new ≡ wires ++ w ∷ [] → IsFed h.count wires fed → (new ≡ old ++ take (n + 1) inner) × IsFed h.count new (slice_set fed (4 * w.to.element + w.to.line) true)
+pub connected_more : (h : Header) (e k n : ℕ) (old wires new inner : List Wire) (fed : List Bool) (w d : Wire) → 0 < k
+    → IsInnerOf h old e k inner → n < length inner → w ≡ get_or inner n d → wires ≡ old ++ take n inner
+    → new ≡ wires ++ w ∷ [] → IsFed h.count wires fed → (new ≡ old ++ take (n + 1) inner)
+    × IsFed h.count new (slice_set fed (4 * w.to.element + w.to.line) true)
 connected_more h e k n old wires new inner fed w d some is below at_n so_far push marked =
     let has : slice_get inner n ≡ Some w = slice_get-get_or inner n d below ∙ ap (λ (v : Wire). Some v) (sym at_n) in
     let inside = inner_there h.count e k inner some is.within is.are n w has in
     let lists : new ≡ old ++ take (n + 1) inner =
-    push ∙ ap (λ (vs : List Wire). vs ++ w ∷ []) so_far ∙ append_assoc old (take n inner) (w ∷ []) ∙ ap (λ (v : Wire). old ++ (take n inner ++ v ∷ [])) at_n ∙ ap (λ (vs : List Wire). old ++ vs) (sym (take_more inner n d below))
-    in
-    (lists, subst (λ (vs : List Wire). IsFed h.count vs (slice_set fed (4 * w.to.element + w.to.line) true)) (sym push) (fed_more h.count wires w fed marked inside.0 inside.1))
+    push ∙ ap (λ (vs : List Wire). vs ++ w ∷ []) so_far ∙ append_assoc old (take n inner) (w ∷ [])
+    ∙ ap (λ (v : Wire). old ++ (take n inner ++ v ∷ [])) at_n
+    ∙ ap (λ (vs : List Wire). old ++ vs) (sym (take_more inner n d below))
+    in (
+      lists,
+      subst (λ (vs : List Wire). IsFed h.count vs (slice_set fed (4 * w.to.element + w.to.line) true)) (sym push)
+          (fed_more h.count wires w fed marked inside.0 inside.1),
+    )
 
-pub mark_within : (h : Header) (e k n : ℕ) (old wires inner : List Wire) (fed : List Bool) (w d : Wire) → 0 < k → IsInnerOf h old e k inner → n < length inner → w ≡ get_or inner n d → IsFed h.count wires fed → 4 * w.to.element + w.to.line < length fed
+pub mark_within : (h : Header) (e k n : ℕ) (old wires inner : List Wire) (fed : List Bool) (w d : Wire) → 0 < k
+    → IsInnerOf h old e k inner → n < length inner → w ≡ get_or inner n d → IsFed h.count wires fed
+    → 4 * w.to.element + w.to.line < length fed
 mark_within h e k n old wires inner fed w d some is below at_n marked =
     let has : slice_get inner n ≡ Some w = slice_get-get_or inner n d below ∙ ap (λ (v : Wire). Some v) (sym at_n) in
     let inside = inner_there h.count e k inner some is.within is.are n w has in
@@ -174,7 +255,8 @@ mark_within h e k n old wires inner fed w d some is below at_n marked =
     let size : length fed ≡ 4 * h.count = marked.size in
     omega arith
 
-pub connected_all : (h : Header) (e k n : ℕ) (old wires inner : List Wire) (fed : List Bool) → IsInnerOf h old e k inner → length inner ≤ n → wires ≡ old ++ take n inner → IsFed h.count wires fed → ConnectsColumn h e k old wires fed
+pub connected_all : (h : Header) (e k n : ℕ) (old wires inner : List Wire) (fed : List Bool) → IsInnerOf h old e k inner
+    → length inner ≤ n → wires ≡ old ++ take n inner → IsFed h.count wires fed → ConnectsColumn h e k old wires fed
 connected_all h e k n old wires inner fed is past so_far marked =
     record {
       faultless = is.faultless;

@@ -1,5 +1,6 @@
 -- Nets of rotary elements: their circuit is that of their text, and which lines of them are there.
-use Rattle.std.specs.Prelude.{◌≡◌, ℕ, ◌<◌, List, [], ◌∷◌, length, map, replicate, Option, Some, None, IfSome, Result, Ok, Err, OnOk, refl}
+use Rattle.std.specs.Prelude.{◌≡◌, ℕ, ◌<◌, List, [], ◌∷◌, length, map, replicate, Option, Some, None, IfSome, Result}
+use Rattle.std.specs.Prelude.{Ok, Err, OnOk, refl}
 use Rattle.std.proofs.Common.{arith, sym, ap, subst}
 use Rattle.bn_element.specs.Tables.{Table}
 use Rattle.bn_element.specs.Rotary.{rotary}
@@ -16,7 +17,8 @@ map-replicate t (x ∷ xs) = ap (λ (ts : List Table). t ∷ ts) (map-replicate 
 
 -- the circuit of a net of rotary elements is that of its text
 pub circuits-agree : CircuitsAgree
-circuits-agree c = ap (λ (ts : List Table). let k : Circuit = record { tables = ts; wires = c.net.wires } in k) (map-replicate rotary c.net.elements)
+circuits-agree c = ap (λ (ts : List Table). let k : Circuit = record { tables = ts; wires = c.net.wires } in k)
+    (map-replicate rotary c.net.elements)
 
 -- what follows on success
 pub on_ok : {A E P Q : Type 0} (r : Result A E) → (P → Q) → OnOk r P → OnOk r Q
@@ -24,7 +26,8 @@ on_ok (Ok x) f h = f h
 on_ok (Err e) f h = tt
 
 -- each output of an element of a net of rotary elements is there
-pub output_there : {X : Type 0} (xs : List X) (e l : ℕ) → e < length xs → l < 4 → l < outputs_of (map (λ _. rotary) xs) e
+pub output_there : {X : Type 0} (xs : List X) (e l : ℕ) → e < length xs → l < 4
+    → l < outputs_of (map (λ _. rotary) xs) e
 output_there xs e l h k =
     let P : List Table → Type 0 = λ ts. l < outputs_of ts e in
     let four = rotary_outputs (length xs) e h in
@@ -32,16 +35,19 @@ output_there xs e l h k =
     subst P (sym (map-replicate rotary xs)) there
 
 -- a wire of the net leads to one of four inputs of an element that is there
-target_there : {X : Type 0} (net : Parts X) (from to : Line) → IsCircuit (circuit (λ _. rotary) net) → Some to ≡ target net.wires from → (to.element < length net.elements) × (to.line < 4)
+target_there : {X : Type 0} (net : Parts X) (from to : Line) → IsCircuit (circuit (λ _. rotary) net)
+    → Some to ≡ target net.wires from → (to.element < length net.elements) × (to.line < 4)
 target_there net from to c h =
     let there = (c.wired from to (sym h)).1 in
     let P : List Table → Type 0 = λ ts. to.line < inputs_of ts to.element in
     rotary_input (length net.elements) to.element to.line (subst P (map-replicate rotary net.elements) there)
 
-pub end_inside : {X : Type 0} (net : Parts X) (from : Line) (end : Option Line) → IsCircuit (circuit (λ _. rotary) net) → end ≡ target net.wires from → IfSome end (λ to. to.element < length net.elements)
+pub end_inside : {X : Type 0} (net : Parts X) (from : Line) (end : Option Line) → IsCircuit (circuit (λ _. rotary) net)
+    → end ≡ target net.wires from → IfSome end (λ to. to.element < length net.elements)
 end_inside net from None c h = tt
 end_inside net from (Some to) c h = (target_there net from to c h).0
 
-pub end_low : {X : Type 0} (net : Parts X) (from : Line) (end : Option Line) → IsCircuit (circuit (λ _. rotary) net) → end ≡ target net.wires from → IfSome end (λ to. to.line < 4)
+pub end_low : {X : Type 0} (net : Parts X) (from : Line) (end : Option Line) → IsCircuit (circuit (λ _. rotary) net)
+    → end ≡ target net.wires from → IfSome end (λ to. to.line < 4)
 end_low net from None c h = tt
 end_low net from (Some to) c h = (target_there net from to c h).1

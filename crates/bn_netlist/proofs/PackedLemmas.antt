@@ -26,10 +26,15 @@ module _ (h : Header) (wires : List Wire) (states : List ℕ) (net : Parts Rotar
 
   place_in : (p : Place) → IsPlace (circuit_of (spelling_by h wires states)) p → IsPlace (rotary_circuit net) p
   place_in (Enter e i) there = subst (λ (ts : List Table). i < inputs_of ts e) (sym tables) there
-  place_in (Left e o) there = (subst (λ (ts : List Table). o < outputs_of ts e) (sym tables) there.0, is.targets (line_at e o) ∙ there.1)
+  place_in (Left e o) there = (
+    subst (λ (ts : List Table). o < outputs_of ts e) (sym tables) there.0,
+    is.targets
+        (line_at e o) ∙ there.1,
+  )
 
   -- a net of these wires has the configuration of what they spell
-  pub net-IsConfig : IsConfig (circuit_of (spelling_by h wires states)) (spelling_by h wires states).config → IsConfig (rotary_circuit net) (spelling_by h wires states).config
+  pub net-IsConfig : IsConfig (circuit_of (spelling_by h wires states)) (spelling_by h wires states).config
+      → IsConfig (rotary_circuit net) (spelling_by h wires states).config
   net-IsConfig config = record {
     count = config.count ∙ sym (ap length tables);
     range = λ e q has. subst (λ (ts : List Table). q < states_of ts e) (sym tables) (config.range e q has);
@@ -38,12 +43,15 @@ module _ (h : Header) (wires : List Wire) (states : List ℕ) (net : Parts Rotar
   }
 
 -- the packed net is what the wires and the bars spell
-pub packed-AreSame : (h : Header) (wires : List Wire) (states : List ℕ) (c : PackedConfig) → AreApart wires → IsNetOf c.packed.net h.count wires → IsCircuit (rotary_circuit c.packed.net)
-    → c.packed.config ≡ (spelling_by h wires states).config → c.start ≡ h.start → c.end ≡ h.end → AreSame (spelling_by h wires states) (spelling_of_packed c)
+pub packed-AreSame : (h : Header) (wires : List Wire) (states : List ℕ) (c : PackedConfig) → AreApart wires
+    → IsNetOf c.packed.net h.count wires → IsCircuit (rotary_circuit c.packed.net)
+    → c.packed.config ≡ (spelling_by h wires states).config → c.start ≡ h.start → c.end ≡ h.end
+    → AreSame (spelling_by h wires states) (spelling_of_packed c)
 packed-AreSame h wires states c apart is circuit config start end = record {
   elements = sym is.elements;
   targets = λ from. sym (is.targets from);
-  sources = λ to. sources_one wires c.packed.net.wires (apart-IsOneToOne wires apart) circuit.one_to_one (λ from. sym (is.targets from)) to;
+  sources = λ to. sources_one wires c.packed.net.wires (apart-IsOneToOne wires apart) circuit.one_to_one
+      (λ from. sym (is.targets from)) to;
   config = sym config;
   start = sym start;
   end = sym end;

@@ -1,5 +1,6 @@
 -- Lines of a text that are taken one after another.
-use Rattle.std.specs.Prelude.{◌≡◌, ◌≢◌, ℕ, ◌+◌, ◌<◌, ◌≤◌, nat_le, List, [], ◌∷◌, ◌++◌, length, Option, Some, None, if◌then◌else◌, refl}
+use Rattle.std.specs.Prelude.{◌≡◌, ◌≢◌, ℕ, ◌+◌, ◌<◌, ◌≤◌, nat_le, List, [], ◌∷◌, ◌++◌, length, Option, Some, None}
+use Rattle.std.specs.Prelude.{if◌then◌else◌, refl}
 use Rattle.std.proofs.Common.{arith, sym, ap, subst, ◌∙◌, inl, inr}
 use Rattle.std.proofs.lemmas.Bool.{cases_Bool, cases_lt}
 use Rattle.std.proofs.lemmas.Bool.Decides.{nat_tests}
@@ -10,7 +11,8 @@ use Rattle.bn_circuits.specs.declared.line.Line.{Line}
 use Rattle.bn_circuits.specs.declared.place.Place.{Place}
 use Rattle.bn_netlist_laws.specs.Sentences.{Sentence, Title, Count, Start, End, Steps, At, sentence_text, lines_text}
 use Rattle.bn_netlist_laws.specs.Spelling.{header_then, most_elements}
-use Rattle.bn_netlist_laws.specs.Faults.{Fault, too_many, header_lines, count_in, rows_left, fault_of, malformed, IsFirstBadLine, IsNext, AreFaultlessAfter, AreFaultless}
+use Rattle.bn_netlist_laws.specs.Faults.{Fault, too_many, header_lines, count_in, rows_left, fault_of, malformed}
+use Rattle.bn_netlist_laws.specs.Faults.{IsFirstBadLine, IsNext, AreFaultlessAfter, AreFaultless}
 use Rattle.bn_netlist_laws.specs.declared.header.Header.{Header}
 use Rattle.bn_netlist_laws.specs.declared.version.Version.{Version}
 use Rattle.bn_netlist_laws.proofs.LineLemmas.{length_more}
@@ -27,13 +29,22 @@ use Rattle.bn_netlist.specs.declared.line_refusal.NetlistRefusal.{NetlistRefusal
 use Rattle.bn_netlist.specs.declared.line_refusal.NetlistRefusal.TheVariants.{Syntax}
 use Rattle.bn_netlist.proofs.TakenLineLemmas.{refused-lines-refuse, rests-are-malformed, lines-behind-are-malformed}
 
-faultless_more : (earlier xs : List Sentence) (x : Sentence) → AreFaultlessAfter earlier xs → IsNext (earlier ++ xs) x → fault_of (earlier ++ xs) x ≡ None → AreFaultlessAfter earlier (xs ++ x ∷ [])
+faultless_more : (earlier xs : List Sentence) (x : Sentence) → AreFaultlessAfter earlier xs → IsNext (earlier ++ xs) x
+    → fault_of (earlier ++ xs) x ≡ None → AreFaultlessAfter earlier (xs ++ x ∷ [])
 faultless_more earlier [] x f next none =
-    let same : earlier ++ [] ≡ earlier = append-nil earlier in
-    (subst (λ (zs : List Sentence). IsNext zs x) same next, subst (λ (zs : List Sentence). fault_of zs x ≡ None) same none, tt)
+    let same : earlier ++ [] ≡ earlier = append-nil earlier in (
+      subst (λ (zs : List Sentence). IsNext zs x) same next,
+      subst (λ (zs : List Sentence). fault_of zs x ≡ None) same
+          none,
+      tt,
+    )
 faultless_more earlier (y ∷ xs) x f next none =
-    let same : earlier ++ y ∷ xs ≡ (earlier ++ y ∷ []) ++ xs = sym (append_assoc earlier (y ∷ []) xs) in
-    (f.0, f.1, faultless_more (earlier ++ y ∷ []) xs x f.2 (subst (λ (zs : List Sentence). IsNext zs x) same next) (subst (λ (zs : List Sentence). fault_of zs x ≡ None) same none))
+    let same : earlier ++ y ∷ xs ≡ (earlier ++ y ∷ []) ++ xs = sym (append_assoc earlier (y ∷ []) xs) in (
+      f.0,
+      f.1,
+      faultless_more (earlier ++ y ∷ []) xs x f.2 (subst (λ (zs : List Sentence). IsNext zs x) same next)
+          (subst (λ (zs : List Sentence). fault_of zs x ≡ None) same none),
+    )
 
 count_rises : (xs ys : List Sentence) → count_in xs ≤ count_in (xs ++ ys)
 count_rises [] ys = omega arith
@@ -41,7 +52,8 @@ count_rises (Count c ∷ xs) ys = omega arith
 count_rises (x ∷ xs) ys = count_rises xs ys
 
 -- a line more has been taken
-pub taken_more : (s next : Stage) (lines : List Sentence) (line : List ℕ) (x : Sentence) → AreTaken lines s → TakesLine lines line x → Say next (lines ++ x ∷ []) → TakesTo lines line next
+pub taken_more : (s next : Stage) (lines : List Sentence) (line : List ℕ) (x : Sentence) → AreTaken lines s
+    → TakesLine lines line x → Say next (lines ++ x ∷ []) → TakesTo lines line next
 taken_more s next lines line x taken takes say =
     let room : length lines < header_lines + count_in lines = takes.next.room in
     let rises = count_rises lines (x ∷ []) in
@@ -57,11 +69,14 @@ taken_more s next lines line x taken takes say =
     }
 
 -- behind known lines
-pub taken_behind : (s next : Stage) (lines b : List Sentence) (line : List ℕ) (x : Sentence) → lines ≡ b → AreTaken lines s → TakesLine b line x → Say next (b ++ x ∷ []) → TakesTo lines line next
+pub taken_behind : (s next : Stage) (lines b : List Sentence) (line : List ℕ) (x : Sentence) → lines ≡ b
+    → AreTaken lines s → TakesLine b line x → Say next (b ++ x ∷ []) → TakesTo lines line next
 taken_behind s next lines b line x same taken takes say =
-    taken_more s next lines line x taken (subst (λ (zs : List Sentence). TakesLine zs line x) (sym same) takes) (subst (λ (zs : List Sentence). Say next (zs ++ x ∷ [])) (sym same) say)
+    taken_more s next lines line x taken (subst (λ (zs : List Sentence). TakesLine zs line x) (sym same) takes)
+    (subst (λ (zs : List Sentence). Say next (zs ++ x ∷ [])) (sym same) say)
 
-pub refused_behind : (lines b : List Sentence) (line : List ℕ) (r : NetlistRefusal) → lines ≡ b → RefusesLine b line r → RefusesLine lines line r
+pub refused_behind : (lines b : List Sentence) (line : List ℕ) (r : NetlistRefusal) → lines ≡ b → RefusesLine b line r
+    → RefusesLine lines line r
 refused_behind lines b line r same refuses = subst (λ (zs : List Sentence). RefusesLine zs line r) (sym same) refuses
 
 few_counted : (c n : ℕ) (f : Fault) → (if nat_le c n then None else Some f) ≡ None → c ≤ n
@@ -85,7 +100,8 @@ module _ (h : Header) (e : behind.Entries) (lines : List Sentence) (taken : AreT
 
   pub few : h.count ≤ MOST_ELEMENTS
   few =
-      let low : h.count ≤ most_elements h.version = few_counted h.count (most_elements h.version) too_many faultless_then.2.1 in
+      let low : h.count ≤ most_elements h.version = few_counted h.count (most_elements h.version) too_many
+      faultless_then.2.1 in
       let most = most_small h.version in
       omega arith
 
@@ -108,31 +124,45 @@ module _ (h : Header) (e : behind.Entries) (lines : List Sentence) (taken : AreT
   count_is : count_in lines ≡ h.count
   count_is = ap count_in taken.say.are
 
-  pub entry_taken : (new : behind.Entries) (line : List ℕ) → ((rows : List Sentence) → Holds h rows e.lines e.rows e.states.items e.own.items e.ends.wires.items e.ends.fed.items → (x : Sentence) × TakesLine (header_then h rows) line x × Holds h (rows ++ x ∷ []) new.lines new.rows new.states.items new.own.items new.ends.wires.items new.ends.fed.items) → TakesTo lines line (stage.Entries h new)
+  pub entry_taken : (new : behind.Entries) (line : List ℕ) → ((rows : List Sentence)
+      → Holds h rows e.lines e.rows e.states.items e.own.items e.ends.wires.items e.ends.fed.items
+      → (x : Sentence) × TakesLine (header_then h rows) line x × Holds h (rows ++ x ∷ []) new.lines new.rows
+      new.states.items new.own.items new.ends.wires.items new.ends.fed.items) → TakesTo lines line (stage.Entries h new)
   entry_taken new line read =
       let made = read taken.say.rows taken.say.holds in
-      taken_behind (stage.Entries h e) (stage.Entries h new) lines (header_then h taken.say.rows) line made.0 taken.say.are taken made.1
+      taken_behind (stage.Entries h e) (stage.Entries h new) lines (header_then h taken.say.rows) line made.0
+      taken.say.are taken made.1
       (record { rows = taken.say.rows ++ made.0 ∷ []; are = refl; holds = made.2 })
 
-  pub entry_refused : (line : List ℕ) (r : NetlistRefusal) → ((rows : List Sentence) → Holds h rows e.lines e.rows e.states.items e.own.items e.ends.wires.items e.ends.fed.items → RefusesLine (header_then h rows) line r) → RefusesLine lines line r
-  entry_refused line r refused = refused_behind lines (header_then h taken.say.rows) line r taken.say.are (refused taken.say.rows taken.say.holds)
+  pub entry_refused : (line : List ℕ) (r : NetlistRefusal) → ((rows : List Sentence)
+      → Holds h rows e.lines e.rows e.states.items e.own.items e.ends.wires.items e.ends.fed.items
+      → RefusesLine (header_then h rows) line r) → RefusesLine lines line r
+  entry_refused line r refused = refused_behind lines (header_then h taken.say.rows) line r taken.say.are
+      (refused taken.say.rows taken.say.holds)
 
   -- all lines are there
   pub full_refused : (n : ℕ) (line : List ℕ) → n ≡ e.lines → h.count ≤ e.lines → RefusesLine lines line (Syntax (n + 7))
   full_refused n line same full =
       let count = counted in
       let has = count_is in
-      no_form (ap Syntax (numbered n same)) (λ x next _. absurd (let room : length lines < header_lines + count_in lines = next.room in omega arith))
+      no_form (ap Syntax (numbered n same)) (λ x next _. absurd
+      (let room : length lines < header_lines + count_in lines = next.room in omega arith))
 
 pub same_stage : (s t : Stage) (lines : List Sentence) → s ≡ t → AreTaken lines s → AreTaken lines t
 same_stage s t lines same taken = subst (λ (u : Stage). AreTaken lines u) same taken
 
 -- the header is whole
-pub header_whole : (s : Stage) (lines : List Sentence) (line : List ℕ) (v : Version) (c : ℕ) (start end : Line) (t : ℕ) (p : Place) (e : behind.Entries) → s ≡ stage.Place v c start end t → TakesLine (Title v ∷ Count c ∷ Start start ∷ End end ∷ Steps t ∷ []) line (At p) → ((h : Header) → h.count ≡ c → Holds h [] e.lines e.rows e.states.items e.own.items e.ends.wires.items e.ends.fed.items) → AreTaken lines s → TakesTo lines line (stage.Entries (record { version = v; count = c; start = start; end = end; steps = t; place = p }) e)
+pub header_whole : (s : Stage) (lines : List Sentence) (line : List ℕ) (v : Version) (c : ℕ) (start end : Line) (t : ℕ)
+    (p : Place) (e : behind.Entries) → s ≡ stage.Place v c start end t
+    → TakesLine (Title v ∷ Count c ∷ Start start ∷ End end ∷ Steps t ∷ []) line (At p)
+    → ((h : Header) → h.count ≡ c → Holds h [] e.lines e.rows e.states.items e.own.items e.ends.wires.items
+    e.ends.fed.items) → AreTaken lines s → TakesTo lines line (stage.Entries
+    (record { version = v; count = c; start = start; end = end; steps = t; place = p }) e)
 header_whole s lines line v c start end t p e same takes none taken =
     let h : Header = record { version = v; count = c; start = start; end = end; steps = t; place = p } in
     let at = same_stage s (stage.Place v c start end t) lines same taken in
-    taken_behind (stage.Place v c start end t) (stage.Entries h e) lines (Title v ∷ Count c ∷ Start start ∷ End end ∷ Steps t ∷ []) line (At p) at.say at takes
+    taken_behind (stage.Place v c start end t) (stage.Entries h e) lines
+    (Title v ∷ Count c ∷ Start start ∷ End end ∷ Steps t ∷ []) line (At p) at.say at takes
     (record { rows = []; are = refl; holds = none h refl })
 
 -- ---- the end of a text
@@ -140,17 +170,23 @@ header_whole s lines line v c start end t p e same takes none taken =
 pub nothing_in_line : IsInLine []
 nothing_in_line k d l = absurd (let low : k < 0 = l in omega arith)
 
-pub missing : (lines : List Sentence) (n : ℕ) → AreFaultless lines → length lines < header_lines + count_in lines → n ≡ length lines + 1 → IsFirstBadLine (lines_text lines) n malformed
+pub missing : (lines : List Sentence) (n : ℕ) → AreFaultless lines → length lines < header_lines + count_in lines
+    → n ≡ length lines + 1 → IsFirstBadLine (lines_text lines) n malformed
 missing lines n faultless short same =
-    let here : IsFirstBadLine (lines_text lines ++ []) (length lines + 1) malformed = rests-are-malformed lines [] faultless nothing_in_line (λ whole. absurd (omega arith)) in
-    subst (λ (m : ℕ). IsFirstBadLine (lines_text lines) m malformed) (sym same) (subst (λ (t : List ℕ). IsFirstBadLine t (length lines + 1) malformed) (append-nil (lines_text lines)) here)
+    let here : IsFirstBadLine (lines_text lines ++ []) (length lines + 1) malformed =
+    rests-are-malformed lines [] faultless nothing_in_line (λ whole. absurd (omega arith)) in
+    subst (λ (m : ℕ). IsFirstBadLine (lines_text lines) m malformed) (sym same)
+    (subst (λ (t : List ℕ). IsFirstBadLine t (length lines + 1) malformed) (append-nil (lines_text lines)) here)
 
-pub cut_short : (lines : List Sentence) (left : List ℕ) (n : ℕ) → AreFaultless lines → IsInLine left → left ≢ [] → n ≡ length lines + 1 → IsTextRefusal (lines_text lines ++ left) (Syntax n)
+pub cut_short : (lines : List Sentence) (left : List ℕ) (n : ℕ) → AreFaultless lines → IsInLine left → left ≢ []
+    → n ≡ length lines + 1 → IsTextRefusal (lines_text lines ++ left) (Syntax n)
 cut_short lines left n faultless in_line some same =
-    subst (λ (m : ℕ). IsFirstBadLine (lines_text lines ++ left) m malformed) (sym same) (rests-are-malformed lines left faultless in_line (λ _. some))
+    subst (λ (m : ℕ). IsFirstBadLine (lines_text lines ++ left) m malformed) (sym same)
+    (rests-are-malformed lines left faultless in_line (λ _. some))
 
 -- before the header is whole, a line is missing
-pub short_header : (s : Stage) (lines : List Sentence) → ((h : Header) (e : behind.Entries) → s ≢ stage.Entries h e) → AreTaken lines s → length lines < header_lines + count_in lines
+pub short_header : (s : Stage) (lines : List Sentence) → ((h : Header) (e : behind.Entries) → s ≢ stage.Entries h e)
+    → AreTaken lines s → length lines < header_lines + count_in lines
 short_header stage.Title lines other taken = let n = ap length taken.say in omega arith
 short_header (stage.Count v) lines other taken = let n = ap length taken.say in omega arith
 short_header (stage.Start v c) lines other taken = let n = ap length taken.say in omega arith
@@ -159,34 +195,46 @@ short_header (stage.Steps v c s e) lines other taken = let n = ap length taken.s
 short_header (stage.Place v c s e t) lines other taken = let n = ap length taken.say in omega arith
 short_header (stage.Entries h e) lines other taken = absurd (other h e refl)
 
-pub header_missing : (s : Stage) (n : ℕ) (lines : List Sentence) → ((h : Header) (e : behind.Entries) → s ≢ stage.Entries h e) → ((xs : List Sentence) → AreTaken xs s → n ≡ length xs + 1) → AreTaken lines s → IsFirstBadLine (lines_text lines) n malformed
-header_missing s n lines other numbers taken = missing lines n taken.faultless (short_header s lines other taken) (numbers lines taken)
+pub header_missing : (s : Stage) (n : ℕ) (lines : List Sentence)
+    → ((h : Header) (e : behind.Entries) → s ≢ stage.Entries h e)
+    → ((xs : List Sentence) → AreTaken xs s → n ≡ length xs + 1) → AreTaken lines s
+    → IsFirstBadLine (lines_text lines) n malformed
+header_missing s n lines other numbers taken = missing lines n taken.faultless (short_header s lines other taken)
+    (numbers lines taken)
 
-pub entries_missing : (h : Header) (e : behind.Entries) (n : ℕ) (lines : List Sentence) → n ≡ e.lines → e.lines < h.count → AreTaken lines (stage.Entries h e) → IsFirstBadLine (lines_text lines) (n + 7) malformed
+pub entries_missing : (h : Header) (e : behind.Entries) (n : ℕ) (lines : List Sentence) → n ≡ e.lines
+    → e.lines < h.count → AreTaken lines (stage.Entries h e) → IsFirstBadLine (lines_text lines) (n + 7) malformed
 entries_missing h e n lines same short taken =
     let count = counted h e lines taken in
     let has = count_is h e lines taken in
     missing lines (n + 7) taken.faultless (omega arith) (numbered h e lines taken n same)
 
 -- a line that was refused refuses the text
-pub text_refused : (s : Stage) (lines : List Sentence) (line rest : List ℕ) (r : NetlistRefusal) → AreTaken lines s → IsInLine line → RefusesLine lines line r → IsTextRefusal (lines_text lines ++ (line ++ 10 ∷ rest)) r
+pub text_refused : (s : Stage) (lines : List Sentence) (line rest : List ℕ) (r : NetlistRefusal) → AreTaken lines s
+    → IsInLine line → RefusesLine lines line r → IsTextRefusal (lines_text lines ++ (line ++ 10 ∷ rest)) r
 text_refused s lines line rest r taken in_line refuses =
     elim (cases_lt (length lines) (header_lines + count_in lines)) [
       | inl room ↦ refused-lines-refuse lines line rest r taken.faultless in_line room refuses
-      | inr full ↦ behind_all refuses (let most : length lines ≤ header_lines + count_in lines = taken.within in omega (arith, full))
+      | inr full ↦ behind_all refuses (let most : length lines ≤ header_lines
+          + count_in lines = taken.within in omega (arith, full))
     ]
   where
     some_left : (line rest : List ℕ) → line ++ 10 ∷ rest ≢ []
     some_left [] rest e = cc
     some_left (x ∷ line) rest e = cc
 
-    behind_all : RefusesLine lines line r → length lines ≡ header_lines + count_in lines → IsTextRefusal (lines_text lines ++ (line ++ 10 ∷ rest)) r
+    behind_all : RefusesLine lines line r → length lines ≡ header_lines + count_in lines
+        → IsTextRefusal (lines_text lines ++ (line ++ 10 ∷ rest)) r
     behind_all (no_memory is) full = subst (IsTextRefusal (lines_text lines ++ (line ++ 10 ∷ rest))) (sym is) tt
-    behind_all (no_form is unsaid) full = subst (IsTextRefusal (lines_text lines ++ (line ++ 10 ∷ rest))) (sym is) (lines-behind-are-malformed lines (line ++ 10 ∷ rest) taken.faultless full (some_left line rest))
-    behind_all (has_fault x fault next written has is) full = absurd (let room : length lines < header_lines + count_in lines = next.room in omega arith)
+    behind_all (no_form is unsaid) full = subst (IsTextRefusal (lines_text lines ++ (line ++ 10 ∷ rest))) (sym is)
+        (lines-behind-are-malformed lines (line ++ 10 ∷ rest) taken.faultless full (some_left line rest))
+    behind_all (has_fault x fault next written has is) full = absurd
+        (let room : length lines < header_lines + count_in lines = next.room in omega arith)
 
 -- the bytes behind a line that was taken
-pub text_taken : (text : List ℕ) (lines : List Sentence) (line rest : List ℕ) (x : Sentence) → text ≡ lines_text lines ++ (line ++ 10 ∷ rest) → line ≡ sentence_text x → text ≡ lines_text (lines ++ x ∷ []) ++ rest
+pub text_taken : (text : List ℕ) (lines : List Sentence) (line rest : List ℕ) (x : Sentence)
+    → text ≡ lines_text lines ++ (line ++ 10 ∷ rest) → line ≡ sentence_text x
+    → text ≡ lines_text (lines ++ x ∷ []) ++ rest
 text_taken text lines line rest x begins written =
     begins
     ∙ ap (λ (t : List ℕ). lines_text lines ++ (t ++ 10 ∷ rest)) written

@@ -1,6 +1,6 @@
 //! What stands in a line of a text, from left to right.
 
-ghost use Rattle.std.specs.Prelude.{◌≡◌, ◌==◌, None, Some, length, MatchOption, IfNone};
+ghost use Rattle.std.specs.Prelude.{◌≡◌, ◌==◌, None, Some, [], ◌∷◌, length, MatchOption, IfNone};
 ghost use Rattle.bn_netlist_laws.specs.Reading.{Takes, word_taken, number_taken, side_taken, bar_taken, line_taken};
 ghost use Rattle.bn_netlist_laws.specs.Reading.{target_taken, targets_taken};
 
@@ -52,8 +52,26 @@ impl<'a> Cursor<'a> {
         Some(())
     }
 
+    /// Passes over this byte, which is a word of its own. Where it doesn't stand here, nothing is passed over.
+    #[tactic(auto, unfolding(bn_netlist_laws::specs::Reading::word_taken))]
+    #[inline(always)]
+    pub(crate) fn byte(&mut self, byte: u8) -> Option<()>
+        ensures taken { MatchOption result
+            (word_taken (byte ∷ []) self.old ≡ None)
+            (λ _. word_taken (byte ∷ []) self.old ≡ Some self.new) }
+        ensures kept { IfNone result (self.new ≡ self.old) }
+    {
+        let (first, rest) = self.rest.split_first()?;
+        if *first != byte {
+            return None;
+        }
+        self.rest = rest;
+        Some(())
+    }
+
     /// A number in decimal digits, at most 2^62. Where none stands here, nothing is passed over.
     #[tactic(auto, unfolding(bn_netlist_laws::specs::Reading::number_taken))]
+    #[inline(always)]
     pub fn number(&mut self) -> Option<u64>
         ensures taken { Takes result self.new (number_taken self.old) }
         ensures kept { IfNone result (self.new ≡ self.old) }
@@ -67,6 +85,7 @@ impl<'a> Cursor<'a> {
 
     /// The letter of a line of an element.
     #[tactic(auto, unfolding(bn_netlist_laws::specs::Reading::side_taken))]
+    #[inline(always)]
     pub(crate) fn side(&mut self) -> Option<u32>
         ensures { Takes result self.new (side_taken self.old) }
     {
@@ -84,6 +103,7 @@ impl<'a> Cursor<'a> {
 
     /// The letter of a bar.
     #[tactic(auto, unfolding(bn_netlist_laws::specs::Reading::bar_taken))]
+    #[inline(always)]
     pub(crate) fn bar(&mut self) -> Option<u32>
         ensures { Takes result self.new (bar_taken self.old) }
     {
@@ -99,22 +119,24 @@ impl<'a> Cursor<'a> {
 
     /// A line of an element: the element's number and the line's.
     #[tactic(auto, unfolding(bn_netlist_laws::specs::Reading::line_taken))]
+    #[inline(always)]
     pub(crate) fn line(&mut self) -> Option<(u64, u32)>
         ensures { Takes result self.new (line_taken self.old) }
     {
         let element = self.number()?;
-        self.word(b".")?;
+        self.byte(b'.')?;
         let side = self.side()?;
         Some((element, side))
     }
 
     /// Where an output leads: nothing at a dash.
     #[tactic(auto, unfolding(bn_netlist_laws::specs::Reading::target_taken))]
+    #[inline(always)]
     pub(crate) fn target(&mut self) -> Option<Option<(u64, u32)>>
         ensures { Takes result self.new (target_taken self.old) }
     {
-        self.word(b" ")?;
-        if self.word(b"-").is_some() {
+        self.byte(b' ')?;
+        if self.byte(b'-').is_some() {
             return Some(None);
         }
         let line = self.line()?;
@@ -123,6 +145,7 @@ impl<'a> Cursor<'a> {
 
     /// Where the four outputs of an element lead.
     #[tactic(auto, unfolding(bn_netlist_laws::specs::Reading::targets_taken))]
+    #[inline(always)]
     pub(crate) fn targets(&mut self) -> Option<[Option<(u64, u32)>; 4]>
         ensures { Takes result self.new (targets_taken self.old) }
     {

@@ -108,6 +108,7 @@ impl Draft {
     }
 
     // Adds a wire.
+    #[inline]
     fn connect(
         &mut self,
         header: &Header,
@@ -131,6 +132,7 @@ impl Draft {
     }
 
     // The input line to which a wire leads, where the wire has no fault.
+    #[inline]
     fn check(
         &self,
         header: &Header,
@@ -216,6 +218,7 @@ impl Draft {
     }
 
     // Whether a wire ends at this input line.
+    #[inline]
     fn is_fed(&self, to: Line) -> bool
         requires fed { (4 * to.element) + to.line < length self.now.fed.items }
         ensures { slice_get self.now.fed.items (4 * to.element + to.line) ≡ Some result }

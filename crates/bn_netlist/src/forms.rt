@@ -40,9 +40,9 @@ pub fn column_of(line: &[u8]) -> Option<(u64, u64, u32)>
     let mut cursor = Cursor::new(line);
     cursor.word(b"c ")?;
     let element = cursor.number()?;
-    cursor.word(b" ")?;
+    cursor.byte(b' ')?;
     let rows = cursor.number()?;
-    cursor.word(b" ")?;
+    cursor.byte(b' ')?;
     let state = cursor.bar()?;
     if !cursor.is_at_end() {
         return None;
@@ -56,7 +56,7 @@ pub fn sides_of(line: &[u8]) -> Option<(Option<(u64, u32)>, Option<(u64, u32)>)>
     ensures { result ≡ sides_of line.now }
 {
     let mut cursor = Cursor::new(line);
-    cursor.word(b"r")?;
+    cursor.byte(b'r')?;
     let east = cursor.target()?;
     let west = cursor.target()?;
     if !cursor.is_at_end() {
@@ -73,7 +73,7 @@ pub fn element_of(line: &[u8]) -> Option<ElementLine>
     let mut cursor = Cursor::new(line);
     cursor.word(b"e ")?;
     let number = cursor.number()?;
-    cursor.word(b" ")?;
+    cursor.byte(b' ')?;
     let state = cursor.bar()?;
     let targets = cursor.targets()?;
     if !cursor.is_at_end() {

@@ -17,7 +17,7 @@ use bn_base::{Lines, NextLine};
 use std::alloc::Global;
 
 /// The most bytes of a line that are kept: no line of any form is longer.
-const LONGEST_LINE: usize = 128;
+pub const LONGEST_LINE: usize = 128;
 
 /// A configuration text of which a front has come, no line of it with a fault so far.
 #[derive(Drop)]
@@ -57,7 +57,7 @@ impl Front {
         let mut lines = Lines::new(piece);
         loop {
             match lines.next_line() {
-                NextLine::Whole(end) => stage = take_line(alloc, stage, &mut line, end)?,
+                NextLine::Whole(end) => take_line(alloc, &mut stage, &mut line, end)?,
                 NextLine::Cut(begin) => keep(&mut line, begin, stage.next_line())?,
                 NextLine::End => return Ok(Front { stage, line }),
             }
@@ -86,25 +86,25 @@ impl Front {
 // taken where it stands.
 fn take_line(
     alloc: Global,
-    stage: Stage,
+    stage: &mut Stage,
     line: &mut Vec<u8>,
     end: &[u8],
-) -> Result<Stage, NetlistRefusal>
-    requires { HasTaken stage }
-    ensures taken { IfOk result (λ next. (lines : List Sentence) → AreTaken lines stage
-        → TakesTo lines (line.old.items ++ end.now) next) }
+) -> Result<(), NetlistRefusal>
+    requires { HasTaken stage.old }
+    ensures taken { OnOk result ((lines : List Sentence) → AreTaken lines stage.old
+        → TakesTo lines (line.old.items ++ end.now) stage.new) }
     ensures cleared { OnOk result (line.new.items ≡ []) }
-    ensures refused { IfErr result (λ r. (lines : List Sentence) → AreTaken lines stage
+    ensures refused { IfErr result (λ r. (lines : List Sentence) → AreTaken lines stage.old
         → IsInLine (line.old.items ++ end.now) → (rest : List ℕ)
         → IsTextRefusal (lines_text lines ++ ((line.old.items ++ end.now) ++ 10 ∷ rest)) r) }
 {
     if line.is_empty() {
-        return stage.take(alloc, end);
+        return stage.advance(alloc, end);
     }
     keep(line, end, stage.next_line())?;
-    let next = stage.take(alloc, line.as_slice())?;
+    stage.advance(alloc, line.as_slice())?;
     line.clear();
-    Ok(next)
+    Ok(())
 }
 
 // Keeps more bytes of a line, which is the text's next one and has this number. A line that grows

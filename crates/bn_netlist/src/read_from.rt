@@ -2,7 +2,7 @@
 
 ghost use Rattle.std.specs.Prelude.{◌≡◌, ◌≢◌, ◌+◌, ◌-◌, ◌<◌, ◌≤◌, ℕ, List, [], length, take, min, IfOk, IfErr, IsErrOf};
 ghost use Rattle.std.specs.Prelude.{IfSome};
-ghost use Rattle.bn_io.specs.Faults.{Rose};
+ghost use Rattle.bn_io.specs.Faults.{Rose, StaysUnless};
 ghost use Rattle.bn_io.specs.Told.{ReadsWithin};
 ghost use Rattle.bn_netlist_laws.specs.Spelling.{Spelled};
 ghost use Rattle.bn_netlist.specs.NetText.{spelling_of};
@@ -14,18 +14,16 @@ use crate::line_refusal::NetlistRefusal;
 use crate::net_config::NetConfig;
 use crate::pieces::Pieces;
 use crate::refusal::FromRefusal;
-use bn_io::{Input, Source, SourceFailed, piece_size};
+use bn_io::{CHUNK, Input, Source, SourceFailed, piece_size};
 use std::alloc::Global;
-
-/// How many bytes one call asks of a source, at most.
-const CHUNK: usize = 65536;
 
 /// Reads a configuration text of either version from an input, to its end: that of a net with its configuration, or
 /// that of a packed net, of which no net of elements is made beside it. Of a source it keeps only a short part of the
 /// text; an input that lends its bytes is read where it stands. The refusals are tested in this order: `ReadFault`,
-/// only where the input's count of faults rose in this call or stands at its last value; `TooLong`, exactly where the
-/// input gave more than `limit` bytes; `Text`, exactly where the bytes taken have no reading: their first fault. After
-/// a faulty line it goes on taking bytes to the end of input. (This project's own profile.)
+/// only where the input's count of faults rose in this call or stands at its last value, and otherwise the count is
+/// what it was; `TooLong`, exactly where the input gave more than `limit` bytes; `Text`, exactly where the bytes taken
+/// have no reading: their first fault. After a faulty line it goes on taking bytes to the end of input. (This project's
+/// own profile.)
 pub fn read_text<C: FromWires, I: Input>(
     alloc: Global,
     input: &mut I,
@@ -40,6 +38,8 @@ pub fn read_text<C: FromWires, I: Input>(
     ensures later { I.faults input.old ≤ I.faults input.new }
     ensures read_fault { IsErrOf result FromRefusal.ReadFault →
         Rose (I.faults input.old) (I.faults input.new) }
+    ensures stays { StaysUnless (IsErrOf result FromRefusal.ReadFault) (I.faults input.old)
+        (I.faults input.new) }
 {
     let pieces = read_input(alloc, input, limit)?;
     config_of(alloc, pieces)
@@ -60,6 +60,8 @@ pub fn read_config_from<S: Source>(
     ensures later { S.faults source.old ≤ S.faults source.new }
     ensures read_fault { IsErrOf result FromRefusal.ReadFault →
         Rose (S.faults source.old) (S.faults source.new) }
+    ensures stays { StaysUnless (IsErrOf result FromRefusal.ReadFault) (S.faults source.old)
+        (S.faults source.new) }
 {
     read_text(alloc, source, limit)
 }
@@ -90,6 +92,8 @@ fn read_input<I: Input>(alloc: Global, input: &mut I, limit: u64) -> Result<Piec
     ensures later { I.faults input.old ≤ I.faults input.new }
     ensures read_fault { IsErrOf result FromRefusal.ReadFault →
         Rose (I.faults input.old) (I.faults input.new) }
+    ensures stays { StaysUnless (IsErrOf result FromRefusal.ReadFault) (I.faults input.old)
+        (I.faults input.new) }
 {
     let Ok(start) = Pieces::new(alloc) else {
         return Err(FromRefusal::NoMemory);
@@ -129,6 +133,8 @@ fn read_pieces<I: Input>(
     ensures later { I.faults input.old ≤ I.faults input.new }
     ensures read_fault { IsErrOf result FromRefusal.ReadFault →
         Rose (I.faults input.old) (I.faults input.new) }
+    ensures stays { StaysUnless (IsErrOf result FromRefusal.ReadFault) (I.faults input.old)
+        (I.faults input.new) }
 {
     let mut pieces = start;
     let mut taken: u64 = 0;
@@ -159,6 +165,8 @@ fn read_piece<I: Input>(input: &mut I, buffer: &mut [u8], room: u64) -> Result<u
     ensures later { I.faults input.old ≤ I.faults input.new }
     ensures read_fault { IsErrOf result FromRefusal.ReadFault →
         Rose (I.faults input.old) (I.faults input.new) }
+    ensures stays { StaysUnless (IsErrOf result FromRefusal.ReadFault) (I.faults input.old)
+        (I.faults input.new) }
 {
     let asked = piece_size(room, buffer.len());
     let count = match input.take(&mut buffer[..asked]) {

@@ -1,6 +1,6 @@
 //! A configuration text, read line by line.
 
-ghost use Rattle.std.specs.Prelude.{◌≡◌, ◌+◌, ℕ, List, ◌++◌, ◌≢◌, [], length, IfOk, IfErr};
+ghost use Rattle.std.specs.Prelude.{◌≡◌, ◌+◌, ℕ, List, ◌++◌, ◌≢◌, [], length, IfOk, IfErr, OnOk};
 ghost use Rattle.bn_base.specs.Line.{IsInLine};
 ghost use Rattle.bn_netlist_laws.specs.Sentences.{Sentence, lines_text};
 ghost use Rattle.bn_netlist_laws.specs.Spelling.{Spelled};
@@ -15,6 +15,7 @@ use crate::line_refusal::NetlistRefusal;
 use bn_circuits::Line;
 use bn_netlist_laws::{Header, Version};
 use std::alloc::Global;
+use std::mem;
 
 /// How far a configuration text has been read: which line comes next, and what the lines before it
 /// said.
@@ -149,8 +150,39 @@ impl Stage {
                 let entries = Entries::new(alloc, count)?;
                 Ok(Stage::Entries { header, entries })
             }
-            Stage::Entries { header, entries } => take_entry(alloc, header, entries, line),
+            Stage::Entries { header, entries } => {
+                let mut entries = entries;
+                take_entry(alloc, &header, &mut entries, line)?;
+                Ok(Stage::Entries { header, entries })
+            }
         }
+    }
+
+    /// Takes the next line as `take` does, in its place. What a stage is that has refused a line isn't told.
+    pub(crate) fn advance(&mut self, alloc: Global, line: &[u8]) -> Result<(), NetlistRefusal>
+        requires { HasTaken self.old }
+        ensures taken { OnOk result ((lines : List Sentence) → AreTaken lines self.old
+            → TakesTo lines line.now self.new) }
+        ensures refused { IfErr result (λ r. (lines : List Sentence) → AreTaken lines self.old
+            → RefusesLine lines line.now r) }
+    {
+        match self {
+            Stage::Entries { header, entries } => take_entry(alloc, header, entries, line),
+            _ => self.advance_header(alloc, line),
+        }
+    }
+
+    // The same by `take`.
+    fn advance_header(&mut self, alloc: Global, line: &[u8]) -> Result<(), NetlistRefusal>
+        requires { HasTaken self.old }
+        ensures taken { OnOk result ((lines : List Sentence) → AreTaken lines self.old
+            → TakesTo lines line.now self.new) }
+        ensures refused { IfErr result (λ r. (lines : List Sentence) → AreTaken lines self.old
+            → RefusesLine lines line.now r) }
+    {
+        let stage = mem::replace(self, Stage::Title);
+        *self = stage.take(alloc, line)?;
+        Ok(())
     }
 
     /// The number of the line that comes next, from 1.
@@ -187,24 +219,22 @@ impl Stage {
 // Takes a line behind the header.
 fn take_entry(
     alloc: Global,
-    header: Header,
-    entries: Entries,
+    header: &Header,
+    entries: &mut Entries,
     line: &[u8],
-) -> Result<Stage, NetlistRefusal>
-    requires { HasTaken (Stage.Entries header entries) }
-    ensures taken { IfOk result (λ next. (lines : List Sentence) → AreTaken lines (Stage.Entries header entries)
-        → TakesTo lines line.now next) }
-    ensures refused { IfErr result (λ r. (lines : List Sentence) → AreTaken lines (Stage.Entries header entries)
-        → RefusesLine lines line.now r) }
+) -> Result<(), NetlistRefusal>
+    requires { HasTaken (Stage.Entries header.now entries.old) }
+    ensures taken { OnOk result ((lines : List Sentence) → AreTaken lines (Stage.Entries header.now entries.old)
+        → TakesTo lines line.now (Stage.Entries header.now entries.new)) }
+    ensures refused { IfErr result (λ r. (lines : List Sentence)
+        → AreTaken lines (Stage.Entries header.now entries.old) → RefusesLine lines line.now r) }
 {
-    let mut entries = entries;
     if entries.lines >= header.count {
         return Err(NetlistRefusal::Syntax {
             line: u64::from(entries.lines) + 7,
         });
     }
-    entries.take_line(alloc, &header, line)?;
-    Ok(Stage::Entries { header, entries })
+    entries.take_line(alloc, header, line)
 }
 
 // The configuration of a text that ends behind these entries.

@@ -1,17 +1,18 @@
 //! Writing a configuration text.
 
 ghost use Rattle.std.specs.Prelude.{◌≡◌, ◌<◌, ◌≤◌, ◌+◌, ◌^◌, ◌++◌, ◌∷◌, [], ℕ, List, length, IfOk, OnOk, decimal};
-ghost use Rattle.std.specs.Prelude.{codes, Option, MatchOption};
+ghost use Rattle.std.specs.Prelude.{codes, slice_index, Option, MatchOption};
 ghost use Rattle.bn_circuits.specs.Circuits.{target};
 ghost use Rattle.bn_netlist_laws.specs.Sentences.{line_of_place, line_text, place_text, target_text, targets_text};
 ghost use Rattle.bn_netlist_laws.specs.Spelling.{targets_of};
 ghost use Rattle.bn_netlist_laws.specs.Sentences.{Sentence, Element, Column, Row, sentence_text, lines_text};
-ghost use Rattle.bn_netlist_laws.specs.Sentences.{title_text};
+ghost use Rattle.bn_netlist_laws.specs.Sentences.{title_text, side_letters, bar_letters};
 ghost use Rattle.bn_netlist_laws.specs.Spelling.{Admits, IsTextOf, IsWrittenAt, header_then, header_of};
 ghost use Rattle.bn_netlist.specs.Writing.{IsPlaceIn, IsBehindRow, NextLine, Writes};
 
-use crate::column::column_at;
+use crate::column_lines::column_rows;
 use crate::cursor::Place;
+use crate::line_buffer::LineBuffer;
 use crate::spellable::Spellable;
 use crate::write_to::write_config_to;
 use bn_base::push_u64;
@@ -112,7 +113,7 @@ fn rows_written<C: Spellable>(config: &C, element: u32) -> Option<u32>
 {
     match config.version() {
         Version::One => None,
-        Version::Two => column_at(config, element),
+        Version::Two => column_rows(config, element),
     }
 }
 
@@ -128,11 +129,17 @@ fn push_element<C: Spellable>(
     ensures { OnOk result (text.new.items ≡ text.old.items
         ++ (sentence_text (Element element state (targets_of (C.spelling config.now).wires element)) ++ 10 ∷ [])) }
 {
-    push(text, b"e ")?;
-    push_number(text, u64::from(element))?;
-    push(text, if state == HORIZONTAL { b" H" } else { b" V" })?;
-    push_targets(text, config, element)?;
-    push(text, b"\n")
+    let mut line = LineBuffer::new();
+    put_target(&mut line, config, element, WEST);
+    put_target(&mut line, config, element, SOUTH);
+    put_target(&mut line, config, element, EAST);
+    put_target(&mut line, config, element, NORTH);
+    line.put(bar_letter(state));
+    line.put(b' ');
+    line.put_number(u64::from(element));
+    line.put(b' ');
+    line.put(b'e');
+    push(text, line.as_slice())
 }
 
 // The line of a column.
@@ -140,18 +147,15 @@ fn push_column(text: &mut Vec<u8>, first: u32, rows: u32, state: u32) -> Result<
     requires state { state < 2 }
     ensures { OnOk result (text.new.items ≡ text.old.items ++ (sentence_text (Column first rows state) ++ 10 ∷ [])) }
 {
-    push(text, b"c ")?;
-    push_number(text, u64::from(first))?;
-    push(text, b" ")?;
-    push_number(text, u64::from(rows))?;
-    push(
-        text,
-        if state == HORIZONTAL {
-            b" H\n"
-        } else {
-            b" V\n"
-        },
-    )
+    let mut line = LineBuffer::new();
+    line.put(bar_letter(state));
+    line.put(b' ');
+    line.put_number(u64::from(rows));
+    line.put(b' ');
+    line.put_number(u64::from(first));
+    line.put(b' ');
+    line.put(b'c');
+    push(text, line.as_slice())
 }
 
 // The line of a row of a column.
@@ -161,44 +165,56 @@ fn push_row<C: Spellable>(text: &mut Vec<u8>, config: &C, element: u32) -> Resul
         ++ (sentence_text (Row (target (C.spelling config.now).wires (record { element = element; line = 1 }))
         (target (C.spelling config.now).wires (record { element = element; line = 3 }))) ++ 10 ∷ [])) }
 {
-    push(text, b"r")?;
-    push_target(text, config, element, EAST)?;
-    push_target(text, config, element, WEST)?;
-    push(text, b"\n")
+    let mut line = LineBuffer::new();
+    put_target(&mut line, config, element, WEST);
+    put_target(&mut line, config, element, EAST);
+    line.put(b'r');
+    push(text, line.as_slice())
 }
 
-// Where the four outputs of an element lead.
-fn push_targets<C: Spellable>(text: &mut Vec<u8>, config: &C, element: u32) -> Result<(), NoMemory>
-    requires { element < (C.spelling config.now).elements }
-    ensures { OnOk result (text.new.items ≡ text.old.items
-        ++ targets_text (targets_of (C.spelling config.now).wires element)) }
-{
-    push_target(text, config, element, NORTH)?;
-    push_target(text, config, element, EAST)?;
-    push_target(text, config, element, SOUTH)?;
-    push_target(text, config, element, WEST)
-}
-
-// A space, and where one output leads.
-fn push_target<C: Spellable>(
-    text: &mut Vec<u8>,
-    config: &C,
-    element: u32,
-    line: u32,
-) -> Result<(), NoMemory>
+// A space, and where one output leads, before what stands.
+fn put_target<C: Spellable>(line: &mut LineBuffer, config: &C, element: u32, output: u32)
     requires there { element < (C.spelling config.now).elements }
-    requires line { line < 4 }
-    ensures { OnOk result (text.new.items ≡ text.old.items
-        ++ (codes " "
-        ++ target_text (target (C.spelling config.now).wires (record { element = element; line = line })))) }
+    requires output { output < 4 }
+    requires room { length line.old + 23 ≤ 128 }
+    ensures text { line.new ≡ codes " "
+        ++ (target_text (target (C.spelling config.now).wires (record { element = element; line = output }))
+        ++ line.old) }
+    ensures short { length line.new ≤ length line.old + 23 }
 {
-    match config.target(Line { element, line }) {
-        None => push(text, b" -"),
+    match config.target(Line {
+        element,
+        line: output,
+    }) {
+        None => line.put(b'-'),
         Some(to) => {
-            push(text, b" ")?;
-            push_line_of(text, to)
+            line.put(side_letter(to.line));
+            line.put(b'.');
+            line.put_number(u64::from(to.element));
         }
     }
+    line.put(b' ');
+}
+
+// The letter of a line of an element.
+fn side_letter(line: u32) -> u8
+    requires { line < 4 }
+    ensures { result ≡ slice_index side_letters line }
+{
+    match line {
+        NORTH => b'n',
+        EAST => b'e',
+        SOUTH => b's',
+        _ => b'w',
+    }
+}
+
+// The letter of the state of a bar.
+fn bar_letter(state: u32) -> u8
+    requires { state < 2 }
+    ensures { result ≡ slice_index bar_letters state }
+{
+    if state == HORIZONTAL { b'H' } else { b'V' }
 }
 
 // The first line.
@@ -257,15 +273,7 @@ fn push_line_of(text: &mut Vec<u8>, line: Line) -> Result<(), NoMemory>
     ensures { OnOk result (text.new.items ≡ text.old.items ++ line_text line) }
 {
     push_number(text, u64::from(line.element))?;
-    push(
-        text,
-        match line.line {
-            NORTH => b".n",
-            EAST => b".e",
-            SOUTH => b".s",
-            _ => b".w",
-        },
-    )
+    push(text, &[b'.', side_letter(line.line)])
 }
 
 // A number.

@@ -1,7 +1,7 @@
 //! Writing a configuration text to a sink.
 
 ghost use Rattle.std.specs.Prelude.{◌≡◌, ◌≤◌, [], ℕ, List, OnOk, OnErr, IsErrOf};
-ghost use Rattle.bn_io.specs.Faults.{Rose};
+ghost use Rattle.bn_io.specs.Faults.{Rose, StaysUnless};
 ghost use Rattle.bn_io.specs.Told.{Grows, GrowsByFront};
 ghost use Rattle.bn_netlist_laws.specs.Sentences.{lines_text};
 ghost use Rattle.bn_netlist_laws.specs.Spelling.{Admits, IsTextOf, header_then, header_of};
@@ -16,8 +16,8 @@ use std::alloc::Global;
 /// Gives the one text of a configuration that may be spelled in its version to a sink, in pieces of
 /// 4,096 bytes, the last one shorter, and keeps no more of the text than a piece and a line.
 /// `WriteFault` comes only where the sink's count of faults rose in this call or stands at its last
-/// value; then, and where there was no memory, the sink has taken a front of the text. (This
-/// project's own profile.)
+/// value; otherwise the count is what it was. Then, and where there was no memory, the sink has taken
+/// a front of the text. (This project's own profile.)
 pub fn write_config_to<K: Sink, C: Spellable>(
     alloc: Global,
     sink: &mut K,
@@ -31,6 +31,7 @@ pub fn write_config_to<K: Sink, C: Spellable>(
     ensures later { K.faults sink.old ≤ K.faults sink.new }
     ensures write_fault { IsErrOf result ToRefusal.WriteFault →
         Rose (K.faults sink.old) (K.faults sink.new) }
+    ensures stays { StaysUnless (IsErrOf result ToRefusal.WriteFault) (K.faults sink.old) (K.faults sink.new) }
 {
     let mut text = Vec::new(alloc);
     let Ok(()) = push_header(&mut text, config) else {
@@ -55,6 +56,7 @@ fn give_entries<K: Sink, C: Spellable>(
     ensures later { K.faults sink.old ≤ K.faults sink.new }
     ensures write_fault { IsErrOf result ToRefusal.WriteFault →
         Rose (K.faults sink.old) (K.faults sink.new) }
+    ensures stays { StaysUnless (IsErrOf result ToRefusal.WriteFault) (K.faults sink.old) (K.faults sink.new) }
 {
     let mut place = Place {
         element: 0,

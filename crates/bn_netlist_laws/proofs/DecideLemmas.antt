@@ -1,5 +1,7 @@
 -- Each text spells a configuration or has a first fault: it is read line by line.
-use Rattle.std.specs.Prelude.{◌≡◌, ◌≢◌, ℕ, ◌+◌, ◌-◌, ◌<◌, ◌≤◌, min, nat_lt, nat_le, ◌==◌, Bool, true, false, List, [], ◌∷◌, ◌++◌, length, slice_get, Option, Some, None, is_some, option_map, if◌then◌else◌, codes, decimal, slice_index, refl}
+use Rattle.std.specs.Prelude.{◌≡◌, ◌≢◌, ℕ, ◌+◌, ◌-◌, ◌<◌, ◌≤◌, min, nat_lt, nat_le, ◌==◌, Bool, true, false, List, []}
+use Rattle.std.specs.Prelude.{◌∷◌, ◌++◌, length, slice_get, Option, Some, None, is_some, option_map, if◌then◌else◌}
+use Rattle.std.specs.Prelude.{codes, decimal, slice_index, refl}
 use Rattle.std.proofs.Common.{zero, suc, arith, sym, ap, subst, ◌∙◌, inl, inr, ◌⊎◌}
 use Rattle.std.proofs.lemmas.Bool.{cases_lt, cases_eq}
 use Rattle.std.proofs.lemmas.Bool.Decides.{eqb_tells}
@@ -18,15 +20,27 @@ use Rattle.bn_element.specs.Rotary.{east}
 use Rattle.bn_netlist_laws.specs.Sentences.{AreNameable, target_text, targets_text, bar_letters}
 use Rattle.bn_netlist_laws.specs.Spelling.{Spelling}
 use Rattle.bn_netlist_laws.specs.Faults.{element_at}
-use Rattle.bn_netlist_laws.specs.Reading.{word_taken, number_taken, bar_taken, target_taken, ended, number_after, named_after, element_of, named, named_target}
-use Rattle.bn_netlist_laws.proofs.LineReadingLemmas.{word_taken-takes, number_taken-takes, bar_taken-takes, target_taken-takes, nameable_both}
+use Rattle.bn_netlist_laws.specs.Reading.{word_taken, number_taken, bar_taken, target_taken, ended, number_after}
+use Rattle.bn_netlist_laws.specs.Reading.{named_after, element_of, named, named_target}
+use Rattle.bn_netlist_laws.proofs.LineReadingLemmas.{word_taken-takes, number_taken-takes, bar_taken-takes}
+use Rattle.bn_netlist_laws.proofs.LineReadingLemmas.{target_taken-takes, nameable_both}
 use Rattle.bn_netlist_laws.proofs.FormLemmas.{ended-takes, number_after-takes, named_after-takes, element_of-takes}
 use Rattle.bn_netlist_laws.specs.Columns.{HasColumnAt, rotary_elements, inner_wires}
-use Rattle.bn_netlist_laws.specs.Sentences.{Sentence, Title, Count, Start, End, Steps, At, Element, Column, title_text, IsSayable, sentence_text, lines_text}
+use Rattle.bn_netlist_laws.specs.Sentences.{Sentence, Title, Count, Start, End, Steps, At, Element, Column, title_text}
+use Rattle.bn_netlist_laws.specs.Sentences.{IsSayable, sentence_text, lines_text}
 use Rattle.bn_netlist_laws.specs.Sentences as sentences
 use Rattle.bn_netlist_laws.specs.Spelling.{Spelled, most_elements}
-use Rattle.bn_netlist_laws.specs.Faults.{Fault, malformed, too_many, no_element, out_of_order, end_wired, left_wired, start_fed, second_source, spelled_out, header_lines, version_in, count_in, is_end_in, is_left_in, is_start_in, wires_in, bars_in, row_targets, next_number, row_number, wire_fault, or_else, outputs_fault, some_wire, inner_fault, fault_of, kind_of, kind_after, IsOfVersion, IsNext, AreFaultlessAfter, AreFaultless, IsFaulty, BeginsWithFault, IsFirstBadLine, AreWhole, IsSpelledOut, IsFirstSpelledOut, IsFirstFault, TextsSpellOrFault, rows_left}
-use Rattle.bn_netlist_laws.specs.Saying.{column_of, sides_of, first_some, version_said, title_said, count_said, start_said, end_said, steps_said, place_said_by, place_said, element_sentence, element_said, column_said_by, column_said, entry_said, row_said, said}
+use Rattle.bn_netlist_laws.specs.Faults.{Fault, malformed, too_many, no_element, out_of_order, end_wired, left_wired}
+use Rattle.bn_netlist_laws.specs.Faults.{start_fed, second_source, spelled_out, header_lines, version_in, count_in}
+use Rattle.bn_netlist_laws.specs.Faults.{is_end_in, is_left_in, is_start_in, wires_in, bars_in, row_targets}
+use Rattle.bn_netlist_laws.specs.Faults.{next_number, row_number, wire_fault, or_else, outputs_fault, some_wire}
+use Rattle.bn_netlist_laws.specs.Faults.{inner_fault, fault_of, kind_of, kind_after, IsOfVersion, IsNext}
+use Rattle.bn_netlist_laws.specs.Faults.{AreFaultlessAfter, AreFaultless, IsFaulty, BeginsWithFault, IsFirstBadLine}
+use Rattle.bn_netlist_laws.specs.Faults.{AreWhole, IsSpelledOut, IsFirstSpelledOut, IsFirstFault, TextsSpellOrFault}
+use Rattle.bn_netlist_laws.specs.Faults.{rows_left}
+use Rattle.bn_netlist_laws.specs.Saying.{column_of, sides_of, first_some, version_said, title_said, count_said}
+use Rattle.bn_netlist_laws.specs.Saying.{start_said, end_said, steps_said, place_said_by, place_said, element_sentence}
+use Rattle.bn_netlist_laws.specs.Saying.{element_said, column_said_by, column_said, entry_said, row_said, said}
 use Rattle.bn_netlist_laws.specs.declared.element_line.ElementLine.{ElementLine}
 use Rattle.bn_netlist_laws.specs.declared.version.Version.{Version}
 use Rattle.bn_netlist_laws.specs.declared.version.Version.TheVariants.{One, Two}
@@ -47,7 +61,8 @@ pub record Says (v : Version) (k : ℕ) (line : List ℕ) (x : Sentence) : Type 
 none_said : (x : Sentence) → ◌≡◌ {A = Option Sentence} None (Some x) → ⊥
 none_said x e = cc
 
-mapped : {A : Type 0} (f : A → Sentence) (o : Option A) (x : Sentence) → option_map f o ≡ Some x → (a : A) × (o ≡ Some a) × (f a ≡ x)
+mapped : {A : Type 0} (f : A → Sentence) (o : Option A) (x : Sentence) → option_map f o ≡ Some x
+    → (a : A) × (o ≡ Some a) × (f a ≡ x)
 mapped f None x h = absurd (none_said x h)
 mapped f (Some a) x h = (a, refl, same_Some (f a) x h)
 
@@ -70,7 +85,8 @@ any_version Two x h = two_says x
     two_says : (x : Sentence) → IsOfVersion Two x
     two_says x = tt
 
-version_ends : (w : Version) (behind : List ℕ) (x : Sentence) → ended (Title w, behind) ≡ Some x → (Title w ≡ x) × (behind ≡ [])
+version_ends : (w : Version) (behind : List ℕ) (x : Sentence) → ended (Title w, behind) ≡ Some x
+    → (Title w ≡ x) × (behind ≡ [])
 version_ends w [] x h = (same_Some (Title w) x h, refl)
 version_ends w (b ∷ behind) x h =
     elim (eqb_tells (length (b ∷ behind)) 0) [
@@ -82,8 +98,14 @@ version_takes : (v w : Version) (line : List ℕ) (x : Sentence) → version_sai
 version_takes v w line x h =
     option_and_then_some _ (word_taken (title_text w) line) x h (λ behind b_is h1.
     let last = version_ends w behind x h1 in
-    let whole : line ≡ title_text w = word_taken-takes (title_text w) line behind b_is ∙ ap (λ r. title_text w ++ r) last.1 ∙ append-nil (title_text w) in
-    subst (Says v 0 line) last.0 (record { sayable = tt; kind = refl; version = any_version v (Title w) (omega arith); written = whole }))
+    let whole : line ≡ title_text w = word_taken-takes (title_text w) line behind b_is
+    ∙ ap (λ r. title_text w ++ r) last.1 ∙ append-nil (title_text w) in
+    subst (Says v 0 line) last.0 (record {
+      sayable = tt;
+      kind = refl;
+      version = any_version v (Title w) (omega arith);
+      written = whole;
+    }))
 
 title_takes : (v : Version) (line : List ℕ) (x : Sentence) → title_said line ≡ Some x → Says v 0 line x
 title_takes v line x h =
@@ -104,39 +126,76 @@ count_takes v line x h =
       | inl none ↦ absurd (none_said x (rw none.0 at h1))
       | inr some ↦
           (let same : Count n ≡ x = same_Some (Count n) x (rw some.0 at h1) in
-          subst (Says v 1 line) same (record { sayable = (above n some.1, taken.0); kind = refl; version = any_version v (Count n) (omega arith); written = taken.1 }))
+          subst (Says v 1 line) same (record {
+            sayable = (above n some.1, taken.0);
+            kind = refl;
+            version = any_version v
+                (Count n) (omega arith);
+            written = taken.1;
+          }))
     ])
 
 start_takes : (v : Version) (line : List ℕ) (x : Sentence) → start_said line ≡ Some x → Says v 2 line x
 start_takes v line x h =
     let from = mapped (λ l. Start (named l)) (named_after (codes "start ") line) x h in
     let taken = named_after-takes (codes "start ") line from.0 from.1 in
-    subst (Says v 2 line) from.2 (record { sayable = taken.0; kind = refl; version = any_version v (Start (named from.0)) (omega arith); written = taken.1 })
+    subst (Says v 2 line) from.2 (record {
+      sayable = taken.0;
+      kind = refl;
+      version = any_version v
+          (Start (named from.0)) (omega arith);
+      written = taken.1;
+    })
 
 end_takes : (v : Version) (line : List ℕ) (x : Sentence) → end_said line ≡ Some x → Says v 3 line x
 end_takes v line x h =
     let from = mapped (λ l. End (named l)) (named_after (codes "end ") line) x h in
     let taken = named_after-takes (codes "end ") line from.0 from.1 in
-    subst (Says v 3 line) from.2 (record { sayable = taken.0; kind = refl; version = any_version v (End (named from.0)) (omega arith); written = taken.1 })
+    subst (Says v 3 line) from.2 (record {
+      sayable = taken.0;
+      kind = refl;
+      version = any_version v (End (named from.0))
+          (omega arith);
+      written = taken.1;
+    })
 
 steps_takes : (v : Version) (line : List ℕ) (x : Sentence) → steps_said line ≡ Some x → Says v 4 line x
 steps_takes v line x h =
     let from = mapped Steps (number_after (codes "steps ") line) x h in
     let taken = number_after-takes (codes "steps ") line from.0 from.1 in
-    subst (Says v 4 line) from.2 (record { sayable = taken.0; kind = refl; version = any_version v (Steps from.0) (omega arith); written = taken.1 })
+    subst (Says v 4 line) from.2 (record {
+      sayable = taken.0;
+      kind = refl;
+      version = any_version v (Steps from.0)
+          (omega arith);
+      written = taken.1;
+    })
 
 place_takes : (v : Version) (line : List ℕ) (x : Sentence) → place_said line ≡ Some x → Says v 5 line x
 place_takes v line x h = by_enter (named_after (codes "at ") line) refl h
   where
-    by_enter : (o : Option (ℕ × ℕ)) → named_after (codes "at ") line ≡ o → place_said_by o (named_after (codes "left ") line) ≡ Some x → Says v 5 line x
+    by_enter : (o : Option (ℕ × ℕ)) → named_after (codes "at ") line ≡ o
+        → place_said_by o (named_after (codes "left ") line) ≡ Some x → Says v 5 line x
     by_enter (Some l) is h =
         let taken = named_after-takes (codes "at ") line l is in
         let same : At (Enter l.0 l.1) ≡ x = same_Some (At (Enter l.0 l.1)) x h in
-        subst (Says v 5 line) same (record { sayable = taken.0; kind = refl; version = any_version v (At (Enter l.0 l.1)) (omega arith); written = taken.1 })
+        subst (Says v 5 line) same (record {
+          sayable = taken.0;
+          kind = refl;
+          version = any_version v
+              (At (Enter l.0 l.1)) (omega arith);
+          written = taken.1;
+        })
     by_enter None is h =
         let from = mapped (λ l. At (Left l.0 l.1)) (named_after (codes "left ") line) x h in
         let taken = named_after-takes (codes "left ") line from.0 from.1 in
-        subst (Says v 5 line) from.2 (record { sayable = taken.0; kind = refl; version = any_version v (At (Left from.0.0 from.0.1)) (omega arith); written = taken.1 })
+        subst (Says v 5 line) from.2 (record {
+          sayable = taken.0;
+          kind = refl;
+          version = any_version v
+              (At (Left from.0.0 from.0.1)) (omega arith);
+          written = taken.1;
+        })
 
 element_version : (v : Version) (n q : ℕ) (xs : List (Option Line)) → IsOfVersion v (Element n q xs)
 element_version One n q xs = tt
@@ -150,13 +209,20 @@ element_takes : (v : Version) (line : List ℕ) (x : Sentence) → element_said 
 element_takes v line x h =
     let from = mapped_element (element_of line) x h in
     let taken = element_of-takes line from.0 from.1 in
-    subst (Says v 6 line) from.2 (record { sayable = taken.0; kind = refl; version = element_version v _ _ _; written = taken.1 })
+    subst (Says v 6 line) from.2 (record {
+      sayable = taken.0;
+      kind = refl;
+      version = element_version v _ _ _;
+      written = taken.1;
+    })
   where
-    mapped_element : (o : Option ElementLine) (x : Sentence) → option_map element_sentence o ≡ Some x → (t : ElementLine) × (o ≡ Some t) × (element_sentence t ≡ x)
+    mapped_element : (o : Option ElementLine) (x : Sentence) → option_map element_sentence o ≡ Some x
+        → (t : ElementLine) × (o ≡ Some t) × (element_sentence t ≡ x)
     mapped_element None x h = absurd (none_said x h)
     mapped_element (Some t) x h = (t, refl, same_Some (element_sentence t) x h)
 
-pub column_of-takes : (line : List ℕ) (c : ℕ × ℕ × ℕ) → column_of line ≡ Some c → (c.0 ≤ greatest) × (c.1 ≤ greatest) × (c.2 < 2) × (line ≡ sentence_text (Column c.0 c.1 c.2))
+pub column_of-takes : (line : List ℕ) (c : ℕ × ℕ × ℕ) → column_of line ≡ Some c
+    → (c.0 ≤ greatest) × (c.1 ≤ greatest) × (c.2 < 2) × (line ≡ sentence_text (Column c.0 c.1 c.2))
 unfolding column_of
 column_of-takes line c h =
     option_and_then_some _ (word_taken (codes "c ") line) c h (λ first f_is h1.
@@ -174,9 +240,12 @@ column_of-takes line c h =
     let b = bar_taken-takes third bar.1 bar.0 b_is in
     let last = ended-takes (made, bar.1) c h6 in
     let whole : line ≡ sentence_text (Column element.0 rows.0 bar.0) =
-    word ∙ ap (λ t. codes "c " ++ t) (e.1 ∙ ap (λ t. decimal element.0 ++ t) (space ∙ ap (λ t. codes " " ++ t) (r.1 ∙ ap (λ t. decimal rows.0 ++ t) (other ∙ ap (λ t. codes " " ++ t) (b.1 ∙ ap (λ t. slice_index bar_letters bar.0 ∷ t) last.1)))))
+    word ∙ ap (λ t. codes "c " ++ t) (e.1 ∙ ap (λ t. decimal element.0 ++ t)
+    (space ∙ ap (λ t. codes " " ++ t) (r.1 ∙ ap (λ t. decimal rows.0 ++ t)
+    (other ∙ ap (λ t. codes " " ++ t) (b.1 ∙ ap (λ t. slice_index bar_letters bar.0 ∷ t) last.1)))))
     in
-    let P : ℕ × ℕ × ℕ → Type 0 = λ d. (d.0 ≤ greatest) × (d.1 ≤ greatest) × (d.2 < 2) × (line ≡ sentence_text (Column d.0 d.1 d.2)) in
+    let P : ℕ × ℕ × ℕ → Type 0 = λ d. (d.0 ≤ greatest) × (d.1 ≤ greatest) × (d.2 < 2)
+    × (line ≡ sentence_text (Column d.0 d.1 d.2)) in
     subst P last.0 (e.0, r.0, b.0, whole)))))))
 
 column_takes : (line : List ℕ) (x : Sentence) → column_said line ≡ Some x → Says Two 6 line x
@@ -187,7 +256,12 @@ column_takes line x h =
       | inl none ↦ absurd (none_said x (rw none.0 at h1))
       | inr some ↦
           (let same : Column c.0 c.1 c.2 ≡ x = same_Some (Column c.0 c.1 c.2) x (rw some.0 at h1) in
-          subst (Says Two 6 line) same (record { sayable = (taken.0, above c.1 some.1, taken.1, taken.2); kind = refl; version = tt; written = taken.3 }))
+          subst (Says Two 6 line) same (record {
+            sayable = (taken.0, above c.1 some.1, taken.1, taken.2);
+            kind = refl;
+            version = tt;
+            written = taken.3;
+          }))
     ])
 
 entry_takes : (v : Version) (line : List ℕ) (x : Sentence) → entry_said v line ≡ Some x → Says v 6 line x
@@ -198,7 +272,9 @@ entry_takes Two line x h =
       | inr column ↦ column_takes line x column
     ]
 
-pub sides_of-takes : (line : List ℕ) (p : Option (ℕ × ℕ) × Option (ℕ × ℕ)) → sides_of line ≡ Some p → AreNameable (named_target p.0 ∷ named_target p.1 ∷ []) × (line ≡ sentence_text (sentences.Row (named_target p.0) (named_target p.1)))
+pub sides_of-takes : (line : List ℕ) (p : Option (ℕ × ℕ) × Option (ℕ × ℕ)) → sides_of line ≡ Some p
+    → AreNameable (named_target p.0 ∷ named_target p.1 ∷ []) × (line
+    ≡ sentence_text (sentences.Row (named_target p.0) (named_target p.1)))
 unfolding sides_of
 sides_of-takes line p h =
     option_and_then_some _ (word_taken (codes "r") line) p h (λ first f_is h1.
@@ -209,18 +285,28 @@ sides_of-takes line p h =
     let one = target_taken-takes first x.1 x.0 x_is in
     let two = target_taken-takes x.1 y.1 y.0 y_is in
     let last = ended-takes (made, y.1) p h3 in
-    let regroup : codes " " ++ (target_text (named_target x.0) ++ (codes " " ++ (target_text (named_target y.0) ++ []))) ≡ targets_text (named_target x.0 ∷ named_target y.0 ∷ []) = refl in
+    let regroup : codes " " ++ (target_text (named_target x.0) ++ (codes " " ++ (target_text (named_target y.0) ++ [])))
+    ≡ targets_text (named_target x.0 ∷ named_target y.0 ∷ []) = refl in
     let whole : line ≡ sentence_text (sentences.Row (named_target x.0) (named_target y.0)) =
-    word ∙ ap (λ t. codes "r" ++ t) (one.1 ∙ ap (λ t. codes " " ++ (target_text (named_target x.0) ++ t)) (two.1 ∙ ap (λ t. codes " " ++ (target_text (named_target y.0) ++ t)) last.1) ∙ regroup)
+    word ∙ ap (λ t. codes "r" ++ t) (one.1 ∙ ap (λ t. codes " " ++ (target_text (named_target x.0) ++ t))
+    (two.1 ∙ ap (λ t. codes " " ++ (target_text (named_target y.0) ++ t)) last.1) ∙ regroup)
     in
-    let P : Option (ℕ × ℕ) × Option (ℕ × ℕ) → Type 0 = λ d. AreNameable (named_target d.0 ∷ named_target d.1 ∷ []) × (line ≡ sentence_text (sentences.Row (named_target d.0) (named_target d.1))) in
+    let P : Option (ℕ × ℕ) × Option (ℕ × ℕ) → Type 0 = λ d. AreNameable (named_target d.0 ∷ named_target d.1 ∷ [])
+    × (line ≡ sentence_text (sentences.Row (named_target d.0) (named_target d.1))) in
     subst P last.0 (nameable_both (named_target x.0) (named_target y.0 ∷ []) one.0 two.0, whole))))
 
 row_takes : (v : Version) (line : List ℕ) (x : Sentence) → row_said line ≡ Some x → Says v 7 line x
 row_takes v line x h =
-    let from = mapped (λ (p : Option (ℕ × ℕ) × Option (ℕ × ℕ)). sentences.Row (named_target p.0) (named_target p.1)) (sides_of line) x h in
+    let from = mapped (λ (p : Option (ℕ × ℕ) × Option (ℕ × ℕ)). sentences.Row (named_target p.0) (named_target p.1))
+    (sides_of line) x h in
     let taken = sides_of-takes line from.0 from.1 in
-    subst (Says v 7 line) from.2 (record { sayable = taken.0; kind = refl; version = row_version v (named_target from.0.0) (named_target from.0.1); written = taken.1 })
+    subst (Says v 7 line) from.2 (record {
+      sayable = taken.0;
+      kind = refl;
+      version = row_version v
+          (named_target from.0.0) (named_target from.0.1);
+      written = taken.1;
+    })
 
 pub said-takes : (v : Version) (k : ℕ) (line : List ℕ) (x : Sentence) → k ≤ 7 → said v k line ≡ Some x → Says v k line x
 said-takes v zero line x small h = title_takes v line x h
@@ -267,15 +353,18 @@ or_of_line : (a b : Option Fault) → IsOfLine a → IsOfLine b → IsOfLine (or
 or_of_line None b h k = k
 or_of_line (Some f) b h k = h
 
-outputs_of_line : (before : List Sentence) (ws : List Wire) (e o : ℕ) (xs : List (Option Line)) → IsOfLine (outputs_fault before ws e o xs)
+outputs_of_line : (before : List Sentence) (ws : List Wire) (e o : ℕ) (xs : List (Option Line))
+    → IsOfLine (outputs_fault before ws e o xs)
 outputs_of_line before ws e o [] = tt
 outputs_of_line before ws e o (None ∷ xs) = outputs_of_line before ws e (suc o) xs
 outputs_of_line before ws e o (Some to ∷ xs) =
     let from : Line = record { element = e; line = o } in
     let w : Wire = record { from = from; to = to } in
-    or_of_line (wire_fault before ws from to) (outputs_fault before (ws ++ w ∷ []) e (suc o) xs) (wire_of_line before ws from to) (outputs_of_line before (ws ++ w ∷ []) e (suc o) xs)
+    or_of_line (wire_fault before ws from to) (outputs_fault before (ws ++ w ∷ []) e (suc o) xs)
+    (wire_of_line before ws from to) (outputs_of_line before (ws ++ w ∷ []) e (suc o) xs)
 
-inner_of_line : (before : List Sentence) (ws : List Wire) (bottom : ℕ) (inner : List Wire) → IsOfLine (inner_fault before ws bottom inner)
+inner_of_line : (before : List Sentence) (ws : List Wire) (bottom : ℕ) (inner : List Wire)
+    → IsOfLine (inner_fault before ws bottom inner)
 inner_of_line before ws bottom inner =
     if_of_line (nat_lt bottom (count_in before)) _ _
     (if_of_line (some_wire (λ w. is_end_in before w.from) inner) _ _ refl
@@ -291,15 +380,19 @@ fault_of_line before (Start l) = if_of_line (nat_lt l.element (count_in before))
 fault_of_line before (End l) = if_of_line (nat_lt l.element (count_in before)) _ _ tt refl
 fault_of_line before (Steps t) = tt
 fault_of_line before (At p) = if_of_line (nat_lt (element_at p) (count_in before)) _ _ tt refl
-fault_of_line before (Element n q xs) = if_of_line (n == next_number (length before)) _ _ (outputs_of_line before (wires_in before) n 0 xs) refl
-fault_of_line before (Column e k q) = if_of_line (e == next_number (length before)) _ _ (inner_of_line before (wires_in before) (e + k) (inner_wires e k)) refl
-fault_of_line before (sentences.Row x y) = outputs_of_line before (wires_in before) (row_number (length before)) east (row_targets x y)
+fault_of_line before (Element n q xs) = if_of_line (n == next_number (length before)) _ _
+    (outputs_of_line before (wires_in before) n 0 xs) refl
+fault_of_line before (Column e k q) = if_of_line (e == next_number (length before)) _ _
+    (inner_of_line before (wires_in before) (e + k) (inner_wires e k)) refl
+fault_of_line before (sentences.Row x y) = outputs_of_line before (wires_in before) (row_number (length before)) east
+    (row_targets x y)
 
 false_is_not_true : false ≡ true → ⊥
 false_is_not_true e = cc
 
 -- the fault of a line is none of those of other places
-pub is_line_fault : (before : List Sentence) (x : Sentence) (fault : Fault) → fault_of before x ≡ Some fault → (fault ≢ malformed) × (fault ≢ spelled_out)
+pub is_line_fault : (before : List Sentence) (x : Sentence) (fault : Fault) → fault_of before x ≡ Some fault
+    → (fault ≢ malformed) × (fault ≢ spelled_out)
 is_line_fault before x fault has =
     let of_line : is_of_line fault ≡ true = subst IsOfLine has (fault_of_line before x) in
     (λ e. false_is_not_true (sym (ap is_of_line e) ∙ of_line), λ e. false_is_not_true (sym (ap is_of_line e) ∙ of_line))
@@ -311,15 +404,23 @@ data Begins (before : List Sentence) (left : List ℕ) (f : Fault) : Type 0 wher
 apart_malformed : malformed ≢ spelled_out
 apart_malformed e = cc
 
-faulty-begins : (before : List Sentence) (left : List ℕ) (f : Fault) → is_of_line f ≡ true → IsFaulty before left f → Begins before left f
+faulty-begins : (before : List Sentence) (left : List ℕ) (f : Fault) → is_of_line f ≡ true → IsFaulty before left f
+    → Begins before left f
 faulty-begins before left malformed of_line is = absurd (false_is_not_true of_line)
-faulty-begins before left too_many of_line is = begins_with (λ e. let same = ap is_of_line e in false_is_not_true (sym same)) is
-faulty-begins before left no_element of_line is = begins_with (λ e. let same = ap is_of_line e in false_is_not_true (sym same)) is
-faulty-begins before left out_of_order of_line is = begins_with (λ e. let same = ap is_of_line e in false_is_not_true (sym same)) is
-faulty-begins before left end_wired of_line is = begins_with (λ e. let same = ap is_of_line e in false_is_not_true (sym same)) is
-faulty-begins before left left_wired of_line is = begins_with (λ e. let same = ap is_of_line e in false_is_not_true (sym same)) is
-faulty-begins before left start_fed of_line is = begins_with (λ e. let same = ap is_of_line e in false_is_not_true (sym same)) is
-faulty-begins before left second_source of_line is = begins_with (λ e. let same = ap is_of_line e in false_is_not_true (sym same)) is
+faulty-begins before left too_many of_line is = begins_with (λ e. let same = ap is_of_line e in false_is_not_true
+    (sym same)) is
+faulty-begins before left no_element of_line is = begins_with
+    (λ e. let same = ap is_of_line e in false_is_not_true (sym same)) is
+faulty-begins before left out_of_order of_line is = begins_with
+    (λ e. let same = ap is_of_line e in false_is_not_true (sym same)) is
+faulty-begins before left end_wired of_line is = begins_with
+    (λ e. let same = ap is_of_line e in false_is_not_true (sym same)) is
+faulty-begins before left left_wired of_line is = begins_with
+    (λ e. let same = ap is_of_line e in false_is_not_true (sym same)) is
+faulty-begins before left start_fed of_line is = begins_with
+    (λ e. let same = ap is_of_line e in false_is_not_true (sym same)) is
+faulty-begins before left second_source of_line is = begins_with
+    (λ e. let same = ap is_of_line e in false_is_not_true (sym same)) is
 faulty-begins before left spelled_out of_line is = absurd (false_is_not_true of_line)
 
 -- ---- the next line
@@ -338,40 +439,62 @@ cuts (b ∷ left) =
     ]
   where
     more : b ≢ 10 → Cuts left → Cuts (b ∷ left)
-    more other (has_line line behind in_line is) = has_line (b ∷ line) behind (All-cons (λ byte. byte ≢ 10) b line other in_line) (ap (λ (bytes : List ℕ). b ∷ bytes) is)
+    more other (has_line line behind in_line is) = has_line (b ∷ line) behind
+        (All-cons (λ byte. byte ≢ 10) b line other in_line) (ap (λ (bytes : List ℕ). b ∷ bytes) is)
     more other (no_line in_line) = no_line (All-cons (λ byte. byte ≢ 10) b left other in_line)
 
 -- what comes next after these lines: a line without a fault, or one with a fault
 data Goes (before : List Sentence) (left : List ℕ) : Type 0 where
-  reads : (x : Sentence) (behind : List ℕ) → IsNext before x → fault_of before x ≡ None → left ≡ sentence_text x ++ 10 ∷ behind → Goes before left
+  reads : (x : Sentence) (behind : List ℕ) → IsNext before x → fault_of before x ≡ None
+      → left ≡ sentence_text x ++ 10 ∷ behind → Goes before left
   fails : (f : Fault) → Begins before left f → Goes before left
 
 goes : (before : List Sentence) (left : List ℕ) → length before < header_lines + count_in before → Goes before left
 goes before left room = by_cut (cuts left)
   where
-    by_fault : (x : Sentence) (behind : List ℕ) → IsNext before x → left ≡ sentence_text x ++ 10 ∷ behind → (o : Option Fault) → fault_of before x ≡ o → Goes before left
+    by_fault : (x : Sentence) (behind : List ℕ) → IsNext before x → left ≡ sentence_text x ++ 10 ∷ behind
+        → (o : Option Fault) → fault_of before x ≡ o → Goes before left
     by_fault x behind next begins None is = reads x behind next is begins
     by_fault x behind next begins (Some f) is =
-        fails f (faulty-begins before left f (subst IsOfLine is (fault_of_line before x)) (record { says = x; behind = behind; begins = begins; next = next; has = is }))
+        fails f (faulty-begins before left f (subst IsOfLine is (fault_of_line before x))
+        (record { says = x; behind = behind; begins = begins; next = next; has = is }))
 
-    by_said : (line behind : List ℕ) → IsInLine line → left ≡ line ++ 10 ∷ behind → (o : Option Sentence) → said (version_in before) (kind_after before) line ≡ o → Goes before left
+    by_said : (line behind : List ℕ) → IsInLine line → left ≡ line ++ 10 ∷ behind → (o : Option Sentence)
+        → said (version_in before) (kind_after before) line ≡ o → Goes before left
     by_said line behind in_line begins None is =
-        fails malformed (begins_with apart_malformed (record { unsaid = unsaid; unfinished = λ whole. absurd (omega arith) }))
+        fails malformed (begins_with apart_malformed (record {
+          unsaid = unsaid;
+          unfinished = λ whole. absurd
+              (omega arith);
+        }))
       where
         unsaid : (x : Sentence) (rest : List ℕ) → IsNext before x → left ≢ sentence_text x ++ 10 ∷ rest
         unsaid x rest next e =
-            let both = lines-agree line (sentence_text x) behind rest in_line (sentence_text-in_line x next.sayable) (sym begins ∙ e) in
-            let again : said (version_in before) (kind_after before) line ≡ Some x = (λ i. said (version_in before) (sym next.kind i) (both.0 i)) ∙ said-again (version_in before) x next.sayable next.version in
+            let both = lines-agree line (sentence_text x) behind rest in_line (sentence_text-in_line x next.sayable)
+            (sym begins ∙ e) in
+            let again : said (version_in before) (kind_after before) line ≡ Some x =
+            (λ i. said (version_in before) (sym next.kind i) (both.0 i))
+            ∙ said-again (version_in before) x next.sayable next.version in
             none_said x (sym is ∙ again)
     by_said line behind in_line begins (Some x) is =
         let says = said-takes (version_in before) (kind_after before) line x (omega arith) is in
-        let next : IsNext before x = record { sayable = says.sayable; kind = says.kind; version = says.version; room = room } in
+        let next : IsNext before x = record {
+          sayable = says.sayable;
+          kind = says.kind;
+          version = says.version;
+          room = room;
+        } in
         by_fault x behind next (begins ∙ ap (λ (b : List ℕ). b ++ 10 ∷ behind) says.written) (fault_of before x) refl
 
     by_cut : Cuts left → Goes before left
-    by_cut (has_line line behind in_line is) = by_said line behind in_line is (said (version_in before) (kind_after before) line) refl
+    by_cut (has_line line behind in_line is) = by_said line behind in_line is
+        (said (version_in before) (kind_after before) line) refl
     by_cut (no_line in_line) =
-        fails malformed (begins_with apart_malformed (record { unsaid = λ x behind next. cut-lines-differ left (sentence_text x) behind in_line; unfinished = λ whole. absurd (omega arith) }))
+        fails malformed (begins_with apart_malformed (record {
+          unsaid = λ x behind next. cut-lines-differ left
+              (sentence_text x) behind in_line;
+          unfinished = λ whole. absurd (omega arith);
+        }))
 
 -- ---- all lines
 
@@ -380,18 +503,30 @@ record HasRead (text : List ℕ) (before : List Sentence) (left : List ℕ) : Ty
   faultless : AreFaultless before
   begins : text ≡ lines_text before ++ left
 
-faultless_more : (earlier xs : List Sentence) (x : Sentence) → AreFaultlessAfter earlier xs → IsNext (earlier ++ xs) x → fault_of (earlier ++ xs) x ≡ None → AreFaultlessAfter earlier (xs ++ x ∷ [])
+faultless_more : (earlier xs : List Sentence) (x : Sentence) → AreFaultlessAfter earlier xs → IsNext (earlier ++ xs) x
+    → fault_of (earlier ++ xs) x ≡ None → AreFaultlessAfter earlier (xs ++ x ∷ [])
 faultless_more earlier [] x f next none =
-    let same : earlier ++ [] ≡ earlier = append-nil earlier in
-    (subst (λ (zs : List Sentence). IsNext zs x) same next, subst (λ (zs : List Sentence). fault_of zs x ≡ None) same none, tt)
+    let same : earlier ++ [] ≡ earlier = append-nil earlier in (
+      subst (λ (zs : List Sentence). IsNext zs x) same next,
+      subst (λ (zs : List Sentence). fault_of zs x ≡ None) same
+          none,
+      tt,
+    )
 faultless_more earlier (y ∷ xs) x f next none =
-    let same : earlier ++ y ∷ xs ≡ (earlier ++ y ∷ []) ++ xs = sym (append_assoc earlier (y ∷ []) xs) in
-    (f.0, f.1, faultless_more (earlier ++ y ∷ []) xs x f.2 (subst (λ (zs : List Sentence). IsNext zs x) same next) (subst (λ (zs : List Sentence). fault_of zs x ≡ None) same none))
+    let same : earlier ++ y ∷ xs ≡ (earlier ++ y ∷ []) ++ xs = sym (append_assoc earlier (y ∷ []) xs) in (
+      f.0,
+      f.1,
+      faultless_more (earlier ++ y ∷ []) xs x f.2 (subst (λ (zs : List Sentence). IsNext zs x) same next)
+          (subst (λ (zs : List Sentence). fault_of zs x ≡ None) same none),
+    )
 
-text_more : (text : List ℕ) (xs : List Sentence) (x : Sentence) (left behind : List ℕ) → text ≡ lines_text xs ++ left → left ≡ sentence_text x ++ 10 ∷ behind → text ≡ lines_text (xs ++ x ∷ []) ++ behind
+text_more : (text : List ℕ) (xs : List Sentence) (x : Sentence) (left behind : List ℕ) → text ≡ lines_text xs ++ left
+    → left ≡ sentence_text x ++ 10 ∷ behind → text ≡ lines_text (xs ++ x ∷ []) ++ behind
 text_more text xs x left behind h k =
-    let one : lines_text (x ∷ []) ++ behind ≡ sentence_text x ++ 10 ∷ behind = append_assoc (sentence_text x) (10 ∷ []) behind in
-    h ∙ ap (λ t. lines_text xs ++ t) (k ∙ sym one) ∙ sym (append_assoc (lines_text xs) (lines_text (x ∷ [])) behind) ∙ ap (λ t. t ++ behind) (sym (lines_text-append xs (x ∷ [])))
+    let one : lines_text (x ∷ []) ++ behind ≡ sentence_text x ++ 10 ∷ behind =
+    append_assoc (sentence_text x) (10 ∷ []) behind in
+    h ∙ ap (λ t. lines_text xs ++ t) (k ∙ sym one) ∙ sym (append_assoc (lines_text xs) (lines_text (x ∷ [])) behind)
+    ∙ ap (λ t. t ++ behind) (sym (lines_text-append xs (x ∷ [])))
 
 count_in-more : (before : List Sentence) (x : Sentence) → count_in before ≤ count_in (before ++ x ∷ [])
 count_in-more [] x = omega arith
@@ -407,9 +542,11 @@ count_in-more (sentences.Row y z ∷ xs) x = count_in-more xs x
 
 -- a text spells a configuration or has a first fault
 abbrev Outcome : List ℕ → Type 0
-Outcome text = ((v : Version) × (s : Spelling) × Spelled v s text) ⊎ ((line : ℕ) × (fault : Fault) × IsFirstFault text line fault)
+Outcome text = ((v : Version) × (s : Spelling) × Spelled v s text)
+    ⊎ ((line : ℕ) × (fault : Fault) × IsFirstFault text line fault)
 
-bad_line_first : (text : List ℕ) (line : ℕ) (f : Fault) → f ≢ spelled_out → IsFirstBadLine text line f → IsFirstFault text line f
+bad_line_first : (text : List ℕ) (line : ℕ) (f : Fault) → f ≢ spelled_out → IsFirstBadLine text line f
+    → IsFirstFault text line f
 bad_line_first text line malformed apart is = is
 bad_line_first text line too_many apart is = is
 bad_line_first text line no_element apart is = is
@@ -420,9 +557,22 @@ bad_line_first text line start_fed apart is = is
 bad_line_first text line second_source apart is = is
 bad_line_first text line spelled_out apart is = absurd (apart refl)
 
-failed : (text : List ℕ) (before : List Sentence) (left : List ℕ) (f : Fault) → HasRead text before left → Begins before left f → Outcome text
+failed : (text : List ℕ) (before : List Sentence) (left : List ℕ) (f : Fault) → HasRead text before left
+    → Begins before left f → Outcome text
 failed text before left f has (begins_with apart here) =
-    inr (length before + 1, f, bad_line_first text (length before + 1) f apart (record { before = before; left = left; counted = refl; begins = has.begins; faultless = has.faultless; here = here }))
+    inr (
+      length before + 1,
+      f,
+      bad_line_first text (length before + 1) f apart
+          (record {
+            before = before;
+            left = left;
+            counted = refl;
+            begins = has.begins;
+            faultless = has.faultless;
+            here = here;
+          }),
+    )
 
 -- ---- a column that is spelled out, or none
 
@@ -446,9 +596,11 @@ is_element x = false
 none_element : (e q : ℕ) (ts : List (Option Line)) → ◌≡◌ {A = Option Sentence} None (Some (Element e q ts)) → ⊥
 none_element e q ts h = cc
 
-other_element : (x : Sentence) → is_element x ≡ false → (e q : ℕ) (ts : List (Option Line)) → ◌≡◌ {A = Option Sentence} (Some x) (Some (Element e q ts)) → ⊥
+other_element : (x : Sentence) → is_element x ≡ false → (e q : ℕ) (ts : List (Option Line))
+    → ◌≡◌ {A = Option Sentence} (Some x) (Some (Element e q ts)) → ⊥
 unfolding is_element
-other_element x not e q ts h = let same = ap is_element (same_Some x (Element e q ts) h) in false_is_not_true (sym not ∙ same)
+other_element x not e q ts h = let same = ap is_element (same_Some x (Element e q ts) h) in false_is_not_true
+    (sym not ∙ same)
 
 line_of_or_not : (e : ℕ) (o : Option Sentence) → IsLineOf e o
 unfolding element_number is_element
@@ -474,7 +626,8 @@ spelled_out_or_not lines e =
       | inl second ↦ by_line second (line_of_or_not e (slice_get lines (header_lines + e)))
     ]
   where
-    by_line : version_in lines ≡ Two → IsLineOf e (slice_get lines (header_lines + e)) → IsSpelledOut lines e ⊎ (IsSpelledOut lines e → ⊥)
+    by_line : version_in lines ≡ Two → IsLineOf e (slice_get lines (header_lines + e))
+        → IsSpelledOut lines e ⊎ (IsSpelledOut lines e → ⊥)
     by_line second (not_line_of not) = inr (λ out. not out.state out.targets out.has_line)
     by_line second (line_of q ts has) =
         elim (column_or_none (count_in lines) (wires_in lines) (bars_in lines) e) [
@@ -483,11 +636,13 @@ spelled_out_or_not lines e =
         ]
 
 -- a least one below a number, or none
-least_below : (P : ℕ → Type 0) → ((n : ℕ) → P n ⊎ (P n → ⊥)) → (bound : ℕ) → ((m : ℕ) × IsLeast P m) ⊎ ((m : ℕ) → m < bound → P m → ⊥)
+least_below : (P : ℕ → Type 0) → ((n : ℕ) → P n ⊎ (P n → ⊥)) → (bound : ℕ)
+    → ((m : ℕ) × IsLeast P m) ⊎ ((m : ℕ) → m < bound → P m → ⊥)
 least_below P decides zero = inr (λ m h _. absurd (omega arith))
 least_below P decides (suc bound) = by_rest (least_below P decides bound) (decides bound)
   where
-    by_rest : ((m : ℕ) × IsLeast P m) ⊎ ((m : ℕ) → m < bound → P m → ⊥) → P bound ⊎ (P bound → ⊥) → ((m : ℕ) × IsLeast P m) ⊎ ((m : ℕ) → m < suc bound → P m → ⊥)
+    by_rest : ((m : ℕ) × IsLeast P m) ⊎ ((m : ℕ) → m < bound → P m → ⊥) → P bound ⊎ (P bound → ⊥)
+        → ((m : ℕ) × IsLeast P m) ⊎ ((m : ℕ) → m < suc bound → P m → ⊥)
     by_rest (inl found) last = inl found
     by_rest (inr none) (inl here) = inl (bound, record { holds = here; least = none })
     by_rest (inr none) (inr lacks) = inr (λ m h holds. (elim (cases_lt m bound) [
@@ -495,8 +650,10 @@ least_below P decides (suc bound) = by_rest (least_below P decides bound) (decid
       | inr high ↦ (let same : m ≡ bound = omega arith in lacks (subst P same holds))
     ]))
 
-complete : (text : List ℕ) (before : List Sentence) (left : List ℕ) → HasRead text before left → length before ≡ header_lines + count_in before → Outcome text
-complete text before [] has whole = by_out (least_below (IsSpelledOut before) (spelled_out_or_not before) (length before))
+complete : (text : List ℕ) (before : List Sentence) (left : List ℕ) → HasRead text before left
+    → length before ≡ header_lines + count_in before → Outcome text
+complete text before [] has whole = by_out (least_below (IsSpelledOut before) (spelled_out_or_not before)
+    (length before))
   where
     are : AreWhole before
     are = record { faultless = has.faultless; complete = whole }
@@ -504,13 +661,22 @@ complete text before [] has whole = by_out (least_below (IsSpelledOut before) (s
     begins : text ≡ lines_text before
     begins = has.begins ∙ append-nil (lines_text before)
 
-    by_out : ((m : ℕ) × IsLeast (IsSpelledOut before) m) ⊎ ((m : ℕ) → m < length before → IsSpelledOut before m → ⊥) → Outcome text
-    by_out (inl (m, first)) = inr (header_lines + m + 1, spelled_out, record { lines = before; begins = begins; whole = are; element = m; first = first; counted = refl })
-    by_out (inr none) = inl (whole-spells text before are begins (λ e out. none e (let within = slice_get_within before (header_lines + e) (Element e out.state out.targets) out.has_line in omega arith) out))
+    by_out : ((m : ℕ) × IsLeast (IsSpelledOut before) m) ⊎ ((m : ℕ) → m < length before → IsSpelledOut before m → ⊥)
+        → Outcome text
+    by_out (inl (m, first)) = inr (
+      header_lines + m + 1,
+      spelled_out,
+      record
+          { lines = before; begins = begins; whole = are; element = m; first = first; counted = refl },
+    )
+    by_out (inr none) = inl (whole-spells text before are begins
+        (λ e out. none e (let within = slice_get_within before (header_lines + e) (Element e out.state out.targets)
+        out.has_line in omega arith) out))
 complete text before (b ∷ left) has whole =
     failed text before (b ∷ left) malformed has (begins_with apart_malformed
     (record {
-      unsaid = λ x rest next. absurd (let room : length before < header_lines + count_in before = next.room in omega arith);
+      unsaid = λ x rest next. absurd (let room : length before < header_lines
+          + count_in before = next.room in omega arith);
       unfinished = λ _. some;
     }))
   where
@@ -518,22 +684,31 @@ complete text before (b ∷ left) has whole =
     some e = cc
 
 -- with fewer bytes left than this
-decide : (fuel : ℕ) (text : List ℕ) (before : List Sentence) (left : List ℕ) → length left < fuel → HasRead text before left → length before ≤ header_lines + count_in before → Outcome text
+decide : (fuel : ℕ) (text : List ℕ) (before : List Sentence) (left : List ℕ) → length left < fuel
+    → HasRead text before left → length before ≤ header_lines + count_in before → Outcome text
 decide zero text before left short has bound = absurd (omega arith)
 decide (suc fuel) text before left short has bound =
     elim (cases_eq (length before) (header_lines + count_in before)) [
       | inl whole ↦ complete text before left has whole
-      | inr room ↦ step (λ more behind shorter read below. decide fuel text more behind shorter read below) (omega (arith, room)) (goes before left (omega (arith, room)))
+      | inr room ↦ step (λ more behind shorter read below. decide fuel text more behind shorter read below)
+          (omega (arith, room)) (goes before left (omega (arith, room)))
     ]
   where
-    step : ((more : List Sentence) (behind : List ℕ) → length behind < fuel → HasRead text more behind → length more ≤ header_lines + count_in more → Outcome text) → length before < header_lines + count_in before → Goes before left → Outcome text
+    step : ((more : List Sentence) (behind : List ℕ) → length behind < fuel → HasRead text more behind
+        → length more ≤ header_lines + count_in more → Outcome text) → length before < header_lines + count_in before
+        → Goes before left → Outcome text
     step again room (fails f here) = failed text before left f has here
     step again room (reads x behind next none begins) =
         let lengths : length left ≡ length (sentence_text x ++ 10 ∷ behind) = ap length begins in
         let shorter : length behind < fuel = omega (arith, lengths, length-append (sentence_text x) (10 ∷ behind)) in
         let counted = count_in-more before x in
         let more = length-append before (x ∷ []) in
-        again (before ++ x ∷ []) behind shorter (record { faultless = faultless_more [] before x has.faultless next none; begins = text_more text before x left behind has.begins begins }) (omega arith)
+        again (before ++ x ∷ []) behind shorter (record {
+          faultless = faultless_more [] before x has.faultless next
+              none;
+          begins = text_more text before x left behind has.begins begins;
+        }) (omega arith)
 
 pub texts-spell-or-fault : TextsSpellOrFault
-texts-spell-or-fault text = decide (suc (length text)) text [] text (omega arith) (record { faultless = tt; begins = refl }) (omega arith)
+texts-spell-or-fault text = decide (suc (length text)) text [] text (omega arith)
+    (record { faultless = tt; begins = refl }) (omega arith)

@@ -1,5 +1,6 @@
 -- What lines say together: their wires and the rows that are left.
-use Rattle.std.specs.Prelude.{◌≡◌, ◌≢◌, ℕ, ◌+◌, ◌-◌, ◌<◌, ◌≤◌, Bool, true, false, List, [], ◌∷◌, ◌++◌, length, drop, replicate, Option, Some, None, slice_get, refl}
+use Rattle.std.specs.Prelude.{◌≡◌, ◌≢◌, ℕ, ◌+◌, ◌-◌, ◌<◌, ◌≤◌, Bool, true, false, List, [], ◌∷◌, ◌++◌, length, drop}
+use Rattle.std.specs.Prelude.{replicate, Option, Some, None, slice_get, refl}
 use Rattle.std.proofs.Common.{zero, suc, arith, sym, ap, subst, ◌∙◌, inl, inr, ◌⊎◌}
 use Rattle.std.proofs.lemmas.List.{append_assoc, append-nil}
 use Rattle.std.proofs.lemmas.Option.{same_Some}
@@ -14,16 +15,20 @@ use Rattle.bn_netlist_laws.proofs.WireLemmas.{Each, each_append, each_weaker}
 use Rattle.bn_netlist_laws.specs.Sentences.{Sentence}
 use Rattle.bn_netlist_laws.specs.Faults.{rows_after, rows_left, line_wires, wires_after, row_targets}
 
-pub wires_after-append : (i : ℕ) (xs ys : List Sentence) → wires_after i (xs ++ ys) ≡ wires_after i xs ++ wires_after (i + length xs) ys
+pub wires_after-append : (i : ℕ) (xs ys : List Sentence) → wires_after i (xs ++ ys)
+    ≡ wires_after i xs ++ wires_after (i + length xs) ys
 wires_after-append i [] ys = let same : i ≡ i + 0 = omega arith in ap (λ (n : ℕ). wires_after n ys) same
 wires_after-append i (x ∷ xs) ys =
     let rest = wires_after-append (suc i) xs ys in
     let same : suc i + length xs ≡ i + length (x ∷ xs) = omega arith in
-    ap (λ (ws : List Wire). line_wires i x ++ ws) (rest ∙ ap (λ (n : ℕ). wires_after (suc i) xs ++ wires_after n ys) same)
+    ap (λ (ws : List Wire). line_wires i x ++ ws) (rest ∙ ap (λ (n : ℕ). wires_after (suc i) xs ++ wires_after n ys)
+    same)
     ∙ sym (append_assoc (line_wires i x) (wires_after (suc i) xs) (wires_after (i + length (x ∷ xs)) ys))
 
-pub wires_after-more : (i : ℕ) (xs : List Sentence) (x : Sentence) → wires_after i (xs ++ x ∷ []) ≡ wires_after i xs ++ line_wires (i + length xs) x
-wires_after-more i xs x = wires_after-append i xs (x ∷ []) ∙ ap (λ (ws : List Wire). wires_after i xs ++ ws) (append-nil (line_wires (i + length xs) x))
+pub wires_after-more : (i : ℕ) (xs : List Sentence) (x : Sentence)
+    → wires_after i (xs ++ x ∷ []) ≡ wires_after i xs ++ line_wires (i + length xs) x
+wires_after-more i xs x = wires_after-append i xs (x ∷ []) ∙ ap (λ (ws : List Wire). wires_after i xs ++ ws)
+    (append-nil (line_wires (i + length xs) x))
 
 pub rows_left-append : (m : ℕ) (xs ys : List Sentence) → rows_left m (xs ++ ys) ≡ rows_left (rows_left m xs) ys
 rows_left-append m [] ys = refl
@@ -62,7 +67,8 @@ has_right (x ∷ xs) ys from h =
 abbrev pub AreOf : List Wire → List Wire → Type 0
 AreOf all ws = Each (λ w. target all w.from ≡ Some w.to) ws
 
-pub of_target : (all ws : List Wire) → AreOf all ws → (from to : Line) → target ws from ≡ Some to → target all from ≡ Some to
+pub of_target : (all ws : List Wire) → AreOf all ws → (from to : Line) → target ws from ≡ Some to
+    → target all from ≡ Some to
 of_target all [] are from to h = absurd (cc)
 of_target all (w ∷ ws) are from to h =
     elim (line_tells w.from from) [
@@ -73,10 +79,12 @@ of_target all (w ∷ ws) are from to h =
     ]
 
 -- where each of the others has a wire among them, both lead alike
-pub exact : (all ws : List Wire) → AreOf all ws → (from : Line) → ((to : Line) → target all from ≡ Some to → HasWire ws from) → target ws from ≡ target all from
+pub exact : (all ws : List Wire) → AreOf all ws → (from : Line)
+    → ((to : Line) → target all from ≡ Some to → HasWire ws from) → target ws from ≡ target all from
 exact all ws are from has = by_both (target ws from) refl (target all from) refl
   where
-    by_both : (o : Option Line) → target ws from ≡ o → (p : Option Line) → target all from ≡ p → target ws from ≡ target all from
+    by_both : (o : Option Line) → target ws from ≡ o → (p : Option Line) → target all from ≡ p
+        → target ws from ≡ target all from
     by_both (Some to) is p other = is ∙ sym (of_target all ws are from to is)
     by_both None is None other = is ∙ sym other
     by_both None is (Some to) other = absurd (has to other is)
@@ -89,21 +97,25 @@ AreLeading all e o [] = Unit {0}
 AreLeading all e o (None ∷ xs) = AreLeading all e (suc o) xs
 AreLeading all e o (Some to ∷ xs) = (target all (line_at e o) ≡ Some to) × AreLeading all e (suc o) xs
 
-pub lead : (all : List Wire) (e o : ℕ) (x : Option Line) (xs : List (Option Line)) → target all (line_at e o) ≡ x → AreLeading all e (suc o) xs → AreLeading all e o (x ∷ xs)
+pub lead : (all : List Wire) (e o : ℕ) (x : Option Line) (xs : List (Option Line)) → target all (line_at e o) ≡ x
+    → AreLeading all e (suc o) xs → AreLeading all e o (x ∷ xs)
 lead all e o None xs is rest = rest
 lead all e o (Some to) xs is rest = (is, rest)
 
-pub row_leading : (all : List Wire) (e : ℕ) → AreLeading all e east (row_targets (target all (line_at e east)) (target all (line_at e west)))
+pub row_leading : (all : List Wire) (e : ℕ) → AreLeading all e east
+    (row_targets (target all (line_at e east)) (target all (line_at e west)))
 row_leading all e =
     lead all e east (target all (line_at e east)) (None ∷ target all (line_at e west) ∷ []) refl
     (lead all e west (target all (line_at e west)) [] refl tt)
 
-pub from_are : (all : List Wire) (e o : ℕ) (xs : List (Option Line)) → AreLeading all e o xs → AreOf all (wires_from e o xs)
+pub from_are : (all : List Wire) (e o : ℕ) (xs : List (Option Line)) → AreLeading all e o xs
+    → AreOf all (wires_from e o xs)
 from_are all e o [] are = tt
 from_are all e o (None ∷ xs) are = from_are all e (suc o) xs are
 from_are all e o (Some to ∷ xs) are = (are.0, from_are all e (suc o) xs are.1)
 
-pub from_has : (e o : ℕ) (xs : List (Option Line)) (i l : ℕ) (to : Line) → slice_get xs i ≡ Some (Some to) → l ≡ o + i → HasWire (wires_from e o xs) (line_at e l)
+pub from_has : (e o : ℕ) (xs : List (Option Line)) (i l : ℕ) (to : Line) → slice_get xs i ≡ Some (Some to) → l ≡ o + i
+    → HasWire (wires_from e o xs) (line_at e l)
 from_has e o [] i l to has place = absurd (cc)
 from_has e o (None ∷ xs) zero l to has place = absurd (apart to (same_Some {A = Option Line} None (Some to) has))
   where

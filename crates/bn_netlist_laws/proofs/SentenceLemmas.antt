@@ -1,5 +1,6 @@
 -- What a line says can be read from it, and only that: each line says one thing. And no line of a text holds a byte 10.
-use Rattle.std.specs.Prelude.{◌≡◌, ◌≢◌, ℕ, ◌+◌, ◌*◌, ◌<◌, ◌≤◌, ◌==◌, Bool, true, false, List, [], ◌∷◌, ◌++◌, length, slice_index, Option, Some, None, if◌then◌else◌, option_map, codes, decimal, refl}
+use Rattle.std.specs.Prelude.{◌≡◌, ◌≢◌, ℕ, ◌+◌, ◌*◌, ◌<◌, ◌≤◌, ◌==◌, Bool, true, false, List, [], ◌∷◌, ◌++◌, length}
+use Rattle.std.specs.Prelude.{slice_index, Option, Some, None, if◌then◌else◌, option_map, codes, decimal, refl}
 use Rattle.std.specs.Str.Parse.{digits_value}
 use Rattle.std.proofs.Common.{zero, suc, arith, sym, ap, subst, ◌∙◌, inl, inr}
 use Rattle.std.proofs.lemmas.Bool.Decides.{eqb_tells}
@@ -13,14 +14,23 @@ use Rattle.bn_base.proofs.LineLemmas.{lines-agree}
 use Rattle.bn_base.specs.Number.{greatest, BeginsWithNoDigit, AreDigits}
 use Rattle.bn_circuits.specs.declared.line.Line.{Line}
 use Rattle.bn_circuits.specs.declared.place.Place.TheVariants.{Enter, Left}
-use Rattle.bn_netlist_laws.specs.Sentences.{IsNameable, AreNameable, line_text, target_text, targets_text, side_letters, bar_letters}
-use Rattle.bn_netlist_laws.specs.Reading.{word_taken, number_taken, bar_taken, line_taken, target_taken, targets_taken, ended, number_after, named_after, element_of, named, named_target, named_targets}
-use Rattle.bn_netlist_laws.proofs.LineReadingLemmas.{word_taken-takes, word_taken-again, number_taken-takes, number_taken-again, bar_taken-takes, bar_taken-again, target_taken-takes, target_taken-again, numbers_of, all_numbers_of, nameable_first, nameable_rest, nameable_both}
-use Rattle.bn_netlist_laws.proofs.FormLemmas.{no_digit_ends, number_after-again, named_after-again, element_of-again, targets_back}
-use Rattle.bn_netlist_laws.specs.Sentences.{Sentence, Title, Count, Start, End, Steps, At, Element, Column, IsSayable, title_text, sentence_text}
+use Rattle.bn_netlist_laws.specs.Sentences.{IsNameable, AreNameable, line_text, target_text, targets_text, side_letters}
+use Rattle.bn_netlist_laws.specs.Sentences.{bar_letters}
+use Rattle.bn_netlist_laws.specs.Reading.{word_taken, number_taken, bar_taken, line_taken, target_taken, targets_taken}
+use Rattle.bn_netlist_laws.specs.Reading.{ended, number_after, named_after, element_of, named, named_target}
+use Rattle.bn_netlist_laws.specs.Reading.{named_targets}
+use Rattle.bn_netlist_laws.proofs.LineReadingLemmas.{word_taken-takes, word_taken-again, number_taken-takes}
+use Rattle.bn_netlist_laws.proofs.LineReadingLemmas.{number_taken-again, bar_taken-takes, bar_taken-again}
+use Rattle.bn_netlist_laws.proofs.LineReadingLemmas.{target_taken-takes, target_taken-again, numbers_of, all_numbers_of}
+use Rattle.bn_netlist_laws.proofs.LineReadingLemmas.{nameable_first, nameable_rest, nameable_both}
+use Rattle.bn_netlist_laws.proofs.FormLemmas.{no_digit_ends, number_after-again, named_after-again, element_of-again}
+use Rattle.bn_netlist_laws.proofs.FormLemmas.{targets_back}
+use Rattle.bn_netlist_laws.specs.Sentences.{Sentence, Title, Count, Start, End, Steps, At, Element, Column, IsSayable}
+use Rattle.bn_netlist_laws.specs.Sentences.{title_text, sentence_text}
 use Rattle.bn_netlist_laws.specs.Sentences as sentences
 use Rattle.bn_netlist_laws.specs.Faults.{kind_of, IsOfVersion, LinesAreShort}
-use Rattle.bn_netlist_laws.specs.Saying.{column_of, sides_of, first_some, version_said, title_said, count_said_by, place_said_by, element_said, column_said_by, column_said, entry_said, said}
+use Rattle.bn_netlist_laws.specs.Saying.{column_of, sides_of, first_some, version_said, title_said, count_said_by}
+use Rattle.bn_netlist_laws.specs.Saying.{place_said_by, element_said, column_said_by, column_said, entry_said, said}
 use Rattle.bn_netlist_laws.specs.declared.version.Version.{Version}
 use Rattle.bn_netlist_laws.specs.declared.version.Version.TheVariants.{One, Two}
 
@@ -56,7 +66,8 @@ not_element : (rest : List ℕ) → element_of (codes "c " ++ rest) ≡ None
 unfolding element_of word_taken
 not_element rest = refl
 
-is_element : (n q : ℕ) (xs : List (Option Line)) → IsSayable (Element n q xs) → element_said (sentence_text (Element n q xs)) ≡ Some (Element n q xs)
+is_element : (n q : ℕ) (xs : List (Option Line)) → IsSayable (Element n q xs)
+    → element_said (sentence_text (Element n q xs)) ≡ Some (Element n q xs)
 is_element n q xs h =
     let row = element_of-again n q xs h in
     let same : Element n q (named_targets (all_numbers_of xs)) ≡ Element n q xs = ap (Element n q) (targets_back xs) in
@@ -76,7 +87,8 @@ column_of-again e k q h =
     let bar = bar_taken-again q [] h.3 in
     rw (word, element, space, rows, other, bar) refl
 
-sides_of-again : (x y : Option Line) → IsSayable (sentences.Row x y) → sides_of (sentence_text (sentences.Row x y)) ≡ Some (numbers_of x, numbers_of y)
+sides_of-again : (x y : Option Line) → IsSayable (sentences.Row x y)
+    → sides_of (sentence_text (sentences.Row x y)) ≡ Some (numbers_of x, numbers_of y)
 unfolding sides_of
 sides_of-again x y h =
     let behind : List ℕ = codes " " ++ (target_text y ++ []) in
@@ -85,14 +97,17 @@ sides_of-again x y h =
     let second = target_taken-again y [] (nameable_rest x (y ∷ []) h) in
     rw (word, first, second) refl
 
-pub said-again : (v : Version) (x : Sentence) → IsSayable x → IsOfVersion v x → said v (kind_of x) (sentence_text x) ≡ Some x
+pub said-again : (v : Version) (x : Sentence) → IsSayable x → IsOfVersion v x
+    → said v (kind_of x) (sentence_text x) ≡ Some x
 said-again v (Title One) h o = let first = word_taken-again (title_text One) [] in rw first refl
 said-again v (Title Two) h o = let first = word_taken-again (title_text Two) [] in rw (not_first, first) refl
-said-again v (Count c) h o = let number = number_after-again (codes "elements ") c h.1 in rw number (count_said_by-again c h.0)
+said-again v (Count c) h o = let number = number_after-again (codes "elements ") c h.1 in rw number
+    (count_said_by-again c h.0)
 said-again v (Start l) h o = let line = named_after-again (codes "start ") l h in rw line refl
 said-again v (End l) h o = let line = named_after-again (codes "end ") l h in rw line refl
 said-again v (Steps t) h o = let number = number_after-again (codes "steps ") t h in rw number refl
-said-again v (At (Enter e l)) h o = let line = named_after-again (codes "at ") (record { element = e; line = l }) h in rw line refl
+said-again v (At (Enter e l)) h o = let line = named_after-again (codes "at ") (record { element = e; line = l }) h in
+    rw line refl
 said-again v (At (Left e l)) h o =
     let other = not_at (record { element = e; line = l }) in
     let line = named_after-again (codes "left ") (record { element = e; line = l }) h in
@@ -101,20 +116,24 @@ said-again One (Element n q xs) h o = let row = is_element n q xs h in rw row re
 said-again Two (Element n q xs) h o = let row = is_element n q xs h in rw row refl
 said-again One (Column e k q) h o = absurd o
 said-again Two (Column e k q) h o =
-    let other = not_element (decimal e ++ (codes " " ++ (decimal k ++ (codes " " ++ slice_index bar_letters q ∷ [])))) in
+    let other = not_element (decimal e ++ (codes " " ++ (decimal k ++ (codes " " ++ slice_index bar_letters q ∷ []))))
+    in
     let column = column_of-again e k q h in
     rw (other, column) (column_said_by-again e k q h.1)
 said-again v (sentences.Row x y) h o =
     let sides = sides_of-again x y h in
-    let same : sentences.Row (named_target (numbers_of x)) (named_target (numbers_of y)) ≡ sentences.Row x y = (λ i. sentences.Row (target_back x i) (target_back y i)) in
+    let same : sentences.Row (named_target (numbers_of x)) (named_target (numbers_of y)) ≡ sentences.Row x y =
+    (λ i. sentences.Row (target_back x i) (target_back y i)) in
     rw sides (ap (λ (z : Sentence). Some z) same)
 
 -- a line that says two things of one kind says one thing
-pub sentence_text-injective : (v : Version) (x y : Sentence) → IsSayable x → IsSayable y → IsOfVersion v x → IsOfVersion v y → kind_of x ≡ kind_of y → sentence_text x ≡ sentence_text y → x ≡ y
+pub sentence_text-injective : (v : Version) (x y : Sentence) → IsSayable x → IsSayable y → IsOfVersion v x
+    → IsOfVersion v y → kind_of x ≡ kind_of y → sentence_text x ≡ sentence_text y → x ≡ y
 sentence_text-injective v x y hx hy ox oy kind text =
     let first = said-again v x hx ox in
     let second = said-again v y hy oy in
-    let between : said v (kind_of x) (sentence_text x) ≡ said v (kind_of y) (sentence_text y) = (λ i. said v (kind i) (text i)) in
+    let between : said v (kind_of x) (sentence_text x) ≡ said v (kind_of y) (sentence_text y) =
+    (λ i. said v (kind i) (text i)) in
     same_Some x y (sym first ∙ between ∙ second)
 
 -- ---- no byte 10
@@ -184,7 +203,8 @@ targets_no_ten : (xs : List (Option Line)) → AreNameable xs → has_no_ten (ta
 unfolding has_no_ten
 targets_no_ten [] h = refl
 targets_no_ten (None ∷ xs) h = targets_no_ten xs h
-targets_no_ten (Some l ∷ xs) h = no_ten-append (line_text l) (targets_text xs) (line_no_ten l h.0) (targets_no_ten xs h.1)
+targets_no_ten (Some l ∷ xs) h = no_ten-append (line_text l) (targets_text xs) (line_no_ten l h.0)
+    (targets_no_ten xs h.1)
 
 no_ten : (x : Sentence) → IsSayable x → has_no_ten (sentence_text x) ≡ true
 unfolding has_no_ten
@@ -200,7 +220,8 @@ no_ten (Element n q xs) h =
     no_ten-append (decimal n) (codes " " ++ (slice_index bar_letters q ∷ targets_text xs)) (number_no_ten n h.0)
     (no_ten-append (slice_index bar_letters q ∷ []) (targets_text xs) (bar_no_ten q h.1) (targets_no_ten xs h.3))
 no_ten (Column e k q) h =
-    no_ten-append (decimal e) (codes " " ++ (decimal k ++ (codes " " ++ slice_index bar_letters q ∷ []))) (number_no_ten e h.0)
+    no_ten-append (decimal e) (codes " " ++ (decimal k ++ (codes " " ++ slice_index bar_letters q ∷ [])))
+    (number_no_ten e h.0)
     (no_ten-append (decimal k) (codes " " ++ slice_index bar_letters q ∷ []) (number_no_ten k h.2) (bar_no_ten q h.3))
 no_ten (sentences.Row x y) h = targets_no_ten (x ∷ y ∷ []) h
 
@@ -209,9 +230,12 @@ pub sentence_text-in_line : (x : Sentence) → IsSayable x → IsInLine (sentenc
 sentence_text-in_line x h = in_line_by (sentence_text x) (no_ten x h)
 
 -- so two texts that begin with lines of one kind begin with one line
-pub lines-same : (v : Version) (x y : Sentence) (rest other : List ℕ) → IsSayable x → IsSayable y → IsOfVersion v x → IsOfVersion v y → kind_of x ≡ kind_of y → sentence_text x ++ 10 ∷ rest ≡ sentence_text y ++ 10 ∷ other → (x ≡ y) × (rest ≡ other)
+pub lines-same : (v : Version) (x y : Sentence) (rest other : List ℕ) → IsSayable x → IsSayable y → IsOfVersion v x
+    → IsOfVersion v y → kind_of x ≡ kind_of y → sentence_text x ++ 10 ∷ rest ≡ sentence_text y ++ 10 ∷ other
+    → (x ≡ y) × (rest ≡ other)
 lines-same v x y rest other hx hy ox oy kind e =
-    let both = lines-agree (sentence_text x) (sentence_text y) rest other (sentence_text-in_line x hx) (sentence_text-in_line y hy) e in
+    let both = lines-agree (sentence_text x) (sentence_text y) rest other (sentence_text-in_line x hx)
+    (sentence_text-in_line y hy) e in
     (sentence_text-injective v x y hx hy ox oy kind both.0, both.1)
 
 -- ---- no line is long

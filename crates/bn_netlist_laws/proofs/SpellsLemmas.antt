@@ -1,5 +1,6 @@
 -- Whole lines without a fault, in which no column is spelled out, are the text of a configuration.
-use Rattle.std.specs.Prelude.{◌≡◌, ◌≢◌, ℕ, ◌+◌, ◌<◌, ◌≤◌, nat_lt, nat_le, Bool, true, false, List, [], ◌∷◌, ◌++◌, length, replicate, Option, Some, None, slice_get, if◌then◌else◌, refl}
+use Rattle.std.specs.Prelude.{◌≡◌, ◌≢◌, ℕ, ◌+◌, ◌<◌, ◌≤◌, nat_lt, nat_le, Bool, true, false, List, [], ◌∷◌, ◌++◌}
+use Rattle.std.specs.Prelude.{length, replicate, Option, Some, None, slice_get, if◌then◌else◌, refl}
 use Rattle.std.proofs.Common.{zero, suc, arith, sym, ap, subst, ◌∙◌, inl, inr, ◌⊎◌}
 use Rattle.std.proofs.lemmas.Bool.{cases_Bool}
 use Rattle.std.proofs.lemmas.Bool.Decides.{nat_tests}
@@ -19,7 +20,8 @@ use Rattle.bn_netlist_laws.proofs.WireLemmas.{rotary_inputs, rotary_outputs, rot
 use Rattle.bn_netlist_laws.specs.Columns.{rotary_elements}
 use Rattle.bn_netlist_laws.specs.Sentences.{Sentence, At, IsSayable, lines_text}
 use Rattle.bn_netlist_laws.specs.Spelling.{Admits, most_elements, header_then, Spelled}
-use Rattle.bn_netlist_laws.specs.Faults.{Fault, header_lines, count_in, wires_after, bars_in, AreFaultlessAfter, AreFaultless, AreWhole, IsSpelledOut}
+use Rattle.bn_netlist_laws.specs.Faults.{Fault, header_lines, count_in, wires_after, bars_in, AreFaultlessAfter}
+use Rattle.bn_netlist_laws.specs.Faults.{AreFaultless, AreWhole, IsSpelledOut}
 use Rattle.bn_netlist_laws.specs.declared.version.Version.{Version}
 use Rattle.bn_netlist_laws.specs.declared.header.Header.{Header}
 use Rattle.bn_netlist_laws.proofs.BlockLemmas.{has_header, Blocks, blocks}
@@ -40,8 +42,10 @@ counted-few c n f none =
       | inr above ↦ absurd (let found = rw above at none in cc)
     ]
 
-place_admissible : (n : ℕ) (ws : List Wire) (p : Place) → IsSayable (At p) → element_at p < n → ((from : Line) → is_left_by p from ≡ true → target ws from ≡ None) → IsPlace (rotary_elements n ws) p
-place_admissible n ws (Enter e i) sayable there left = let four = rotary_inputs n e there in let low : i < 4 = sayable.1 in omega arith
+place_admissible : (n : ℕ) (ws : List Wire) (p : Place) → IsSayable (At p) → element_at p < n
+    → ((from : Line) → is_left_by p from ≡ true → target ws from ≡ None) → IsPlace (rotary_elements n ws) p
+place_admissible n ws (Enter e i) sayable there left = let four = rotary_inputs n e there in let low : i < 4 =
+    sayable.1 in omega arith
 place_admissible n ws (Left e o) sayable there left =
     let four = rotary_outputs n e there in
     let low : o < 4 = sayable.1 in
@@ -52,7 +56,8 @@ place_admissible n ws (Left e o) sayable there left =
     same_is from = elim (line_tells from from) [ inl same ↦ same.0 | inr other ↦ absurd (other.1 refl) ]
 
 -- what these lines say may be spelled
-pub said-admitted : (h : Header) (rows : List Sentence) → AreFaultless (header_then h rows) → Blocks rows → length rows ≡ h.count → Admits h.version (said_by h rows)
+pub said-admitted : (h : Header) (rows : List Sentence) → AreFaultless (header_then h rows) → Blocks rows
+    → length rows ≡ h.count → Admits h.version (said_by h rows)
 said-admitted h rows f are count =
     let after_count = f.2 in
     let after_start = after_count.2 in
@@ -72,10 +77,13 @@ said-admitted h rows f are count =
     let place_there = named-there (element_at h.place) h.count _ after_place.1 in
     let made : length (bars_in rows) ≡ h.count = states.count ∙ count in
     let range : (e q : ℕ) → slice_get (bars_in rows) e ≡ Some q → q < states_of (replicate h.count rotary) e =
-    λ e q has. (let low = low_at (bars_in rows) e q states.low has in let below = slice_get_within (bars_in rows) e q has in let two = rotary_states h.count e (omega arith) in omega arith)
+    λ e q has. (let low = low_at (bars_in rows) e q states.low has in let below = slice_get_within (bars_in rows) e q
+    has in let two = rotary_states h.count e (omega arith) in omega arith)
     in
     let left : (from : Line) → is_left_by h.place from ≡ true → target ws from ≡ None =
-    λ from is. target-none ws from (all-each h (λ w. w.from ≢ from) (λ earlier w fits same. not_both (is_left_by h.place from) is (subst (λ (l : Line). is_left_by h.place l ≡ false) same fits.not_left)) [] ws fit)
+    λ from is. target-none ws from (all-each h (λ w. w.from ≢ from)
+    (λ earlier w fits same. not_both (is_left_by h.place from) is
+    (subst (λ (l : Line). is_left_by h.place l ≡ false) same fits.not_left)) [] ws fit)
     in
     record {
       some = after_count.0.sayable.0;
@@ -89,8 +97,10 @@ said-admitted h rows f are count =
       };
       start = omega arith;
       end = omega arith;
-      unfed = source-none ws h.start (all-each h (λ w. w.to ≢ h.start) (λ earlier w fits same. fits.not_start (sym same)) [] ws fit);
-      unwired = target-none ws h.end (all-each h (λ w. w.from ≢ h.end) (λ earlier w fits same. fits.not_end (sym same)) [] ws fit);
+      unfed = source-none ws h.start (all-each h (λ w. w.to ≢ h.start)
+          (λ earlier w fits same. fits.not_start (sym same)) [] ws fit);
+      unwired = target-none ws h.end (all-each h (λ w. w.from ≢ h.end) (λ earlier w fits same. fits.not_end (sym same))
+          [] ws fit);
     }
   where
     not_both : (b : Bool) → b ≡ true → b ≡ false → ⊥
@@ -100,26 +110,37 @@ said-admitted h rows f are count =
         true_is_not_false e = cc
 
 -- whole lines behind a header say what they are the text of
-pub whole-said : (h : Header) (rows : List Sentence) → AreWhole (header_then h rows) → ((e : ℕ) → IsSpelledOut (header_then h rows) e → ⊥) → Spelled h.version (said_by h rows) (lines_text (header_then h rows))
+pub whole-said : (h : Header) (rows : List Sentence) → AreWhole (header_then h rows)
+    → ((e : ℕ) → IsSpelledOut (header_then h rows) e → ⊥) → Spelled h.version (said_by h rows)
+    (lines_text (header_then h rows))
 whole-said h rows whole none =
     let complete : length (header_then h rows) ≡ header_lines + h.count = whole.complete in
     let count : length rows ≡ h.count = omega arith in
     let rows_fine = whole.faultless.2.2.2.2.2.2 in
     let are : Blocks rows = blocks h (suc (length rows)) [] rows (omega arith) refl (omega arith) rows_fine in
-    let start : IsAt h rows none [] rows 0 = record { lines = refl; made = refl; states = refl; count = omega arith; before = tt; faultless = rows_fine } in
+    let start : IsAt h rows none [] rows 0 = record {
+      lines = refl;
+      made = refl;
+      states = refl;
+      count = omega arith;
+      before = tt;
+      faultless = rows_fine;
+    } in
     record {
       admitted = said-admitted h rows whole.faultless are count;
       is_text = record { entries = rows; are = entries h rows none [] rows 0 are start; written = refl };
     }
 
 -- a whole list of lines is the text of a configuration
-pub whole-spells : (text : List ℕ) (lines : List Sentence) → AreWhole lines → text ≡ lines_text lines → ((e : ℕ) → IsSpelledOut lines e → ⊥) → (v : Version) × (s : Spelling) × Spelled v s text
+pub whole-spells : (text : List ℕ) (lines : List Sentence) → AreWhole lines → text ≡ lines_text lines
+    → ((e : ℕ) → IsSpelledOut lines e → ⊥) → (v : Version) × (s : Spelling) × Spelled v s text
 whole-spells text lines whole begins none =
     let shape = has_header lines whole.faultless (sym whole.complete) in
     let h : Header = shape.0 in
     let rows : List Sentence = shape.1 in
     let same : lines ≡ header_then h rows = shape.2 in
     let is : Spelled h.version (said_by h rows) (lines_text (header_then h rows)) =
-    whole-said h rows (subst AreWhole same whole) (λ e out. none e (subst (λ (zs : List Sentence). IsSpelledOut zs e) (sym same) out))
+    whole-said h rows (subst AreWhole same whole) (λ e out. none e
+    (subst (λ (zs : List Sentence). IsSpelledOut zs e) (sym same) out))
     in
     (h.version, said_by h rows, subst (Spelled h.version (said_by h rows)) (sym (begins ∙ ap lines_text same)) is)

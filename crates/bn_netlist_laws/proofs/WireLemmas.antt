@@ -1,5 +1,6 @@
 -- Wires of circuits of rotary elements: which lines are there, and what the first wires of a list say of one wire more.
-use Rattle.std.specs.Prelude.{◌≡◌, ◌≢◌, ℕ, ◌+◌, ◌*◌, ◌<◌, true, false, List, [], ◌∷◌, ◌++◌, replicate, Option, Some, None, is_some, slice_get, refl}
+use Rattle.std.specs.Prelude.{◌≡◌, ◌≢◌, ℕ, ◌+◌, ◌*◌, ◌<◌, true, false, List, [], ◌∷◌, ◌++◌, replicate, Option, Some}
+use Rattle.std.specs.Prelude.{None, is_some, slice_get, refl}
 use Rattle.std.proofs.Common.{zero, suc, arith, sym, subst, ◌∙◌, inl, inr}
 use Rattle.std.proofs.lemmas.Option.{same_Some}
 use Rattle.bn_element.specs.Tables.{Table, IsReversible}
@@ -13,12 +14,14 @@ use Rattle.bn_element.specs.Rotary.{rotary, rotary-IsReversible}
 pub rotary_input : (n e l : ℕ) → l < inputs_of (replicate n rotary) e → (e < n) × (l < 4)
 rotary_input zero e l h = absurd (omega arith)
 rotary_input (suc n) zero l h = (omega arith, h)
-rotary_input (suc n) (suc e) l h = let rest = rotary_input n e l h in (let below : e < n = rest.0 in omega arith, rest.1)
+rotary_input (suc n) (suc e) l h = let rest = rotary_input n e l h in
+    (let below : e < n = rest.0 in omega arith, rest.1)
 
 pub rotary_output : (n e l : ℕ) → l < outputs_of (replicate n rotary) e → (e < n) × (l < 4)
 rotary_output zero e l h = absurd (omega arith)
 rotary_output (suc n) zero l h = (omega arith, h)
-rotary_output (suc n) (suc e) l h = let rest = rotary_output n e l h in (let below : e < n = rest.0 in omega arith, rest.1)
+rotary_output (suc n) (suc e) l h = let rest = rotary_output n e l h in
+    (let below : e < n = rest.0 in omega arith, rest.1)
 
 pub rotary_inputs : (n e : ℕ) → e < n → inputs_of (replicate n rotary) e ≡ 4
 rotary_inputs zero e h = absurd (omega arith)

@@ -28,7 +28,8 @@ same_rising (Move d ∷ xs) (Rewrite u v ∷ ys) t s = absurd s.0
 same_rising (Move d ∷ xs) (Move b ∷ ys) t s = same_rising xs ys (suc t) s.1
 
 -- alike deeds with the same symbols read meet in domain
-pub meet_reads : (xs ys : List Deed) (t : ℕ) → OnEachTape IsAlike xs ys → symbols_read (reads t xs) ≡ symbols_read (reads t ys) → OnEachTape MeetsInDomain xs ys
+pub meet_reads : (xs ys : List Deed) (t : ℕ) → OnEachTape IsAlike xs ys
+    → symbols_read (reads t xs) ≡ symbols_read (reads t ys) → OnEachTape MeetsInDomain xs ys
 meet_reads [] [] t s e = tt
 meet_reads [] (y ∷ ys) t s e = absurd s
 meet_reads (x ∷ xs) [] t s e = absurd s
@@ -38,7 +39,8 @@ meet_reads (Move d ∷ xs) (Rewrite u v ∷ ys) t s e = absurd s.0
 meet_reads (Move d ∷ xs) (Move b ∷ ys) t s e = (tt, meet_reads xs ys (suc t) s.1 e)
 
 -- alike deeds with the same symbols written meet in range
-meet_rising : (xs ys : List Deed) (t : ℕ) → OnEachTape IsAlike xs ys → symbols_read (rising t xs) ≡ symbols_read (rising t ys) → OnEachTape MeetsInRange xs ys
+meet_rising : (xs ys : List Deed) (t : ℕ) → OnEachTape IsAlike xs ys
+    → symbols_read (rising t xs) ≡ symbols_read (rising t ys) → OnEachTape MeetsInRange xs ys
 meet_rising [] [] t s e = tt
 meet_rising [] (y ∷ ys) t s e = absurd s
 meet_rising (x ∷ xs) [] t s e = absurd s
@@ -58,10 +60,14 @@ map_reverse f l = map_onto f l []
 
 -- quadruples with the same tapes write the same tapes
 pub same_writes : (r s : Rule ℕ) → HaveSameTapes r s → tapes (writes_of r) ≡ tapes (writes_of s)
-same_writes r s h = map_reverse (λ p. p.0) (rising 1 (deeds_of r)) ∙ ap reverse (same_rising (deeds_of r) (deeds_of s) 1 h) ∙ sym (map_reverse (λ p. p.0) (rising 1 (deeds_of s)))
+same_writes r s h = map_reverse (λ p. p.0) (rising 1 (deeds_of r))
+    ∙ ap reverse (same_rising (deeds_of r) (deeds_of s) 1 h) ∙ sym (map_reverse (λ p. p.0) (rising 1 (deeds_of s)))
 
 -- with the same symbols written they meet in range
-pub meet_writes : (r s : Rule ℕ) → HaveSameTapes r s → symbols_read (writes_of r) ≡ symbols_read (writes_of s) → OnEachTape MeetsInRange (deeds_of r) (deeds_of s)
+pub meet_writes : (r s : Rule ℕ) → HaveSameTapes r s → symbols_read (writes_of r) ≡ symbols_read (writes_of s)
+    → OnEachTape MeetsInRange (deeds_of r) (deeds_of s)
 meet_writes r s h e =
-    let turned : reverse (symbols_read (rising 1 (deeds_of r))) ≡ reverse (symbols_read (rising 1 (deeds_of s))) = sym (map_reverse (λ p. p.1) (rising 1 (deeds_of r))) ∙ e ∙ map_reverse (λ p. p.1) (rising 1 (deeds_of s)) in
-    meet_rising (deeds_of r) (deeds_of s) 1 h (sym (reverse-reverse (symbols_read (rising 1 (deeds_of r)))) ∙ ap reverse turned ∙ reverse-reverse (symbols_read (rising 1 (deeds_of s))))
+    let turned : reverse (symbols_read (rising 1 (deeds_of r))) ≡ reverse (symbols_read (rising 1 (deeds_of s))) =
+    sym (map_reverse (λ p. p.1) (rising 1 (deeds_of r))) ∙ e ∙ map_reverse (λ p. p.1) (rising 1 (deeds_of s)) in
+    meet_rising (deeds_of r) (deeds_of s) 1 h (sym (reverse-reverse (symbols_read (rising 1 (deeds_of r))))
+    ∙ ap reverse turned ∙ reverse-reverse (symbols_read (rising 1 (deeds_of s))))

@@ -4,7 +4,9 @@ use Rattle.std.proofs.lemmas.List.{map-append}
 use Rattle.bn_lists.specs.Lists.{nth}
 use Rattle.bn_quad.specs.Quadruples.{Quadruples, Rule, deeds_of, initial_of}
 use Rattle.bn_quad.specs.Calls.{IsUniformMachine}
-use Rattle.bn_network.specs.Controls.{ControlGoes, ControlLine, ControlMove, ControlState, IsEntry, begins, reads_on, shifts_on, writes_on, symbols_read, to_reads, to_writes, reads_of, shifts_of, writes_of}
+use Rattle.bn_network.specs.Controls.{ControlGoes, ControlLine, ControlMove, ControlState, IsEntry, begins, reads_on}
+use Rattle.bn_network.specs.Controls.{shifts_on, writes_on, symbols_read, to_reads, to_writes, reads_of, shifts_of}
+use Rattle.bn_network.specs.Controls.{writes_of}
 use Rattle.bn_network.proofs.ListLemmas.{pair, same_length, split, split_right, tapes}
 use Rattle.bn_network.proofs.DeedLemmas.{same_reads, same_writes}
 use Rattle.bn_network.proofs.UniformLemmas.{read_mask, write_mask, same_domain, same_quad}
@@ -12,14 +14,17 @@ use Rattle.bn_network.proofs.EntryLemmas.{one_entry}
 use Rattle.bn_network.proofs.OrderLemmas.{alone}
 
 -- a list that is split is known by its symbols
-pub whole_symbols : (l a r : List (ℕ × ℕ)) (p : ℕ × ℕ) → l ≡ a ++ (p ∷ r) → symbols_read l ≡ symbols_read a ++ (p.1 ∷ symbols_read r)
+pub whole_symbols : (l a r : List (ℕ × ℕ)) (p : ℕ × ℕ) → l ≡ a ++ (p ∷ r)
+    → symbols_read l ≡ symbols_read a ++ (p.1 ∷ symbols_read r)
 whole_symbols l a r p e = ap symbols_read e ∙ map-append (λ (q : ℕ × ℕ). q.1) a (p ∷ r)
 
 module _ (machine : Quadruples) (u : IsUniformMachine machine) where
   -- what follows a read is known from the symbols read
-  after_reads : (i j : ℕ) (x y : Rule ℕ) → nth machine.rules i ≡ Some x → nth machine.rules j ≡ Some y → (e f : ControlMove) → IsEntry machine x.to e
+  after_reads : (i j : ℕ) (x y : Rule ℕ) → nth machine.rules i ≡ Some x → nth machine.rules j ≡ Some y
+      → (e f : ControlMove) → IsEntry machine x.to e
       → IsEntry machine y.to f
-      → (a b r s : List (ℕ × ℕ)) (p q : ℕ × ℕ) → reads_of x ≡ a ++ (p ∷ r) → reads_of y ≡ b ++ (q ∷ s) → x.from ≡ y.from → symbols_read a ≡ symbols_read b → p ≡ q
+      → (a b r s : List (ℕ × ℕ)) (p q : ℕ × ℕ) → reads_of x ≡ a ++ (p ∷ r) → reads_of y ≡ b ++ (q ∷ s) → x.from ≡ y.from
+      → symbols_read a ≡ symbols_read b → p ≡ q
       → to_reads e i x (a ++ (p ∷ [])) r ≡ to_reads f j y (b ++ (q ∷ [])) s
   after_reads i j x y isx isy e f ise isf a b [] [] p q er eq from before here =
       let wx = whole_symbols (reads_of x) a [] p er in
@@ -50,11 +55,14 @@ module _ (machine : Quadruples) (u : IsUniformMachine machine) where
       cc
 
   -- what follows a write is known from the symbols left
-  after_writes : (i j : ℕ) (x y : Rule ℕ) → nth machine.rules i ≡ Some x → nth machine.rules j ≡ Some y → (e f : ControlMove) → IsEntry machine x.to e
+  after_writes : (i j : ℕ) (x y : Rule ℕ) → nth machine.rules i ≡ Some x → nth machine.rules j ≡ Some y
+      → (e f : ControlMove) → IsEntry machine x.to e
       → IsEntry machine y.to f
-      → (a b r s : List (ℕ × ℕ)) (p q : ℕ × ℕ) → writes_of x ≡ a ++ (p ∷ r) → writes_of y ≡ b ++ (q ∷ s) → x.to ≡ y.to → symbols_read r ≡ symbols_read s
+      → (a b r s : List (ℕ × ℕ)) (p q : ℕ × ℕ) → writes_of x ≡ a ++ (p ∷ r) → writes_of y ≡ b ++ (q ∷ s) → x.to ≡ y.to
+      → symbols_read r ≡ symbols_read s
       → to_writes e x.to r ≡ to_writes f y.to s
-  after_writes i j x y isx isy e f ise isf a b [] [] p q er eq next rest = one_entry machine u x.to e f ise (rw next isf)
+  after_writes i j x y isx isy e f ise isf a b [] [] p q er eq next rest =
+      one_entry machine u x.to e f ise (rw next isf)
   after_writes i j x y isx isy e f ise isf a b (v ∷ r) [] p q er eq next rest = cc
   after_writes i j x y isx isy e f ise isf a b [] (w ∷ s) p q er eq next rest = cc
   after_writes i j x y isx isy e f ise isf a b (v ∷ r) (w ∷ s) p q er eq next rest =
@@ -66,8 +74,10 @@ module _ (machine : Quadruples) (u : IsUniformMachine machine) where
       cc
 
   -- a state and an input line have one move
-  pub forth : (q : ControlState) (i : ControlLine) (m n : ControlMove) → ControlGoes machine q i m → ControlGoes machine q i n → m ≡ n
-  forth q i m n (begins isq isi entry) (begins isq2 isi2 entry2) = one_entry machine u (initial_of machine.rules) m n entry entry2
+  pub forth : (q : ControlState) (i : ControlLine) (m n : ControlMove) → ControlGoes machine q i m
+      → ControlGoes machine q i n → m ≡ n
+  forth q i m n (begins isq isi entry) (begins isq2 isi2 entry2) =
+      one_entry machine u (initial_of machine.rules) m n entry entry2
   forth q i m n (begins isq isi entry) (reads_on j y isy f isf b s p eq isq2 isi2 ism2) = cc
   forth q i m n (begins isq isi entry) (shifts_on j y isy f isf b s p eq isq2 isi2 ism2) = cc
   forth q i m n (begins isq isi entry) (writes_on j y isy f isf b s p eq isq2 isi2 ism2) = cc

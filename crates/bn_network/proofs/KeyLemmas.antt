@@ -8,7 +8,8 @@ use Rattle.std.specs.declared.cmp.Ordering.TheVariants.{Equal}
 use Rattle.std.proofs.lemmas.Cmp.{on_total, nat_list_cmp_total}
 use Rattle.std.proofs.lemmas.Map.Lookups.{exact_bytes}
 use Rattle.bn_quad.specs.Quadruples.{Quadruples, Rule, deeds_of}
-use Rattle.bn_network.specs.Controls.{ControlState, Begin, End, Reads, Shifts, Writes, Occurs, is_begin, is_end, is_open, is_read, is_shift, is_write, key_of, writes_of, rising}
+use Rattle.bn_network.specs.Controls.{ControlState, Begin, End, Reads, Shifts, Writes, Occurs, is_begin, is_end}
+use Rattle.bn_network.specs.Controls.{is_open, is_read, is_shift, is_write, key_of, writes_of, rising}
 use Rattle.bn_lists.specs.Lists.{Has}
 use Rattle.bn_network.proofs.ListedLemmas.{member_split, member_turned}
 use Rattle.bn_network.proofs.RangeLemmas.{rising_low}
@@ -29,7 +30,8 @@ IsLow _ = Unit {0}
 -- a tape that is written is one of three
 written_low : (r : Rule ℕ) (before rest : List (ℕ × ℕ)) (p : ℕ × ℕ) → writes_of r ≡ before ++ (p ∷ rest) → p.0 ≤ 3
 written_low r before rest p e =
-    let is : Has (rising 1 (deeds_of r)) p = member_turned (rising 1 (deeds_of r)) p (member_split (writes_of r) before rest p e) in
+    let is : Has (rising 1 (deeds_of r)) p = member_turned (rising 1 (deeds_of r)) p
+    (member_split (writes_of r) before rest p e) in
     let low : p.0 < 1 + 3 = rising_low (deeds_of r) 1 p is in
     omega arith
 
@@ -44,7 +46,8 @@ lows m (Writes a t u) (is_end e) = absurd (cc)
 lows m (Writes a t u) (is_open b low other none e) = absurd (cc)
 lows m (Writes a t u) (is_read n r is before rest p split e) = absurd (cc)
 lows m (Writes a t u) (is_shift n r is before rest p split e) = absurd (cc)
-lows m (Writes a t u) (is_write n r is before rest p split e) = let tape : t ≡ p.0 = cc in let low = written_low r before rest p split in omega arith
+lows m (Writes a t u) (is_write n r is before rest p split e) = let tape : t ≡ p.0 = cc in let low =
+    written_low r before rest p split in omega arith
 
 -- states are known by their keys
 known : (q r : ControlState) → IsLow q → IsLow r → key_of q ≡ key_of r → q ≡ r

@@ -1,10 +1,13 @@
 -- The numbers of the control's lines are in range and one to one.
-use Rattle.std.proofs.Common.{◌≡◌, inl, inr, get_or, ℕ, zero, suc, ◌+◌, ◌-◌, ◌<◌, ◌≤◌, ◌==◌, nat_lt, cond, List, [], ◌∷◌, length, refl, sym, ap, subst, ◌∙◌, arith}
+use Rattle.std.proofs.Common.{◌≡◌, inl, inr, get_or, ℕ, zero, suc, ◌+◌, ◌-◌, ◌<◌, ◌≤◌, ◌==◌, nat_lt, cond, List, []}
+use Rattle.std.proofs.Common.{◌∷◌, length, refl, sym, ap, subst, ◌∙◌, arith}
 use Rattle.std.proofs.lemmas.Bool.Decides.{nat_tests}
 use Rattle.bn_quad.specs.Quadruples.{Quadruples}
 use Rattle.bn_network.specs.declared.cell_line.CellLine.{CellLine}
-use Rattle.bn_network.specs.declared.cell_line.CellLine.TheVariants.{Read, Write, ShiftRight, ShiftLeft, Answer, DoneWrite, DoneRight, DoneLeft}
-use Rattle.bn_network.specs.Controls.{ControlLine, Outside, Tape, lines_before, answer_offset, command_offset, control_lines, in_number, out_number}
+use Rattle.bn_network.specs.declared.cell_line.CellLine.TheVariants.{Read, Write, ShiftRight, ShiftLeft, Answer}
+use Rattle.bn_network.specs.declared.cell_line.CellLine.TheVariants.{DoneWrite, DoneRight, DoneLeft}
+use Rattle.bn_network.specs.Controls.{ControlLine, Outside, Tape, lines_before, answer_offset, command_offset}
+use Rattle.bn_network.specs.Controls.{control_lines, in_number, out_number}
 use Rattle.bn_network.proofs.NumberLemmas.{by_order}
 
 -- ---- the lines of one tape
@@ -113,27 +116,35 @@ module _ (zs : List ℕ) (IsKind : ℕ → CellLine → Type 0) (offset : ℕ �
     above j l i e = let is = ap number e in let at = are.each j l in omega arith
 
     -- nor behind them
-    beneath : (j : ℕ) (l : CellLine) (i : ControlLine) → j < length zs → IsKind (get_or zs j 0) l → i ≡ Tape (suc j) l → number i < lines_before zs (suc j)
+    beneath : (j : ℕ) (l : CellLine) (i : ControlLine) → j < length zs → IsKind (get_or zs j 0) l → i ≡ Tape (suc j) l
+        → number i < lines_before zs (suc j)
     beneath j l i few kind e =
-        let is = ap number e in let at = are.each j l in let more = lines_more zs j few in let small = are.low (get_or zs j 0) l kind in omega arith
+        let is = ap number e in let at = are.each j l in let more = lines_more zs j few in let small =
+        are.low (get_or zs j 0) l kind in omega arith
 
     -- the number of a line is in range
     line_low : (i : ControlLine) → IsLine zs IsKind i → number i < lines_before zs (length zs)
-    line_low i (outside e) = let is = ap number e in let at = are.first in let some = lines_some zs (length zs) in omega arith
-    line_low i (tape j l few kind e) = let low = beneath j l i few kind e in let more = lines_rise zs (suc j) (length zs) (omega arith) in omega arith
+    line_low i (outside e) = let is = ap number e in let at = are.first in let some =
+        lines_some zs (length zs) in omega arith
+    line_low i (tape j l few kind e) = let low = beneath j l i few kind e in let more =
+        lines_rise zs (suc j) (length zs) (omega arith) in omega arith
 
     -- lines of two tapes have two numbers
-    apart : (i k : ControlLine) (j h : ℕ) (l : CellLine) (o : CellLine) → j < length zs → IsKind (get_or zs j 0) l → i ≡ Tape (suc j) l → k ≡ Tape (suc h) o
+    apart : (i k : ControlLine) (j h : ℕ) (l : CellLine) (o : CellLine) → j < length zs → IsKind (get_or zs j 0) l
+        → i ≡ Tape (suc j) l → k ≡ Tape (suc h) o
         → j < h → number i ≡ number k → ⊥
-    apart i k j h l o few kind e d low same = let one = beneath j l i few kind e in let more = lines_rise zs (suc j) h (omega arith) in let two = above h o k d in omega arith
+    apart i k j h l o few kind e d low same = let one = beneath j l i few kind e in let more =
+        lines_rise zs (suc j) h (omega arith) in let two = above h o k d in omega arith
 
     -- lines with one number are one
     line_one : (i k : ControlLine) → IsLine zs IsKind i → IsLine zs IsKind k → number i ≡ number k → i ≡ k
     line_one i k (outside e) (outside d) same = e ∙ sym d
     line_one i k (outside e) (tape h o few kind d) same =
-        let zero_number = ap number e ∙ are.first in let some = lines_some zs h in let high = above h o k d in absurd (omega arith)
+        let zero_number = ap number e ∙ are.first in let some = lines_some zs h in let high =
+        above h o k d in absurd (omega arith)
     line_one i k (tape j l few kind e) (outside d) same =
-        let zero_number = ap number d ∙ are.first in let some = lines_some zs j in let high = above j l i e in absurd (omega arith)
+        let zero_number = ap number d ∙ are.first in let some = lines_some zs j in let high =
+        above j l i e in absurd (omega arith)
     line_one i k (tape j l few kind e) (tape h o few2 kind2 d) same =
         elim (by_order j h) [
           | inl low ↦ absurd (apart i k j h l o few kind e d low same)
@@ -143,7 +154,8 @@ module _ (zs : List ℕ) (IsKind : ℕ → CellLine → Type 0) (offset : ℕ �
           ]
         ]
       where
-        at_one : (j h : ℕ) (l o : CellLine) → j ≡ h → IsKind (get_or zs j 0) l → IsKind (get_or zs h 0) o → i ≡ Tape (suc j) l → k ≡ Tape (suc h) o
+        at_one : (j h : ℕ) (l o : CellLine) → j ≡ h → IsKind (get_or zs j 0) l → IsKind (get_or zs h 0) o
+            → i ≡ Tape (suc j) l → k ≡ Tape (suc h) o
             → number i ≡ number k → i ≡ k
         at_one j h l o is a b e d same =
             let back = sym is in
@@ -167,19 +179,24 @@ module _ (m : Quadruples) where
   in_numbers : AreNumbers m.symbols IsReply answer_offset (in_number m)
   in_numbers = record { first = refl; each = each; one = reply_one; low = reply_low }
     where
-      each : (j : ℕ) (l : CellLine) → in_number m (Tape (suc j) l) ≡ lines_before m.symbols j + answer_offset (get_or m.symbols j 0) l
-      each j l = let e : suc j - 1 ≡ j = omega arith in ap (λ n. lines_before m.symbols n + answer_offset (get_or m.symbols j 0) l) e
+      each : (j : ℕ) (l : CellLine) → in_number m (Tape (suc j) l)
+          ≡ lines_before m.symbols j + answer_offset (get_or m.symbols j 0) l
+      each j l = let e : suc j - 1 ≡ j = omega arith in ap (λ n. lines_before m.symbols n
+          + answer_offset (get_or m.symbols j 0) l) e
 
   -- the numbers of output lines
   out_numbers : AreNumbers m.symbols IsCommand command_offset (out_number m)
   out_numbers = record { first = refl; each = each; one = command_one; low = command_low }
     where
-      each : (j : ℕ) (l : CellLine) → out_number m (Tape (suc j) l) ≡ lines_before m.symbols j + command_offset (get_or m.symbols j 0) l
-      each j l = let e : suc j - 1 ≡ j = omega arith in ap (λ n. lines_before m.symbols n + command_offset (get_or m.symbols j 0) l) e
+      each : (j : ℕ) (l : CellLine) → out_number m (Tape (suc j) l)
+          ≡ lines_before m.symbols j + command_offset (get_or m.symbols j 0) l
+      each j l = let e : suc j - 1 ≡ j = omega arith in ap (λ n. lines_before m.symbols n
+          + command_offset (get_or m.symbols j 0) l) e
 
   -- an input line's number is in range
   pub in_low : length m.symbols ≡ 3 → (i : ControlLine) → IsInLine i → in_number m i < control_lines m
-  in_low three i h = subst (λ n. in_number m i < lines_before m.symbols n) three (line_low m.symbols IsReply answer_offset (in_number m) in_numbers i h)
+  in_low three i h = subst (λ n. in_number m i < lines_before m.symbols n) three
+      (line_low m.symbols IsReply answer_offset (in_number m) in_numbers i h)
 
   -- input lines with one number are one
   pub in_one : (i k : ControlLine) → IsInLine i → IsInLine k → in_number m i ≡ in_number m k → i ≡ k
@@ -187,7 +204,8 @@ module _ (m : Quadruples) where
 
   -- an output line's number is in range
   pub out_low : length m.symbols ≡ 3 → (i : ControlLine) → IsOutLine i → out_number m i < control_lines m
-  out_low three i h = subst (λ n. out_number m i < lines_before m.symbols n) three (line_low m.symbols IsCommand command_offset (out_number m) out_numbers i h)
+  out_low three i h = subst (λ n. out_number m i < lines_before m.symbols n) three
+      (line_low m.symbols IsCommand command_offset (out_number m) out_numbers i h)
 
   -- output lines with one number are one
   pub out_one : (i k : ControlLine) → IsOutLine i → IsOutLine k → out_number m i ≡ out_number m k → i ≡ k

@@ -8,7 +8,8 @@ abbrev pub tapes : List (ℕ × ℕ) → List ℕ
 tapes l = map (λ p. p.0) l
 
 -- lists with the same tapes, split behind the same symbols, are split at the same tapes
-pub split : (a b c d : List (ℕ × ℕ)) → symbols_read a ≡ symbols_read b → tapes (a ++ c) ≡ tapes (b ++ d) → (tapes a ≡ tapes b) × (tapes c ≡ tapes d)
+pub split : (a b c d : List (ℕ × ℕ)) → symbols_read a ≡ symbols_read b → tapes (a ++ c) ≡ tapes (b ++ d)
+    → (tapes a ≡ tapes b) × (tapes c ≡ tapes d)
 split [] [] c d e f = (refl, f)
 split [] (y ∷ b) c d e f = cc
 split (x ∷ a) [] c d e f = cc
@@ -21,14 +22,27 @@ split (x ∷ a) (y ∷ b) c d e f =
     (cc, more.1)
 
 -- so are those whose second parts are equally long
-pub split_right : (a b c d : List (ℕ × ℕ)) → length c ≡ length d → tapes (a ++ c) ≡ tapes (b ++ d) → (tapes a ≡ tapes b) × (tapes c ≡ tapes d)
+pub split_right : (a b c d : List (ℕ × ℕ)) → length c ≡ length d → tapes (a ++ c) ≡ tapes (b ++ d)
+    → (tapes a ≡ tapes b) × (tapes c ≡ tapes d)
 split_right [] [] c d e f = (refl, f)
 split_right [] (y ∷ b) c d e f =
     let l : length (tapes c) ≡ length (tapes ((y ∷ b) ++ d)) = ap length f in
-    absurd (omega (arith, length-map c (λ (p : ℕ × ℕ). p.0), length-map (b ++ d) (λ (p : ℕ × ℕ). p.0), length-append b d))
+    absurd (omega (
+      arith,
+      length-map c (λ (p : ℕ × ℕ). p.0),
+      length-map (b ++ d) (λ (p : ℕ × ℕ). p.0),
+      length-append b
+          d,
+    ))
 split_right (x ∷ a) [] c d e f =
     let l : length (tapes ((x ∷ a) ++ c)) ≡ length (tapes d) = ap length f in
-    absurd (omega (arith, length-map d (λ (p : ℕ × ℕ). p.0), length-map (a ++ c) (λ (p : ℕ × ℕ). p.0), length-append a c))
+    absurd (omega (
+      arith,
+      length-map d (λ (p : ℕ × ℕ). p.0),
+      length-map (a ++ c) (λ (p : ℕ × ℕ). p.0),
+      length-append a
+          c,
+    ))
 split_right (x ∷ a) (y ∷ b) c d e f =
     let et : tapes (a ++ c) ≡ tapes (b ++ d) = cc in
     let more = split_right a b c d e et in

@@ -32,7 +32,8 @@ alike_itself (Move s) = tt
 same_itself : (r s : Rule ℕ) → r ≡ s → HaveSameTapes r s
 same_itself r s e = subst (HaveSameTapes r) e (alike_itself r.one, (alike_itself r.two, (alike_itself r.three, tt)))
 
-reads : (rs : List (Rule ℕ)) (i j : ℕ) (r s : Rule ℕ) → HasNoClash Reads rs → nth rs i ≡ Some r → nth rs j ≡ Some s → r.from ≡ s.from → HaveSameTapes r s
+reads : (rs : List (Rule ℕ)) (i j : ℕ) (r s : Rule ℕ) → HasNoClash Reads rs → nth rs i ≡ Some r → nth rs j ≡ Some s
+    → r.from ≡ s.from → HaveSameTapes r s
 reads rs i j r s apart here there from =
     elim (all_alike_or_not (deeds_of r) (deeds_of s)) [
       | inl same ↦ same
@@ -41,7 +42,8 @@ reads rs i j r s apart here there from =
           same_itself r s (nth_once rs j r s (subst (λ n. nth rs n ≡ Some r) one here) there)
     ]
 
-writes : (rs : List (Rule ℕ)) (i j : ℕ) (r s : Rule ℕ) → HasNoClash Writes rs → nth rs i ≡ Some r → nth rs j ≡ Some s → r.to ≡ s.to → HaveSameTapes r s
+writes : (rs : List (Rule ℕ)) (i j : ℕ) (r s : Rule ℕ) → HasNoClash Writes rs → nth rs i ≡ Some r → nth rs j ≡ Some s
+    → r.to ≡ s.to → HaveSameTapes r s
 writes rs i j r s apart here there to =
     elim (all_alike_or_not (deeds_of r) (deeds_of s)) [
       | inl same ↦ same
@@ -54,4 +56,8 @@ pub tapes-same : TapesAreSame
 tapes-same = (reads, writes)
 
 pub overlaps-one : OverlapsAreOne
-overlaps-one = (λ rs i j r s apart here there k. clash_once Domain rs i j r s apart here there k, λ rs i j r s apart here there k. clash_once Range rs i j r s apart here there k)
+overlaps-one = (
+  λ rs i j r s apart here there k. clash_once Domain rs i j r s apart here there k,
+  λ rs i j r s apart
+      here there k. clash_once Range rs i j r s apart here there k,
+)

@@ -1,10 +1,12 @@
 -- Where the numbers of a machine's deeds are.
-use Rattle.std.proofs.Common.{◌≡◌, inl, inr, get_or, ℕ, zero, suc, ◌+◌, ◌<◌, List, [], ◌∷◌, length, Some, refl, ap, subst, arith}
+use Rattle.std.proofs.Common.{◌≡◌, inl, inr, get_or, ℕ, zero, suc, ◌+◌, ◌<◌, List, [], ◌∷◌, length, Some, refl, ap}
+use Rattle.std.proofs.Common.{subst, arith}
 use Rattle.std.proofs.lemmas.Option.{slice_get_within, get_or_from_slice_get}
 use Rattle.bn_lists.specs.Lists.{nth, Has}
 use Rattle.bn_machine.specs.declared.quint.Shift.TheVariants as way
 use Rattle.bn_machine.specs.declared.quint.Side.{Side}
-use Rattle.bn_quad.specs.Quadruples.{Deed, Rewrite, Move, Rule, Quadruples, initial_of, AreDeedsInRange, IsRuleInRange, IsQuadMachine}
+use Rattle.bn_quad.specs.Quadruples.{Deed, Rewrite, Move, Rule, Quadruples, initial_of, AreDeedsInRange, IsRuleInRange}
+use Rattle.bn_quad.specs.Quadruples.{IsQuadMachine}
 use Rattle.bn_network.specs.Controls.{reads, rising, shifts}
 
 -- the place of a tape and, among these numbers of symbols, its symbol
@@ -16,20 +18,24 @@ further : (z : ℕ) (zs : List ℕ) (t : ℕ) (p : ℕ × ℕ) → IsIn zs (suc 
 further z zs t p h = let at = h.1 in let low = h.2 in (suc h.0, omega arith, omega arith, h.3)
 
 -- what is read is a symbol of its tape
-pub reads_in : (zs : List ℕ) (ds : List Deed) (t : ℕ) (p : ℕ × ℕ) → AreDeedsInRange zs ds → Has (reads t ds) p → IsIn zs t p
+pub reads_in : (zs : List ℕ) (ds : List Deed) (t : ℕ) (p : ℕ × ℕ) → AreDeedsInRange zs ds → Has (reads t ds) p
+    → IsIn zs t p
 reads_in zs [] t p h is = absurd is
 reads_in [] (d ∷ ds) t p h is = absurd h
 reads_in (z ∷ zs) (Rewrite r w ∷ ds) t p h (inl e) =
-    let one = ap (λ (v : ℕ × ℕ). v.0) e in let two = ap (λ (v : ℕ × ℕ). v.1) e in let low = h.0.0 in (0, omega arith, omega arith, omega arith)
+    let one = ap (λ (v : ℕ × ℕ). v.0) e in let two = ap (λ (v : ℕ × ℕ). v.1) e in let low =
+    h.0.0 in (0, omega arith, omega arith, omega arith)
 reads_in (z ∷ zs) (Rewrite r w ∷ ds) t p h (inr more) = further z zs t p (reads_in zs ds (suc t) p h.1 more)
 reads_in (z ∷ zs) (Move d ∷ ds) t p h is = further z zs t p (reads_in zs ds (suc t) p h.1 is)
 
 -- what is written is a symbol of its tape
-pub rising_in : (zs : List ℕ) (ds : List Deed) (t : ℕ) (p : ℕ × ℕ) → AreDeedsInRange zs ds → Has (rising t ds) p → IsIn zs t p
+pub rising_in : (zs : List ℕ) (ds : List Deed) (t : ℕ) (p : ℕ × ℕ) → AreDeedsInRange zs ds → Has (rising t ds) p
+    → IsIn zs t p
 rising_in zs [] t p h is = absurd is
 rising_in [] (d ∷ ds) t p h is = absurd h
 rising_in (z ∷ zs) (Rewrite r w ∷ ds) t p h (inl e) =
-    let one = ap (λ (v : ℕ × ℕ). v.0) e in let two = ap (λ (v : ℕ × ℕ). v.1) e in let low = h.0.1 in (0, omega arith, omega arith, omega arith)
+    let one = ap (λ (v : ℕ × ℕ). v.0) e in let two = ap (λ (v : ℕ × ℕ). v.1) e in let low =
+    h.0.1 in (0, omega arith, omega arith, omega arith)
 rising_in (z ∷ zs) (Rewrite r w ∷ ds) t p h (inr more) = further z zs t p (rising_in zs ds (suc t) p h.1 more)
 rising_in (z ∷ zs) (Move d ∷ ds) t p h is = further z zs t p (rising_in zs ds (suc t) p h.1 is)
 
@@ -47,17 +53,23 @@ IsAmong count t n = (j : ℕ) × (n ≡ t + j) × (j < count)
 -- a shifted tape is one of as many as there are deeds
 pub shifts_low : (ds : List Deed) (t : ℕ) (p : ℕ × Side) → Has (shifts t ds) p → IsAmong (length ds) t p.0
 shifts_low [] t p is = absurd is
-shifts_low (Rewrite r w ∷ ds) t p is = let low = shifts_low ds (suc t) p is in let at = low.1 in let few = low.2 in (suc low.0, omega arith, omega arith)
+shifts_low (Rewrite r w ∷ ds) t p is = let low = shifts_low ds (suc t) p is in let at = low.1 in let few =
+    low.2 in (suc low.0, omega arith, omega arith)
 shifts_low (Move way.Left ∷ ds) t p (inl e) = let one = ap (λ (v : ℕ × Side). v.0) e in (0, omega arith, omega arith)
-shifts_low (Move way.Left ∷ ds) t p (inr more) = let low = shifts_low ds (suc t) p more in let at = low.1 in let few = low.2 in (suc low.0, omega arith, omega arith)
-shifts_low (Move way.Stay ∷ ds) t p is = let low = shifts_low ds (suc t) p is in let at = low.1 in let few = low.2 in (suc low.0, omega arith, omega arith)
+shifts_low (Move way.Left ∷ ds) t p (inr more) = let low = shifts_low ds (suc t) p more in let at = low.1 in let few =
+    low.2 in (suc low.0, omega arith, omega arith)
+shifts_low (Move way.Stay ∷ ds) t p is = let low = shifts_low ds (suc t) p is in let at = low.1 in let few =
+    low.2 in (suc low.0, omega arith, omega arith)
 shifts_low (Move way.Right ∷ ds) t p (inl e) = let one = ap (λ (v : ℕ × Side). v.0) e in (0, omega arith, omega arith)
-shifts_low (Move way.Right ∷ ds) t p (inr more) = let low = shifts_low ds (suc t) p more in let at = low.1 in let few = low.2 in (suc low.0, omega arith, omega arith)
+shifts_low (Move way.Right ∷ ds) t p (inr more) = let low = shifts_low ds (suc t) p more in let at = low.1 in let few =
+    low.2 in (suc low.0, omega arith, omega arith)
 
 -- a quadruple of the machine is in range
-pub rule_in_range : (m : Quadruples) → IsQuadMachine m → (n : ℕ) (r : Rule ℕ) → nth m.rules n ≡ Some r → IsRuleInRange m.states m.symbols r
+pub rule_in_range : (m : Quadruples) → IsQuadMachine m → (n : ℕ) (r : Rule ℕ) → nth m.rules n ≡ Some r
+    → IsRuleInRange m.states m.symbols r
 rule_in_range m is zero r e = absurd (cc)
-rule_in_range m is (suc n) r e = subst (λ s. IsRuleInRange m.states m.symbols s) (get_or_from_slice_get m.rules n r r e) (is.in_range n r (slice_get_within m.rules n r e))
+rule_in_range m is (suc n) r e = subst (λ s. IsRuleInRange m.states m.symbols s) (get_or_from_slice_get m.rules n r r e)
+    (is.in_range n r (slice_get_within m.rules n r e))
 
 -- the initial state is one of the machine's
 pub initial_in_range : (m : Quadruples) → IsQuadMachine m → initial_of m.rules < m.states

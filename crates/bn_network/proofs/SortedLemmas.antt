@@ -1,5 +1,6 @@
 -- Lists that rise: one for each property, and one for each listing.
-use Rattle.std.proofs.Common.{◌≡◌, ◌⊎◌, inl, inr, slice_get, ℕ, zero, suc, ◌<◌, List, [], ◌∷◌, Some, refl, sym, ap, subst, ◌∙◌, arith}
+use Rattle.std.proofs.Common.{◌≡◌, ◌⊎◌, inl, inr, slice_get, ℕ, zero, suc, ◌<◌, List, [], ◌∷◌, Some, refl, sym, ap}
+use Rattle.std.proofs.Common.{subst, ◌∙◌, arith}
 use Rattle.std.specs.Cmp.{IsTotalOrder}
 use Rattle.std.specs.Ordering.{ordering_reverse}
 use Rattle.std.specs.declared.cmp.Ordering.{Ordering}
@@ -32,26 +33,30 @@ module _ {A : Type 0} (cmp : A → A → Ordering) (order : IsTotalOrder cmp) wh
       let there = f 0 x refl in
       let here = g 0 y refl in
       let first = heads there.0 here.0 there.1 here.1 in
-      let rest = one_order l k (λ i j a b h. sl (suc i) (suc j) a b (omega arith)) (λ i j a b h. sk (suc i) (suc j) a b (omega arith)) (within_l first) (within_k first) in
+      let rest = one_order l k (λ i j a b h. sl (suc i) (suc j) a b (omega arith))
+      (λ i j a b h. sk (suc i) (suc j) a b (omega arith)) (within_l first) (within_k first) in
       λ i. first i ∷ rest i
     where
       heads : (j i : ℕ) → slice_get (y ∷ k) j ≡ Some x → slice_get (x ∷ l) i ≡ Some y → x ≡ y
       heads zero i e d = cc
       heads (suc j) zero e d = cc
-      heads (suc j) (suc i) e d = absurd (strict x (order.trans x y x (sl 0 (suc i) x y (omega arith) refl d) (sk 0 (suc j) y x (omega arith) refl e)))
+      heads (suc j) (suc i) e d = absurd (strict x (order.trans x y x (sl 0 (suc i) x y (omega arith) refl d)
+          (sk 0 (suc j) y x (omega arith) refl e)))
 
       within_l : x ≡ y → IsWithin l k
       within_l first n z e = go (f (suc n) z e).0 (f (suc n) z e).1
         where
           go : (j : ℕ) → slice_get (y ∷ k) j ≡ Some z → (j : ℕ) × (slice_get k j ≡ Some z)
-          go zero d = let same : z ≡ x = cc in let low = sl 0 (suc n) x z (omega arith) refl e in absurd (strict x (subst (λ v. cmp x v ≡ Less) same low))
+          go zero d = let same : z ≡ x = cc in let low = sl 0 (suc n) x z (omega arith) refl e in absurd
+              (strict x (subst (λ v. cmp x v ≡ Less) same low))
           go (suc j) d = (j, d)
 
       within_k : x ≡ y → IsWithin k l
       within_k first n z e = go (g (suc n) z e).0 (g (suc n) z e).1
         where
           go : (j : ℕ) → slice_get (x ∷ l) j ≡ Some z → (j : ℕ) × (slice_get l j ≡ Some z)
-          go zero d = let same : z ≡ y = cc in let low = sk 0 (suc n) y z (omega arith) refl e in absurd (strict y (subst (λ v. cmp y v ≡ Less) same low))
+          go zero d = let same : z ≡ y = cc in let low = sk 0 (suc n) y z (omega arith) refl e in absurd
+              (strict y (subst (λ v. cmp y v ≡ Less) same low))
           go (suc j) d = (j, d)
 
   -- in a list that rises an element has one place
@@ -70,7 +75,8 @@ module _ {A : Type 0} (cmp : A → A → Ordering) (order : IsTotalOrder cmp) wh
   pub sorted_rises : (l : List A) → IsSorted l → Rises l
   sorted_rises [] s i j x y h e d = absurd (cc)
   sorted_rises (z ∷ l) s i zero x y h e d = absurd (omega arith)
-  sorted_rises (z ∷ l) s zero (suc j) x y h e d = let first : z ≡ x = cc in subst (λ v. cmp v y ≡ Less) first (s.0 y (member_at l j y d))
+  sorted_rises (z ∷ l) s zero (suc j) x y h e d = let first : z ≡ x =
+      cc in subst (λ v. cmp v y ≡ Less) first (s.0 y (member_at l j y d))
   sorted_rises (z ∷ l) s (suc i) (suc j) x y h e d = sorted_rises l s.1 i j x y (omega arith) e d
 
   -- a list that rises and has these elements
@@ -90,7 +96,14 @@ module _ {A : Type 0} (cmp : A → A → Ordering) (order : IsTotalOrder cmp) wh
 
   -- an element more, where those that tie with it are it
   inserted : (x : A) (l : List A) → IsSorted l → ((y : A) → Has l y → cmp x y ≡ Equal → x ≡ y) → Inserted x l
-  inserted x [] s tied = record { items = x ∷ []; sorted = (λ y h. absurd h, tt); here = inl refl; others = λ y h. absurd h; only = λ y h. h }
+  inserted x [] s tied = record {
+    items = x ∷ [];
+    sorted = (λ y h. absurd h, tt);
+    here = inl refl;
+    others = λ y h.
+        absurd h;
+    only = λ y h. h;
+  }
   inserted x (y ∷ l) s tied = by (inserted x l s.1 (λ z h. tied z (inr h))) (cmp x y) refl
     where
       ahead : cmp x y ≡ Less → (z : A) → Has (y ∷ l) z → cmp x z ≡ Less
@@ -110,11 +123,30 @@ module _ {A : Type 0} (cmp : A → A → Ordering) (order : IsTotalOrder cmp) wh
       from r z (inr h) = elim (r.only z h) [ inl is ↦ inl is | inr more ↦ inr (inr more) ]
 
       by : Inserted x l → (o : Ordering) → cmp x y ≡ o → Inserted x (y ∷ l)
-      by r Less e = record { items = x ∷ (y ∷ l); sorted = (ahead e, s); here = inl refl; others = λ z h. inr h; only = λ z h. h }
-      by r Equal e = record { items = y ∷ l; sorted = s; here = inl (tied y (inl refl) e); others = λ z h. h; only = λ z h. inr h }
+      by r Less e = record {
+        items = x ∷ (y ∷ l);
+        sorted = (ahead e, s);
+        here = inl refl;
+        others = λ z h. inr h;
+        only = λ z h. h;
+      }
+      by r Equal e = record {
+        items = y ∷ l;
+        sorted = s;
+        here = inl (tied y (inl refl) e);
+        others = λ z h. h;
+        only = λ z
+            h. inr h;
+      }
       by r Greater e =
           let low : cmp y x ≡ Less = order.antisymm y x ∙ ap ordering_reverse e in
-          record { items = y ∷ r.items; sorted = (λ z h. behind low z (r.only z h), r.sorted); here = inr r.here; others = kept r; only = from r }
+          record {
+            items = y ∷ r.items;
+            sorted = (λ z h. behind low z (r.only z h), r.sorted);
+            here = inr r.here;
+            others = kept r;
+            only = from r;
+          }
 
   -- the elements of a list in order, where those that tie are one
   sorted_list : (l : List A) → ((x y : A) → Has l x → Has l y → cmp x y ≡ Equal → x ≡ y) → Order (λ x. Has l x)
@@ -135,4 +167,10 @@ module _ {A : Type 0} (cmp : A → A → Ordering) (order : IsTotalOrder cmp) wh
   pub order_of : (P : A → Type 0) → Listing P → ((x y : A) → P x → P y → cmp x y ≡ Equal → x ≡ y) → Order P
   order_of P all tied =
       let done = sorted_list all.items (λ x y h k. tied x y (all.only x h) (all.only y k)) in
-      record { items = done.items; sorted = done.sorted; each = λ x h. done.each x (all.each x h); only = λ x h. all.only x (done.only x h) }
+      record {
+        items = done.items;
+        sorted = done.sorted;
+        each = λ x h. done.each x (all.each x h);
+        only = λ x h.
+            all.only x (done.only x h);
+      }

@@ -1,5 +1,6 @@
 -- Where first commands lead, and where there is no moment.
-use Rattle.std.specs.Prelude.{◌≡◌, ℕ, ◌+◌, ◌-◌, ◌<◌, ◌≤◌, Bool, false, List, [], ◌∷◌, Option, Some, None, slice_get, refl, ◌⊎◌}
+use Rattle.std.specs.Prelude.{◌≡◌, ℕ, ◌+◌, ◌-◌, ◌<◌, ◌≤◌, Bool, false, List, [], ◌∷◌, Option, Some, None, slice_get}
+use Rattle.std.specs.Prelude.{refl, ◌⊎◌}
 use Rattle.std.proofs.Common.{zero, suc, arith, sym, ap, ◌∙◌, inl, inr}
 use Rattle.bn_circuits.specs.Circuits.{Circuit, target, place_after, place_at}
 use Rattle.bn_circuits.specs.declared.line.Line.{Line}
@@ -8,11 +9,14 @@ use Rattle.bn_circuits.specs.declared.place.Place.TheVariants.{Enter, Left}
 use Rattle.bn_machine.specs.Outcome.{Limits}
 use Rattle.bn_quad.specs.Quadruples.{Quadruples}
 use Rattle.bn_network.specs.declared.cell_line.CellLine.{CellLine}
-use Rattle.bn_network.specs.declared.cell_line.CellLine.TheVariants.{Read, Write, ShiftRight, ShiftLeft, TakeRight, Answer, DoneWrite, DoneRight, DoneLeft, TakeLeft}
+use Rattle.bn_network.specs.declared.cell_line.CellLine.TheVariants.{Read, Write, ShiftRight, ShiftLeft, TakeRight}
+use Rattle.bn_network.specs.declared.cell_line.CellLine.TheVariants.{Answer, DoneWrite, DoneRight, DoneLeft, TakeLeft}
 use Rattle.bn_circuits.specs.Situations.{Situation}
 use Rattle.bn_network.specs.Cells.{IsLineOf, line_number}
-use Rattle.bn_network.specs.Controls.{ControlState, ControlMove, IsEntry, Tape as to_tape, symbol_count, out_number, lines_before}
-use Rattle.bn_network.specs.Networks.{IsNetwork, IsNetWire, commands, replies, rightward, leftward, IsCommand, IsTape, first_cell, cells_in, IsControlAt}
+use Rattle.bn_network.specs.Controls.{ControlState, ControlMove, IsEntry, Tape as to_tape, symbol_count, out_number}
+use Rattle.bn_network.specs.Controls.{lines_before}
+use Rattle.bn_network.specs.Networks.{IsNetwork, IsNetWire, commands, replies, rightward, leftward, IsCommand, IsTape}
+use Rattle.bn_network.specs.Networks.{first_cell, cells_in, IsControlAt}
 use Rattle.bn_circuits.specs.Circuits.{line_at}
 use Rattle.bn_network.specs.Moments.{IsMoment, at_end, sent, TellsMoments}
 use Rattle.bn_network_laws.specs.Commands.{IsCalm}
@@ -26,7 +30,8 @@ after_control l (suc (suc (suc zero))) is = omega arith
 after_control l (suc (suc (suc (suc t)))) is = absurd (let high = is.high in omega arith)
 
 -- only the first cell of a tape is a first cell
-pub one_first : (l : Limits) (t u p : ℕ) → IsTape t → IsTape u → p < cells_in l t → first_cell l t + p ≡ first_cell l u → (t ≡ u) × (p ≡ 0)
+pub one_first : (l : Limits) (t u p : ℕ) → IsTape t → IsTape u → p < cells_in l t → first_cell l t + p ≡ first_cell l u
+    → (t ≡ u) × (p ≡ 0)
 one_first l zero u p ist isu lt e = absurd (let low = ist.low in omega arith)
 one_first l (suc (suc (suc (suc t)))) u p ist isu lt e = absurd (let high = ist.high in omega arith)
 one_first l t zero p ist isu lt e = absurd (let low = isu.low in omega arith)
@@ -42,7 +47,8 @@ one_first l (suc (suc (suc zero))) (suc (suc zero)) p ist isu lt e = absurd (ome
 one_first l (suc (suc (suc zero))) (suc (suc (suc zero))) p ist isu lt e = (refl, omega arith)
 
 -- a module is a cell of one tape, and one cell of it
-pub one_cell : (l : Limits) (t u p q : ℕ) → IsTape t → IsTape u → p < cells_in l t → q < cells_in l u → first_cell l t + p ≡ first_cell l u + q → (t ≡ u)
+pub one_cell : (l : Limits) (t u p q : ℕ) → IsTape t → IsTape u → p < cells_in l t → q < cells_in l u
+    → first_cell l t + p ≡ first_cell l u + q → (t ≡ u)
     × (p ≡ q)
 one_cell l zero u p q ist isu lt lu e = absurd (let low = ist.low in omega arith)
 one_cell l (suc (suc (suc (suc t)))) u p q ist isu lt lu e = absurd (let high = ist.high in omega arith)
@@ -100,9 +106,11 @@ some_lines (z ∷ zs) (suc t) = let more = some_lines zs t in omega arith
 module _ (m : Quadruples) (l : Limits) (names : List ControlState) (k : Circuit) (net : IsNetwork m l names k) where
   -- a command's wire
   pub command_place : (t : ℕ) (c : CellLine) → IsTape t → IsCommand c → IsLineOf (symbol_count m t) c
-      → place_after k.wires (line_at 0 (out_number m (to_tape t c))) ≡ Enter (first_cell l t) (line_number (symbol_count m t) c)
+      → place_after k.wires (line_at 0 (out_number m (to_tape t c)))
+      ≡ Enter (first_cell l t) (line_number (symbol_count m t) c)
   command_place t c is command line =
-      let wire = (net.wires (line_at 0 (out_number m (to_tape t c))) (line_at (first_cell l t) (line_number (symbol_count m t) c))).1 (commands t c is command line refl refl) in
+      let wire = (net.wires (line_at 0 (out_number m (to_tape t c)))
+      (line_at (first_cell l t) (line_number (symbol_count m t) c))).1 (commands t c is command line refl refl) in
       ap (λ o. place_at o (line_at 0 (out_number m (to_tape t c)))) wire
 
   -- the control's line to the outside has no wire
@@ -110,10 +118,17 @@ module _ (m : Quadruples) (l : Limits) (names : List ControlState) (k : Circuit)
   outside_place = by_target (target k.wires (line_at 0 0)) refl
     where
       no_wire : (to : Line) → IsNetWire m l (line_at 0 0) to → ⊥
-      no_wire to (commands t c is command line from there) = let e : 0 ≡ out_number m (to_tape t c) = ap (λ (x : Line). x.line) from in let some = some_lines m.symbols (t - 1) in omega arith
-      no_wire to (replies t c is reply line from there) = let e = same_element 0 0 (first_cell l t) (line_number (symbol_count m t) c) from in let low = after_control l t is in omega arith
-      no_wire to (rightward t p c is lt right line from there) = let e = same_element 0 0 (first_cell l t + p) (line_number (symbol_count m t) c) from in let low = after_control l t is in omega arith
-      no_wire to (leftward t p c is lt left line from there) = let e = same_element 0 0 (first_cell l t + (p + 1)) (line_number (symbol_count m t) c) from in let low = after_control l t is in omega arith
+      no_wire to (commands t c is command line from there) = let e : 0 ≡ out_number m (to_tape t c) =
+          ap (λ (x : Line). x.line) from in let some = some_lines m.symbols (t - 1) in omega arith
+      no_wire to (replies t c is reply line from there) = let e =
+          same_element 0 0 (first_cell l t) (line_number (symbol_count m t) c) from in let low = after_control l t is in
+          omega arith
+      no_wire to (rightward t p c is lt right line from there) = let e =
+          same_element 0 0 (first_cell l t + p) (line_number (symbol_count m t) c) from in let low = after_control l t
+          is in omega arith
+      no_wire to (leftward t p c is lt left line from there) = let e =
+          same_element 0 0 (first_cell l t + (p + 1)) (line_number (symbol_count m t) c) from in let low = after_control
+          l t is in omega arith
 
       by_target : (to : Option Line) → target k.wires (line_at 0 0) ≡ to → place_at to (line_at 0 0) ≡ Left 0 0
       by_target None e = refl
@@ -130,16 +145,31 @@ module _ (m : Quadruples) (l : Limits) (names : List ControlState) (k : Circuit)
   -- by the wire of a control's line
   by_wire : (o : ℕ) (to : Line) → IsNetWire m l (line_at 0 o) to → Leads (Enter to.element to.line)
   by_wire o to (commands t c is command line from there) =
-      record { tape = t; number = line_number (symbol_count m t) c; is = is; small = command_number (symbol_count m t) c command line; place = ap (λ (x : Line). Enter x.element x.line) there }
-  by_wire o to (replies t c is reply line from there) = absurd (let e = same_element 0 o (first_cell l t) (line_number (symbol_count m t) c) from in let low = after_control l t is in omega arith)
-  by_wire o to (rightward t p c is lt right line from there) = absurd (let e = same_element 0 o (first_cell l t + p) (line_number (symbol_count m t) c) from in let low = after_control l t is in omega arith)
-  by_wire o to (leftward t p c is lt left line from there) = absurd (let e = same_element 0 o (first_cell l t + (p + 1)) (line_number (symbol_count m t) c) from in let low = after_control l t is in omega arith)
+      record {
+        tape = t;
+        number = line_number (symbol_count m t) c;
+        is = is;
+        small = command_number (symbol_count m t) c
+            command line;
+        place = ap (λ (x : Line). Enter x.element x.line) there;
+      }
+  by_wire o to (replies t c is reply line from there) = absurd
+      (let e = same_element 0 o (first_cell l t) (line_number (symbol_count m t) c) from in let low = after_control l t
+      is in omega arith)
+  by_wire o to (rightward t p c is lt right line from there) =
+      absurd (let e = same_element 0 o (first_cell l t + p) (line_number (symbol_count m t) c) from in let
+      low = after_control l t is in omega arith)
+  by_wire o to (leftward t p c is lt left line from there) = absurd
+      (let e = same_element 0 o (first_cell l t + (p + 1)) (line_number (symbol_count m t) c) from in let
+      low = after_control l t is in omega arith)
 
   -- it leads outside, or to a first cell by a line of a command
-  pub control_leads : (o : ℕ) → (place_after k.wires (line_at 0 o) ≡ Left 0 o) ⊎ Leads (place_after k.wires (line_at 0 o))
+  pub control_leads : (o : ℕ) → (place_after k.wires (line_at 0 o) ≡ Left 0 o)
+      ⊎ Leads (place_after k.wires (line_at 0 o))
   control_leads o = by_target (target k.wires (line_at 0 o)) refl
     where
-      by_target : (to : Option Line) → target k.wires (line_at 0 o) ≡ to → (place_at to (line_at 0 o) ≡ Left 0 o) ⊎ Leads (place_at to (line_at 0 o))
+      by_target : (to : Option Line) → target k.wires (line_at 0 o) ≡ to
+          → (place_at to (line_at 0 o) ≡ Left 0 o) ⊎ Leads (place_at to (line_at 0 o))
       by_target None e = inl refl
       by_target (Some to) e = inr (by_wire o to ((net.wires (line_at 0 o) to).0 e))
 
@@ -148,7 +178,13 @@ module _ (m : Quadruples) (l : Limits) (names : List ControlState) (k : Circuit)
   moment_leads x a (at_end final place) = inl (0, place)
   moment_leads x a (sent other first entry waits place) = elim (control_leads (out_number m first.1)) [
     | inl gone ↦ inl (out_number m first.1, place ∙ gone)
-    | inr there ↦ inr (record { tape = there.tape; number = there.number; is = there.is; small = there.small; place = place ∙ there.place })
+    | inr there ↦ inr (record {
+      tape = there.tape;
+      number = there.number;
+      is = there.is;
+      small = there.small;
+      place = place ∙ there.place;
+    })
   ]
 
   module _ (test : Situation → Bool) (tells : TellsMoments m names k test) where
@@ -158,7 +194,8 @@ module _ (m : Quadruples) (l : Limits) (names : List ControlState) (k : Circuit)
       where
         none : (a : ℕ) → ((o : ℕ) × (x.place ≡ Left 0 o)) ⊎ Leads x.place → ⊥
         none a (inl gone) = never 0 i 0 gone.0 (sym here ∙ gone.1)
-        none a (inr there) = let e = (entered 0 i (first_cell l there.tape) there.number (sym here ∙ there.place)).0 in let low = after_control l there.tape there.is in omega arith
+        none a (inr there) = let e = (entered 0 i (first_cell l there.tape) there.number (sym here ∙ there.place)).0 in
+            let low = after_control l there.tape there.is in omega arith
 
     -- nor where the signal has left a cell
     pub left_calm : (x : Situation) (e o : ℕ) → 0 < e → x.place ≡ Left e o → test x ≡ false
@@ -170,9 +207,13 @@ module _ (m : Quadruples) (l : Limits) (names : List ControlState) (k : Circuit)
 
     -- nor in a tape's cells, but at the first one's commands
     pub cells_calm : (t : ℕ) → IsTape t → IsCalm m l t test
-    cells_calm t is = record { calm = λ x p i lt past here. tells.none x (λ a now. none x p i lt past here (moment_leads x a now)) }
+    cells_calm t is = record {
+      calm = λ x p i lt past here. tells.none x
+          (λ a now. none x p i lt past here (moment_leads x a now));
+    }
       where
-        none : (x : Situation) (p i : ℕ) → p < cells_in l t → (0 < p) ⊎ (symbol_count m t + 2 < i) → x.place ≡ Enter (first_cell l t + p) i
+        none : (x : Situation) (p i : ℕ) → p < cells_in l t → (0 < p) ⊎ (symbol_count m t + 2 < i)
+            → x.place ≡ Enter (first_cell l t + p) i
             → ((o : ℕ) × (x.place ≡ Left 0 o)) ⊎ Leads x.place → ⊥
         none x p i lt past here (inl gone) = never (first_cell l t + p) i 0 gone.0 (sym here ∙ gone.1)
         none x p i lt (inl some) here (inr there) =

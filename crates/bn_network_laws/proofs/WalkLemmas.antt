@@ -10,7 +10,8 @@ use Rattle.bn_rsm.proofs.RunCostLemmas.{cost-none, one_cost, cost-joins}
 use Rattle.bn_rsm.specs.RunCosts.{run_cost, step_cost, entry_cost}
 
 -- where the signal has left, a step more costs nothing
-pub cost-left : (k : Circuit) (n e o : ℕ) (s t : Situation) → Reaches (Turns k) n s t → t.place ≡ Left e o → run_cost k (n + 1) s ≡ run_cost k n s
+pub cost-left : (k : Circuit) (n e o : ℕ) (s t : Situation) → Reaches (Turns k) n s t → t.place ≡ Left e o
+    → run_cost k (n + 1) s ≡ run_cost k n s
 cost-left k n e o s t path is =
     let sum = cost-joins k n 1 s t path in
     let one = one_cost k t in
@@ -32,10 +33,12 @@ module _ (k : Circuit) (test : Situation → Bool) (each : ℕ) where
   steps s t g cheap = let one = one_cost k s in record { path = (t, g, tt, refl); cost = omega arith }
 
   -- one walk after the other
-  pub joins : (m n p : ℕ) (x y z : Situation) → p ≡ m + n → (0 < m → 0 < n → test y ≡ true) → Walk k test each m x y → Walk k test each n y z
+  pub joins : (m n p : ℕ) (x y z : Situation) → p ≡ m + n → (0 < m → 0 < n → test y ≡ true) → Walk k test each m x y
+      → Walk k test each n y z
       → Walk k test each p x z
   joins m n p x y z sum middle first second =
-      let whole : run_cost k p x ≡ run_cost k m x + run_cost k n y = ap (λ i. run_cost k i x) sum ∙ cost-joins k m n x y (passes_run (Turns k) test m x y first.path) in
+      let whole : run_cost k p x ≡ run_cost k m x + run_cost k n y =
+      ap (λ i. run_cost k i x) sum ∙ cost-joins k m n x y (passes_run (Turns k) test m x y first.path) in
       let cheap_first = first.cost in
       let cheap_second = second.cost in
       let product : p * each ≡ m * each + n * each = ap (λ i. i * each) sum ∙ omega arith in

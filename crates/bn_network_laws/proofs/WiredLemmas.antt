@@ -11,16 +11,20 @@ use Rattle.bn_net.proofs.WiringsLemmas.{apart-IsOneToOne}
 use Rattle.bn_machine.specs.Outcome.{Limits}
 use Rattle.bn_quad.specs.Quadruples.{Quadruples}
 use Rattle.bn_network.specs.declared.cell_line.CellLine.{CellLine}
-use Rattle.bn_network.specs.declared.cell_line.CellLine.TheVariants.{Read, Write, ShiftRight, ShiftLeft, TakeRight, Answer, DoneWrite, DoneRight, DoneLeft, TakeLeft}
+use Rattle.bn_network.specs.declared.cell_line.CellLine.TheVariants.{Read, Write, ShiftRight, ShiftLeft, TakeRight}
+use Rattle.bn_network.specs.declared.cell_line.CellLine.TheVariants.{Answer, DoneWrite, DoneRight, DoneLeft, TakeLeft}
 use Rattle.bn_network.specs.Cells.{IsLineOf, line_number, cell_line, cell_line_count, cell_table}
-use Rattle.bn_network.specs.Controls.{ControlState, Tape as to_tape, symbol_count, in_number, out_number, IsControlTable}
-use Rattle.bn_network.specs.Networks.{IsTape, IsCommand, IsReply, GoesRight, GoesLeft, IsNetWire, commands, replies, rightward, leftward, IsNetwork, cells_in, first_cell, module_tables}
+use Rattle.bn_network.specs.Controls.{ControlState, Tape as to_tape, symbol_count, in_number, out_number}
+use Rattle.bn_network.specs.Controls.{IsControlTable}
+use Rattle.bn_network.specs.Networks.{IsTape, IsCommand, IsReply, GoesRight, GoesLeft, IsNetWire, commands, replies}
+use Rattle.bn_network.specs.Networks.{rightward, leftward, IsNetwork, cells_in, first_cell, module_tables}
 use Rattle.bn_circuits.specs.Circuits.{line_at}
 use Rattle.bn_cell.specs.Reversible.{lines, line_within, valid_line, cells-reversible}
 use Rattle.bn_network.proofs.ListedLemmas.{Listing, alone, either, same, for_each, those, below}
 use Rattle.bn_network_laws.proofs.ListedWireLemmas.{wires_there}
 use Rattle.bn_network_laws.proofs.CellRowLemmas.{cell_at, tables_only}
-use Rattle.bn_network_laws.proofs.PortLemmas.{Port, AtControl, AtCell, IsOut, IsIn, out_line, in_line, leaving, coming, both_ways, order_low, answer_low}
+use Rattle.bn_network_laws.proofs.PortLemmas.{Port, AtControl, AtCell, IsOut, IsIn, out_line, in_line, leaving, coming}
+use Rattle.bn_network_laws.proofs.PortLemmas.{both_ways, order_low, answer_low}
 
 -- ---- the wires, listed
 
@@ -28,13 +32,16 @@ use Rattle.bn_network_laws.proofs.PortLemmas.{Port, AtControl, AtCell, IsOut, Is
 lines_listed : (z : ℕ) → Listing (IsLineOf z)
 lines_listed z =
     same (λ c. (n : ℕ) × (n < cell_line_count z)
-    × (c ≡ cell_line z n)) (IsLineOf z) (for_each (λ n. n < cell_line_count z) (λ n c. c ≡ cell_line z n) (below (cell_line_count z)) (λ n h. alone (λ c. c ≡ cell_line z n) (cell_line z n) refl (λ c e. e)))
-    (λ c h. subst (IsLineOf z) (sym h.2) (valid_line z h.0 h.1)) (λ c h. (line_number z c, line_within z c h, sym (lines z c h)))
+    × (c ≡ cell_line z n)) (IsLineOf z) (for_each (λ n. n < cell_line_count z) (λ n c. c ≡ cell_line z n)
+    (below (cell_line_count z)) (λ n h. alone (λ c. c ≡ cell_line z n) (cell_line z n) refl (λ c e. e)))
+    (λ c h. subst (IsLineOf z) (sym h.2) (valid_line z h.0 h.1))
+    (λ c h. (line_number z c, line_within z c h, sym (lines z c h)))
 
 -- the tapes
 tapes_listed : Listing IsTape
 tapes_listed = same (λ t. (t < 4)
-    × (0 < t)) IsTape (those (λ t. t < 4) (λ t. 0 < t) (below 4) some) (λ t h. let low = h.1 in let high = h.0 in record { low = low; high = omega arith }) (λ t h. let high = h.high in (omega arith, h.low))
+    × (0 < t)) IsTape (those (λ t. t < 4) (λ t. 0 < t) (below 4) some) (λ t h. let low = h.1 in let high =
+    h.0 in record { low = low; high = omega arith }) (λ t h. let high = h.high in (omega arith, h.low))
   where
     some : (t : ℕ) → (0 < t) ⊎ ((0 < t) → ⊥)
     some zero = inr (λ h. omega arith)
@@ -90,14 +97,16 @@ module _ (m : Quadruples) (l : Limits) where
     -- the wire of a tape, a place and a line
     one_listed : (t p : ℕ) (c : CellLine) → Listing (IsOneWire t p c)
     one_listed t p c =
-        alone (IsOneWire t p c) (record { from = leaves t p c; to = ends t p c }) (record { from = refl; to = refl }) (λ w h. let one = h.from in let two = h.to in λ i. record { from = one i; to = two i })
+        alone (IsOneWire t p c) (record { from = leaves t p c; to = ends t p c }) (record { from = refl; to = refl })
+        (λ w h. let one = h.from in let two = h.to in λ i. record { from = one i; to = two i })
 
     kind_listed : ((c : CellLine) → IsKind c ⊎ (IsKind c → ⊥)) → Listing OfKind
     kind_listed tells =
         for_each IsTape AtTape tapes_listed (λ t tape.
         for_each (λ p. p < count t) (AtPlace t) (below (count t)) (λ p low.
         for_each (λ c. IsLineOf (symbol_count m t) c
-        × IsKind c) (IsOneWire t p) (those (IsLineOf (symbol_count m t)) IsKind (lines_listed (symbol_count m t)) tells) (λ c h. one_listed t p c)))
+        × IsKind c) (IsOneWire t p) (those (IsLineOf (symbol_count m t)) IsKind (lines_listed (symbol_count m t)) tells)
+        (λ c h. one_listed t p c)))
 
   -- a line of the control to a tape, and from it
   abbrev order_at : ℕ → ℕ → CellLine → Line
@@ -138,27 +147,42 @@ module _ (m : Quadruples) (l : Limits) where
   of_kinds : (w : Wire) → IsOneOf w → IsNetWire m l w.from w.to
   of_kinds w (inl (inl h)) = commands h.0 h.2.2.0 h.1 h.2.2.1.1 h.2.2.1.0 h.2.2.2.from h.2.2.2.to
   of_kinds w (inl (inr h)) = replies h.0 h.2.2.0 h.1 h.2.2.1.1 h.2.2.1.0 h.2.2.2.from h.2.2.2.to
-  of_kinds w (inr (inl h)) = let low = h.2.1 in rightward h.0 h.2.0 h.2.2.0 h.1 (omega arith) h.2.2.1.1 h.2.2.1.0 h.2.2.2.from h.2.2.2.to
-  of_kinds w (inr (inr h)) = let low = h.2.1 in leftward h.0 h.2.0 h.2.2.0 h.1 (omega arith) h.2.2.1.1 h.2.2.1.0 h.2.2.2.from h.2.2.2.to
+  of_kinds w (inr (inl h)) = let low = h.2.1 in rightward h.0 h.2.0 h.2.2.0 h.1 (omega arith) h.2.2.1.1 h.2.2.1.0
+      h.2.2.2.from h.2.2.2.to
+  of_kinds w (inr (inr h)) = let low = h.2.1 in leftward h.0 h.2.0 h.2.2.0 h.1 (omega arith) h.2.2.1.1 h.2.2.1.0
+      h.2.2.2.from h.2.2.2.to
 
   to_kinds : (w : Wire) → IsNetWire m l w.from w.to → IsOneOf w
-  to_kinds w (commands t c tape kind line f g) = inl (inl (t, tape, (0, omega arith, (c, (line, kind), record { from = f; to = g }))))
-  to_kinds w (replies t c tape kind line f g) = inl (inr (t, tape, (0, omega arith, (c, (line, kind), record { from = f; to = g }))))
-  to_kinds w (rightward t p c tape low kind line f g) = inr (inl (t, tape, (p, omega arith, (c, (line, kind), record { from = f; to = g }))))
-  to_kinds w (leftward t p c tape low kind line f g) = inr (inr (t, tape, (p, omega arith, (c, (line, kind), record { from = f; to = g }))))
+  to_kinds w (commands t c tape kind line f g) = inl (inl (
+    t,
+    tape,
+    (0, omega arith, (c, (line, kind), record { from = f; to = g })),
+  ))
+  to_kinds w (replies t c tape kind line f g) = inl (inr (
+    t,
+    tape,
+    (0, omega arith, (c, (line, kind), record { from = f; to = g })),
+  ))
+  to_kinds w (rightward t p c tape low kind line f g) = inr (inl
+      (t, tape, (p, omega arith, (c, (line, kind), record { from = f; to = g }))))
+  to_kinds w (leftward t p c tape low kind line f g) = inr (inr
+      (t, tape, (p, omega arith, (c, (line, kind), record { from = f; to = g }))))
 
   -- the wires of the network
   wires_listed : Listing (λ (w : Wire). IsNetWire m l w.from w.to)
   wires_listed =
       same IsOneOf (λ w. IsNetWire m l w.from w.to)
       (either (λ w. Commands w ⊎ Replies w) (λ w. Rightward w ⊎ Leftward w)
-      (either Commands Replies (kind_listed IsCommand (λ t. 1) order_at first_at command_tells) (kind_listed IsReply (λ t. 1) first_at answer_at reply_tells))
-      (either Rightward Leftward (kind_listed GoesRight joints here_at next_at right_tells) (kind_listed GoesLeft joints next_at here_at left_tells)))
+      (either Commands Replies (kind_listed IsCommand (λ t. 1) order_at first_at command_tells)
+      (kind_listed IsReply (λ t. 1) first_at answer_at reply_tells))
+      (either Rightward Leftward (kind_listed GoesRight joints here_at next_at right_tells)
+      (kind_listed GoesLeft joints next_at here_at left_tells)))
       of_kinds to_kinds
 
   -- ---- the circuit
 
-  module _ (three : length m.symbols ≡ 3) (names : List ControlState) (control : Table) (is : IsControlTable m names control) where
+  module _ (three : length m.symbols ≡ 3) (names : List ControlState) (control : Table)
+      (is : IsControlTable m names control) where
     abbrev tables : List Table
     tables = module_tables m l control
 
@@ -167,7 +191,8 @@ module _ (m : Quadruples) (l : Limits) where
     out_there (AtControl t c) h = let low = order_low m l three t c h in let count = is.outputs in omega arith
     out_there (AtCell t p c) h =
         let at = cell_at m l control t h.tape p h.place in
-        let count : outputs_of tables (first_cell l t + p) ≡ cell_line_count (symbol_count m t) = ap (λ o. option_map_or (λ (u : Table). u.outputs) o 0) at in
+        let count : outputs_of tables (first_cell l t + p) ≡ cell_line_count (symbol_count m t) =
+        ap (λ o. option_map_or (λ (u : Table). u.outputs) o 0) at in
         let low = line_within (symbol_count m t) c h.line in
         rw count low
 
@@ -176,12 +201,14 @@ module _ (m : Quadruples) (l : Limits) where
     in_there (AtControl t c) h = let low = answer_low m l three t c h in let count = is.inputs in omega arith
     in_there (AtCell t p c) h =
         let at = cell_at m l control t h.tape p h.place in
-        let count : inputs_of tables (first_cell l t + p) ≡ cell_line_count (symbol_count m t) = ap (λ o. option_map_or (λ (u : Table). u.inputs) o 0) at in
+        let count : inputs_of tables (first_cell l t + p) ≡ cell_line_count (symbol_count m t) =
+        ap (λ o. option_map_or (λ (u : Table). u.inputs) o 0) at in
         let low = line_within (symbol_count m t) c h.line in
         rw count low
 
     -- each table is reversible
-    reversible : (t : Table) → (t ≡ control) ⊎ ((u : ℕ) × IsTape u × (t ≡ cell_table (symbol_count m u))) → IsReversible t
+    reversible : (t : Table) → (t ≡ control) ⊎ ((u : ℕ) × IsTape u × (t ≡ cell_table (symbol_count m u)))
+        → IsReversible t
     reversible t (inl e) = subst IsReversible (sym e) is.reversible
     reversible t (inr h) = subst IsReversible (sym h.2) (cells-reversible (symbol_count m h.0))
 

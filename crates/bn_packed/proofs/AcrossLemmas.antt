@@ -1,5 +1,6 @@
 -- Lines across an element from each other, and the ends that are kept by them.
-use Rattle.std.specs.Prelude.{◌≡◌, ℕ, ◌+◌, ◌*◌, ◌/◌, ◌%◌, ◌<◌, ◌≤◌, List, length, map, Option, Some, None, slice_get, option_and_then, bit_xor, refl, ◌⊎◌}
+use Rattle.std.specs.Prelude.{◌≡◌, ℕ, ◌+◌, ◌*◌, ◌/◌, ◌%◌, ◌<◌, ◌≤◌, List, length, map, Option, Some, None, slice_get}
+use Rattle.std.specs.Prelude.{option_and_then, bit_xor, refl, ◌⊎◌}
 use Rattle.std.specs.Option.{option_map}
 use Rattle.std.proofs.Common.{get_or, arith, sym, ap, subst, ◌∙◌, inl, inr}
 use Rattle.std.proofs.lemmas.Bool.Decides.{nat_tests}
@@ -16,8 +17,10 @@ use Rattle.bn_element.specs.declared.rotary.Rotary.{Rotary}
 use Rattle.bn_net.specs.Parts.{Parts}
 use Rattle.bn_net.proofs.WireListLemmas.{line_tells}
 use Rattle.bn_net.specs.Rows.{entry}
-use Rattle.bn_packed.specs.Ends.{nth_line, opposite, ahead, behind, IsLineBelow, EndList, AreEnds, AreEndsOf, AreTargets, IsWiring, end_at, targets_by, sources_by, rows_of, net_of}
-use Rattle.bn_packed.proofs.EndLemmas.{row_entry, row_entry_past, output_below, length-net, target_read, targets-AreEnds, sources-AreEnds}
+use Rattle.bn_packed.specs.Ends.{nth_line, opposite, ahead, behind, IsLineBelow, EndList, AreEnds, AreEndsOf}
+use Rattle.bn_packed.specs.Ends.{AreTargets, IsWiring, end_at, targets_by, sources_by, rows_of, net_of}
+use Rattle.bn_packed.proofs.EndLemmas.{row_entry, row_entry_past, output_below, length-net, target_read}
+use Rattle.bn_packed.proofs.EndLemmas.{targets-AreEnds, sources-AreEnds}
 
 -- ---- lines across
 
@@ -80,11 +83,13 @@ across_twice (Some l) = ap Some (opposite_twice l)
 length_by : (e : EndList) → length (targets_by e).ends ≡ length e.ends
 length_by e = length-map-range_with_len (λ n. end_at e.ends (bit_xor n 2)) 0 (length e.ends)
 
-read_by : (e : EndList) (n : ℕ) → n < length e.ends → slice_get (targets_by e).ends n ≡ Some (end_at e.ends (bit_xor n 2))
+read_by : (e : EndList) (n : ℕ) → n < length e.ends → slice_get (targets_by e).ends n
+    ≡ Some (end_at e.ends (bit_xor n 2))
 read_by e n within =
     let there : n < length (targets_by e).ends = omega (arith, length_by e) in
     slice_get-get_or (targets_by e).ends n None there
-    ∙ ap Some (get_or-map-range_with_len (λ i. end_at e.ends (bit_xor i 2)) 0 (length e.ends) n n None within (omega arith))
+    ∙ ap Some (get_or-map-range_with_len (λ i. end_at e.ends (bit_xor i 2)) 0 (length e.ends) n n None within
+    (omega arith))
 
 -- an end that is read
 pub end_read : (ends : List (Option Line)) (n : ℕ) (o : Option Line) → slice_get ends n ≡ Some o → end_at ends n ≡ o
@@ -96,7 +101,8 @@ read_end ends n within =
     has ∙ ap Some (sym (end_read ends n (get_or ends n None) has))
 
 -- what is kept in the place of a line is the end of the line across
-pub read_across : (e : EndList) (k n : ℕ) (o : Option Line) → length e.ends ≡ 4 * k → slice_get e.ends (bit_xor n 2) ≡ Some o
+pub read_across : (e : EndList) (k n : ℕ) (o : Option Line) → length e.ends ≡ 4 * k
+    → slice_get e.ends (bit_xor n 2) ≡ Some o
     → slice_get (targets_by e).ends n ≡ Some o
 read_across e k n o whole has =
     let within = slice_get_within e.ends (bit_xor n 2) o has in
@@ -106,19 +112,22 @@ read_across e k n o whole has =
     read_by e n (omega arith) ∙ ap Some (end_read e.ends (bit_xor n 2) o has)
 
 -- ends that are ahead of lines tell where output lines lead
-pub ahead-AreTargets : (f : Line → Option Line) (k : ℕ) (e : EndList) → AreEndsOf (λ l. f (opposite l)) k e → AreEndsOf f k (targets_by e)
+pub ahead-AreTargets : (f : Line → Option Line) (k : ℕ) (e : EndList) → AreEndsOf (λ l. f (opposite l)) k e
+    → AreEndsOf f k (targets_by e)
 ahead-AreTargets f k e are = record {
   elements = are.elements;
   ends = record {
     count = length_by e ∙ are.ends.count;
     each = λ i low.
         read_across e k i (f (nth_line i)) are.ends.count
-        (are.ends.each (bit_xor i 2) (number_below i k low) ∙ ap (λ l. Some (f l)) (ap opposite (opposite_number i) ∙ opposite_twice (nth_line i)));
+        (are.ends.each (bit_xor i 2) (number_below i k low) ∙ ap (λ l. Some (f l))
+        (ap opposite (opposite_number i) ∙ opposite_twice (nth_line i)));
   };
 }
 
 -- and the other way round
-pub targets-AreAhead : (f : Line → Option Line) (k : ℕ) (e : EndList) → AreEnds f (4 * k) (targets_by e).ends → AreEnds (λ l. f (opposite l)) (4 * k) e.ends
+pub targets-AreAhead : (f : Line → Option Line) (k : ℕ) (e : EndList) → AreEnds f (4 * k) (targets_by e).ends
+    → AreEnds (λ l. f (opposite l)) (4 * k) e.ends
 targets-AreAhead f k e are = record { count = whole; each = each }
   where
     whole : length e.ends ≡ 4 * k
@@ -131,14 +140,17 @@ targets-AreAhead f k e are = record { count = whole; each = each }
         let beyond : bit_xor i 2 < length e.ends = omega (arith, whole) in
         let told : Some (end_at e.ends (bit_xor (bit_xor i 2) 2)) ≡ Some (f (nth_line (bit_xor i 2))) =
         sym (read_by e (bit_xor i 2) beyond) ∙ are.each (bit_xor i 2) over in
-        read_end e.ends i within ∙ ap (λ n. Some (end_at e.ends n)) (sym (xor_twice i)) ∙ told ∙ ap (λ l. Some (f l)) (opposite_number i)
+        read_end e.ends i within ∙ ap (λ n. Some (end_at e.ends n)) (sym (xor_twice i)) ∙ told
+        ∙ ap (λ l. Some (f l)) (opposite_number i)
 
 -- ends that are behind lines, by where input lines come from
-pub sources-AreBehind : (f : Line → Option Line) (n : ℕ) (e : EndList) → AreEnds f n (sources_by e).ends → AreEnds (λ l. option_map opposite (f l)) n e.ends
+pub sources-AreBehind : (f : Line → Option Line) (n : ℕ) (e : EndList) → AreEnds f n (sources_by e).ends
+    → AreEnds (λ l. option_map opposite (f l)) n e.ends
 sources-AreBehind f n e are = record {
   count = sym (length-map e.ends (option_map opposite)) ∙ are.count;
   each = λ i low.
-      let within : i < length e.ends = (let count = are.count in let same : length (sources_by e).ends ≡ length e.ends = length-map e.ends (option_map opposite) in omega arith) in
+      let within : i < length e.ends = (let count = are.count in let same : length (sources_by e).ends
+      ≡ length e.ends = length-map e.ends (option_map opposite) in omega arith) in
       let has = read_end e.ends i within in
       let told : Some (across (end_at e.ends i)) ≡ Some (f (nth_line i)) =
       sym (ap (option_map across) has) ∙ sym (slice_get-map across e.ends i) ∙ are.each i low in
@@ -154,13 +166,15 @@ targets_ahead e are = record {
   whole = whole;
   inside = λ i to has. are.inside (bit_xor i 2) to (by i to has);
   apart = λ i j to has_i has_j.
-      sym (xor_twice i) ∙ ap (λ n. bit_xor n 2) (are.apart (bit_xor i 2) (bit_xor j 2) to (by i to has_i) (by j to has_j)) ∙ xor_twice j;
+      sym (xor_twice i) ∙ ap (λ n. bit_xor n 2) (are.apart (bit_xor i 2) (bit_xor j 2) to (by i to has_i)
+      (by j to has_j)) ∙ xor_twice j;
 }
   where
     whole : length e.ends ≡ 4 * e.elements
     whole = sym (length_by e) ∙ are.whole
 
-    by : (i : ℕ) (to : Line) → slice_get e.ends i ≡ Some (Some to) → slice_get (targets_by e).ends (bit_xor i 2) ≡ Some (Some to)
+    by : (i : ℕ) (to : Line) → slice_get e.ends i ≡ Some (Some to)
+        → slice_get (targets_by e).ends (bit_xor i 2) ≡ Some (Some to)
     by i to has = read_across e e.elements (bit_xor i 2) (Some to) whole (ap (slice_get e.ends) (xor_twice i) ∙ has)
 
 -- ---- rows of four
@@ -169,7 +183,8 @@ sides : (l : ℕ) → (4 ≤ l) ⊎ (l < 4)
 sides l = grind (arith, nat_tests)
 
 -- the row's entry of a line is that of the line across
-entry_by : (e : EndList) (k : ℕ) (l : Line) → length e.ends ≡ 4 * k → entry (rows_of (targets_by e).ends) l ≡ entry (rows_of e.ends) (opposite l)
+entry_by : (e : EndList) (k : ℕ) (l : Line) → length e.ends ≡ 4 * k
+    → entry (rows_of (targets_by e).ends) l ≡ entry (rows_of e.ends) (opposite l)
 entry_by e k l whole = by_line (sides l.line)
   where
     past : 4 ≤ l.line → 4 ≤ bit_xor l.line 2
@@ -178,7 +193,8 @@ entry_by e k l whole = by_line (sides l.line)
     n : ℕ
     n = 4 * l.element + l.line
 
-    ends : (n < length e.ends) ⊎ (length e.ends ≤ n) → l.line < 4 → end_at (targets_by e).ends n ≡ end_at e.ends (bit_xor n 2)
+    ends : (n < length e.ends) ⊎ (length e.ends ≤ n) → l.line < 4
+        → end_at (targets_by e).ends n ≡ end_at e.ends (bit_xor n 2)
     ends (inl within) low = end_read (targets_by e).ends n (end_at e.ends (bit_xor n 2)) (read_by e n within)
     ends (inr beyond) low =
         let same = same_element n 2 refl in
@@ -190,12 +206,15 @@ entry_by e k l whole = by_line (sides l.line)
 
     by_line : (4 ≤ l.line) ⊎ (l.line < 4) → entry (rows_of (targets_by e).ends) l ≡ entry (rows_of e.ends) (opposite l)
     by_line (inl high) =
-        row_entry_past (targets_by e).ends l.element l.line high ∙ sym (row_entry_past e.ends l.element (bit_xor l.line 2) (past high))
+        row_entry_past (targets_by e).ends l.element l.line high
+        ∙ sym (row_entry_past e.ends l.element (bit_xor l.line 2) (past high))
     by_line (inr low) =
         row_entry (targets_by e).ends k l.element l.line n (length_by e ∙ whole) low refl ∙ ends reach low
-        ∙ sym (row_entry e.ends k l.element (bit_xor l.line 2) (bit_xor n 2) whole (across_low l.line low) (number_across l.element l.line low))
+        ∙ sym (row_entry e.ends k l.element (bit_xor l.line 2) (bit_xor n 2) whole (across_low l.line low)
+        (number_across l.element l.line low))
 
-entry_across : (e : EndList) (k : ℕ) (l : Line) → length e.ends ≡ 4 * k → entry (rows_of (sources_by e).ends) l ≡ across (entry (rows_of e.ends) l)
+entry_across : (e : EndList) (k : ℕ) (l : Line) → length e.ends ≡ 4 * k
+    → entry (rows_of (sources_by e).ends) l ≡ across (entry (rows_of e.ends) l)
 entry_across e k l whole = by_line (sides l.line)
   where
     n : ℕ
@@ -204,13 +223,15 @@ entry_across e k l whole = by_line (sides l.line)
     whole_by : length (sources_by e).ends ≡ 4 * k
     whole_by = length-map e.ends (option_map opposite) ∙ whole
 
-    through : (o : Option (Option Line)) → option_and_then (λ x. x) (option_map across o) ≡ across (option_and_then (λ x. x) o)
+    through : (o : Option (Option Line)) → option_and_then (λ x. x) (option_map across o)
+        ≡ across (option_and_then (λ x. x) o)
     through None = refl
     through (Some o) = refl
 
     by_line : (4 ≤ l.line) ⊎ (l.line < 4) → entry (rows_of (sources_by e).ends) l ≡ across (entry (rows_of e.ends) l)
     by_line (inl high) =
-        row_entry_past (sources_by e).ends l.element l.line high ∙ sym (ap across (row_entry_past e.ends l.element l.line high))
+        row_entry_past (sources_by e).ends l.element l.line high
+        ∙ sym (ap across (row_entry_past e.ends l.element l.line high))
     by_line (inr low) =
         row_entry (sources_by e).ends k l.element l.line n whole_by low refl
         ∙ ap (option_and_then (λ x. x)) (slice_get-map across e.ends n) ∙ through (slice_get e.ends n)
@@ -225,24 +246,30 @@ across-IsWiring e s wiring = record {
   all_sources = length-map s.ends (option_map opposite) ∙ wiring.all_sources;
   paired = λ from to. (
     λ h.
-        let led : entry (rows_of e.ends) (opposite from) ≡ Some to = sym (entry_by e e.elements from wiring.all_targets) ∙ h in
-        entry_across s e.elements to wiring.all_sources ∙ ap across ((wiring.paired (opposite from) to).0 led) ∙ ap Some (opposite_twice from),
+        let led : entry (rows_of e.ends) (opposite from) ≡ Some to =
+        sym (entry_by e e.elements from wiring.all_targets) ∙ h in
+        entry_across s e.elements to wiring.all_sources ∙ ap across ((wiring.paired (opposite from) to).0 led)
+        ∙ ap Some (opposite_twice from),
     λ h.
         let came : entry (rows_of s.ends) to ≡ Some (opposite from) =
-        sym (across_twice (entry (rows_of s.ends) to)) ∙ ap across (sym (entry_across s e.elements to wiring.all_sources) ∙ h) in
+        sym (across_twice (entry (rows_of s.ends) to)) ∙ ap across
+        (sym (entry_across s e.elements to wiring.all_sources) ∙ h) in
         entry_by e e.elements from wiring.all_targets ∙ (wiring.paired (opposite from) to).1 came,
   );
 }
 
 -- ---- what a wiring keeps
 
-pub across_there : (e : EndList) (now : Parts Rotary) (from over : Line) → net_of (targets_by e) ≡ now → over ≡ opposite from
+pub across_there : (e : EndList) (now : Parts Rotary) (from over : Line) → net_of (targets_by e) ≡ now
+    → over ≡ opposite from
     → IsOutputOf (map (λ _. rotary) now.elements) from → IsLineBelow e.elements over
 across_there e now from over is across_from there =
-    let below = subst (λ n. IsLineBelow n from) (length-net (targets_by e) now is) (output_below now.elements from there) in
+    let below = subst (λ n. IsLineBelow n from) (length-net (targets_by e) now is)
+    (output_below now.elements from there) in
     subst (IsLineBelow e.elements) (sym across_from) (opposite_below e.elements from below)
 
-pub across_read : (e s : EndList) (now : Parts Rotary) (from over : Line) (o : Option Line) → IsWiring (targets_by e) (sources_by s)
+pub across_read : (e s : EndList) (now : Parts Rotary) (from over : Line) (o : Option Line)
+    → IsWiring (targets_by e) (sources_by s)
     → net_of (targets_by e) ≡ now → over ≡ opposite from → IsOutputOf (map (λ _. rotary) now.elements) from
     → slice_get e.ends (4 * over.element + over.line) ≡ Some o → o ≡ target now.wires from
 across_read e s now from over o wiring is across_from there has =
@@ -253,14 +280,16 @@ across_read e s now from over o wiring is across_from there has =
     target_read (targets_by e) (sources_by s) now from o wiring is there
     (read_across e e.elements (4 * from.element + from.line) o whole (ap (slice_get e.ends) number ∙ has))
 
-pub ahead-AreEnds : (e s : EndList) (now : Parts Rotary) (ends : List (Option Line)) → IsWiring (targets_by e) (sources_by s) → net_of (targets_by e) ≡ now
+pub ahead-AreEnds : (e s : EndList) (now : Parts Rotary) (ends : List (Option Line))
+    → IsWiring (targets_by e) (sources_by s) → net_of (targets_by e) ≡ now
     → ends ≡ e.ends → AreEnds (ahead now.wires) (4 * length now.elements) ends
 ahead-AreEnds e s now ends wiring is same =
     subst (AreEnds (ahead now.wires) (4 * length now.elements)) (sym same)
     (targets-AreAhead (target now.wires) (length now.elements) e
     (targets-AreEnds (targets_by e) (sources_by s) now (targets_by e).ends wiring is refl))
 
-pub behind-AreEnds : (e s : EndList) (now : Parts Rotary) (ends : List (Option Line)) → IsWiring (targets_by e) (sources_by s) → net_of (targets_by e) ≡ now
+pub behind-AreEnds : (e s : EndList) (now : Parts Rotary) (ends : List (Option Line))
+    → IsWiring (targets_by e) (sources_by s) → net_of (targets_by e) ≡ now
     → ends ≡ s.ends → AreEnds (behind now.wires) (4 * length now.elements) ends
 behind-AreEnds e s now ends wiring is same =
     subst (AreEnds (behind now.wires) (4 * length now.elements)) (sym same)

@@ -1,5 +1,6 @@
 -- The way back that belongs to a way ahead: there is one, whether it is made or not.
-use Rattle.std.specs.Prelude.{◌≡◌, ℕ, ◌+◌, ◌*◌, ◌≤◌, List, false, true, length, replicate, Option, Some, None, MatchOption, is_none, is_some, slice_get, slice_set, refl}
+use Rattle.std.specs.Prelude.{◌≡◌, ℕ, ◌+◌, ◌*◌, ◌≤◌, List, false, true, length, replicate, Option, Some, None}
+use Rattle.std.specs.Prelude.{MatchOption, is_none, is_some, slice_get, slice_set, refl}
 use Rattle.std.proofs.Common.{zero, suc, arith, inl, inr, subst}
 use Rattle.std.proofs.lemmas.Option.{slice_get_cases}
 use Rattle.bn_circuits.specs.declared.line.Line.{Line}
@@ -18,7 +19,8 @@ module _ (e : EndList) (are : AreTargets e) where
       next : {back : List (Option Line)} → AreReversed e.ends (n + 1) back → AreReversed e.ends (suc n) back
       next {back} so_far = let same : n + 1 ≡ suc n = omega arith in subst (λ k. AreReversed e.ends k back) same so_far
 
-      one_more : ((back : List (Option Line)) × AreReversed e.ends n back) → (o : Option (Option Line)) → slice_get e.ends n ≡ o
+      one_more : ((back : List (Option Line)) × AreReversed e.ends n back) → (o : Option (Option Line))
+          → slice_get e.ends n ≡ o
           → (back : List (Option Line)) × AreReversed e.ends (suc n) back
       one_more so_far None is = elim (slice_get_cases e.ends n).1 [
         | inl here ↦ (let has : slice_get e.ends n ≡ Some here.0 = here.2 in absurd (cc))
@@ -36,7 +38,8 @@ module _ (e : EndList) (are : AreTargets e) where
       (s, across-IsWiring e s (reversed-IsWiring e s are refl back.1))
 
 -- where no room is left, it is made
-pub way_back-IsWiring : {X : Type 0} (room : Option X) (Made : Type 0) (Unmade : X → Type 0) → is_none room ≡ true → MatchOption room Made Unmade → Made
+pub way_back-IsWiring : {X : Type 0} (room : Option X) (Made : Type 0) (Unmade : X → Type 0) → is_none room ≡ true
+    → MatchOption room Made Unmade → Made
 way_back-IsWiring None Made Unmade is made = made
 way_back-IsWiring (Some room) Made Unmade is unmade = absurd (cc)
 

@@ -18,10 +18,12 @@ four P a b c d (suc (suc zero)) low = c
 four P a b c d (suc (suc (suc zero))) low = d
 four P a b c d (suc (suc (suc (suc l)))) low = absurd (omega arith)
 
-pub upright_along : (bars : List ℕ) (n m : ℕ) → slice_get bars (line_of n).element ≡ Some 1 → n / 1024 % 2 ≡ 0 → m ≡ n → HasCrossed bars n bars m
+pub upright_along : (bars : List ℕ) (n m : ℕ) → slice_get bars (line_of n).element ≡ Some 1 → n / 1024 % 2 ≡ 0 → m ≡ n
+    → HasCrossed bars n bars m
 upright_along bars n m has even is = record {
   same = ap (λ x. (line_of x).element) is;
-  moved = by_line (line_of n).line (omega arith) (omega arith) ∙ ap (λ x. Some (bars, bit_xor (line_of x).line 2)) (sym is);
+  moved = by_line (line_of n).line (omega arith) (omega arith)
+      ∙ ap (λ x. Some (bars, bit_xor (line_of x).line 2)) (sym is);
 }
   where
     by_line : (l : ℕ) → l < 4 → l % 2 ≡ 0 → crossed bars (line_of n).element l ≡ Some (bars, bit_xor l 2)
@@ -31,10 +33,12 @@ upright_along bars n m has even is = record {
         (λ e. rw has (ap (λ x. Some (x, 0)) (set_same bars (line_of n).element 1 has)))
         (λ e. absurd cc)
 
-pub level_along : (bars : List ℕ) (n m : ℕ) → slice_get bars (line_of n).element ≡ Some 0 → n / 1024 % 2 ≡ 1 → m ≡ n → HasCrossed bars n bars m
+pub level_along : (bars : List ℕ) (n m : ℕ) → slice_get bars (line_of n).element ≡ Some 0 → n / 1024 % 2 ≡ 1 → m ≡ n
+    → HasCrossed bars n bars m
 level_along bars n m has odd is = record {
   same = ap (λ x. (line_of x).element) is;
-  moved = by_line (line_of n).line (omega arith) (omega arith) ∙ ap (λ x. Some (bars, bit_xor (line_of x).line 2)) (sym is);
+  moved = by_line (line_of n).line (omega arith) (omega arith)
+      ∙ ap (λ x. Some (bars, bit_xor (line_of x).line 2)) (sym is);
 }
   where
     by_line : (l : ℕ) → l < 4 → l % 2 ≡ 1 → crossed bars (line_of n).element l ≡ Some (bars, bit_xor l 2)
@@ -45,44 +49,54 @@ level_along bars n m has odd is = record {
         (λ e. rw has (ap (λ x. Some (x, 1)) (set_same bars (line_of n).element 0 has)))
 
 -- the bars after a turn
-set_by : (bars after : List ℕ) (e q : ℕ) → slice_get bars e ≡ Some q → turned bars e ≡ Some after → slice_set bars e (1 - q) ≡ after
+set_by : (bars after : List ℕ) (e q : ℕ) → slice_get bars e ≡ Some q → turned bars e ≡ Some after
+    → slice_set bars e (1 - q) ≡ after
 set_by bars after e q has turn = let h : Some (slice_set bars e (1 - q)) ≡ Some after = rw has at turn in cc
 
-pub upright_across : (bars after : List ℕ) (n m : ℕ) → slice_get bars (line_of n).element ≡ Some 1 → n / 1024 % 2 ≡ 1 → turned bars (line_of n).element ≡ Some after → m ≡ bit_xor n 3072
+pub upright_across : (bars after : List ℕ) (n m : ℕ) → slice_get bars (line_of n).element ≡ Some 1 → n / 1024 % 2 ≡ 1
+    → turned bars (line_of n).element ≡ Some after → m ≡ bit_xor n 3072
     → HasCrossed bars n after m
 upright_across bars after n m has odd turn is = record {
   same = ap (λ x. (line_of x).element) is ∙ over_element n 3072 refl refl;
-  moved = by_line (line_of n).line (omega arith) (omega arith) ∙ ap (λ x. Some (after, bit_xor x 2)) (sym (ap (λ x. (line_of x).line) is ∙ over_line n 3072));
+  moved = by_line (line_of n).line (omega arith) (omega arith)
+      ∙ ap (λ x. Some (after, bit_xor x 2)) (sym (ap (λ x. (line_of x).line) is ∙ over_line n 3072));
 }
   where
     written : slice_set bars (line_of n).element 0 ≡ after
     written = set_by bars after (line_of n).element 1 has turn
 
-    by_line : (l : ℕ) → l < 4 → l % 2 ≡ 1 → crossed bars (line_of n).element l ≡ Some (after, bit_xor (bit_xor l (3072 / 1024 % 4)) 2)
-    by_line = four (λ l. l % 2 ≡ 1 → crossed bars (line_of n).element l ≡ Some (after, bit_xor (bit_xor l (3072 / 1024 % 4)) 2))
+    by_line : (l : ℕ) → l < 4 → l % 2 ≡ 1 → crossed bars (line_of n).element l
+        ≡ Some (after, bit_xor (bit_xor l (3072 / 1024 % 4)) 2)
+    by_line = four (λ l. l % 2 ≡ 1 → crossed bars (line_of n).element l
+        ≡ Some (after, bit_xor (bit_xor l (3072 / 1024 % 4)) 2))
         (λ e. absurd cc)
         (λ e. rw has (ap (λ x. Some (x, 0)) written))
         (λ e. absurd cc)
         (λ e. rw has (ap (λ x. Some (x, 2)) written))
 
-pub level_across : (bars after : List ℕ) (n m : ℕ) → slice_get bars (line_of n).element ≡ Some 0 → n / 1024 % 2 ≡ 0 → turned bars (line_of n).element ≡ Some after → m ≡ bit_xor n 1024
+pub level_across : (bars after : List ℕ) (n m : ℕ) → slice_get bars (line_of n).element ≡ Some 0 → n / 1024 % 2 ≡ 0
+    → turned bars (line_of n).element ≡ Some after → m ≡ bit_xor n 1024
     → HasCrossed bars n after m
 level_across bars after n m has even turn is = record {
   same = ap (λ x. (line_of x).element) is ∙ over_element n 1024 refl refl;
-  moved = by_line (line_of n).line (omega arith) (omega arith) ∙ ap (λ x. Some (after, bit_xor x 2)) (sym (ap (λ x. (line_of x).line) is ∙ over_line n 1024));
+  moved = by_line (line_of n).line (omega arith) (omega arith)
+      ∙ ap (λ x. Some (after, bit_xor x 2)) (sym (ap (λ x. (line_of x).line) is ∙ over_line n 1024));
 }
   where
     written : slice_set bars (line_of n).element 1 ≡ after
     written = set_by bars after (line_of n).element 0 has turn
 
-    by_line : (l : ℕ) → l < 4 → l % 2 ≡ 0 → crossed bars (line_of n).element l ≡ Some (after, bit_xor (bit_xor l (1024 / 1024 % 4)) 2)
-    by_line = four (λ l. l % 2 ≡ 0 → crossed bars (line_of n).element l ≡ Some (after, bit_xor (bit_xor l (1024 / 1024 % 4)) 2))
+    by_line : (l : ℕ) → l < 4 → l % 2 ≡ 0 → crossed bars (line_of n).element l
+        ≡ Some (after, bit_xor (bit_xor l (1024 / 1024 % 4)) 2)
+    by_line = four (λ l. l % 2 ≡ 0 → crossed bars (line_of n).element l
+        ≡ Some (after, bit_xor (bit_xor l (1024 / 1024 % 4)) 2))
         (λ e. rw has (ap (λ x. Some (x, 3)) written))
         (λ e. absurd cc)
         (λ e. rw has (ap (λ x. Some (x, 1)) written))
         (λ e. absurd cc)
 
-pub back_upright_along : (bars : List ℕ) (n m : ℕ) → slice_get bars (line_of n).element ≡ Some 1 → n / 1024 % 2 ≡ 0 → m ≡ n
+pub back_upright_along : (bars : List ℕ) (n m : ℕ) → slice_get bars (line_of n).element ≡ Some 1 → n / 1024 % 2 ≡ 0
+    → m ≡ n
     → HasCrossedBack bars n bars m
 back_upright_along bars n m has par is = record {
   same = ap (λ x. (line_of x).element) is;
@@ -96,7 +110,8 @@ back_upright_along bars n m has par is = record {
         (λ e. rw has (ap (λ x. Some (x, 2)) (set_same bars (line_of n).element 1 has)))
         (λ e. absurd cc)
 
-pub back_level_along : (bars : List ℕ) (n m : ℕ) → slice_get bars (line_of n).element ≡ Some 0 → n / 1024 % 2 ≡ 1 → m ≡ n
+pub back_level_along : (bars : List ℕ) (n m : ℕ) → slice_get bars (line_of n).element ≡ Some 0 → n / 1024 % 2 ≡ 1
+    → m ≡ n
     → HasCrossedBack bars n bars m
 back_level_along bars n m has par is = record {
   same = ap (λ x. (line_of x).element) is;
@@ -110,42 +125,51 @@ back_level_along bars n m has par is = record {
         (λ e. absurd cc)
         (λ e. rw has (ap (λ x. Some (x, 3)) (set_same bars (line_of n).element 0 has)))
 
-pub back_upright_across : (bars after : List ℕ) (n m : ℕ) → slice_get bars (line_of n).element ≡ Some 1 → n / 1024 % 2 ≡ 1 → turned bars (line_of n).element ≡ Some after → m ≡ bit_xor n 1024
+pub back_upright_across : (bars after : List ℕ) (n m : ℕ) → slice_get bars (line_of n).element ≡ Some 1
+    → n / 1024 % 2 ≡ 1 → turned bars (line_of n).element ≡ Some after → m ≡ bit_xor n 1024
     → HasCrossedBack bars n after m
 back_upright_across bars after n m has par turn is = record {
   same = ap (λ x. (line_of x).element) is ∙ over_element n 1024 refl refl;
-  moved = by_line (line_of n).line (omega arith) (omega arith) ∙ ap (λ x. Some (after, x)) (sym (ap (λ x. (line_of x).line) is ∙ over_line n 1024));
+  moved = by_line (line_of n).line (omega arith) (omega arith)
+      ∙ ap (λ x. Some (after, x)) (sym (ap (λ x. (line_of x).line) is ∙ over_line n 1024));
 }
   where
     written : slice_set bars (line_of n).element 0 ≡ after
     written = set_by bars after (line_of n).element 1 has turn
 
-    by_line : (l : ℕ) → l < 4 → l % 2 ≡ 1 → crossed_back bars (line_of n).element (bit_xor l 2) ≡ Some (after, bit_xor l (1024 / 1024 % 4))
-    by_line = four (λ l. l % 2 ≡ 1 → crossed_back bars (line_of n).element (bit_xor l 2) ≡ Some (after, bit_xor l (1024 / 1024 % 4)))
+    by_line : (l : ℕ) → l < 4 → l % 2 ≡ 1 → crossed_back bars (line_of n).element (bit_xor l 2)
+        ≡ Some (after, bit_xor l (1024 / 1024 % 4))
+    by_line = four (λ l. l % 2 ≡ 1 → crossed_back bars (line_of n).element (bit_xor l 2)
+        ≡ Some (after, bit_xor l (1024 / 1024 % 4)))
         (λ e. absurd cc)
         (λ e. rw has (ap (λ x. Some (x, 0)) written))
         (λ e. absurd cc)
         (λ e. rw has (ap (λ x. Some (x, 2)) written))
 
-pub back_level_across : (bars after : List ℕ) (n m : ℕ) → slice_get bars (line_of n).element ≡ Some 0 → n / 1024 % 2 ≡ 0 → turned bars (line_of n).element ≡ Some after → m ≡ bit_xor n 3072
+pub back_level_across : (bars after : List ℕ) (n m : ℕ) → slice_get bars (line_of n).element ≡ Some 0 → n / 1024 % 2 ≡ 0
+    → turned bars (line_of n).element ≡ Some after → m ≡ bit_xor n 3072
     → HasCrossedBack bars n after m
 back_level_across bars after n m has par turn is = record {
   same = ap (λ x. (line_of x).element) is ∙ over_element n 3072 refl refl;
-  moved = by_line (line_of n).line (omega arith) (omega arith) ∙ ap (λ x. Some (after, x)) (sym (ap (λ x. (line_of x).line) is ∙ over_line n 3072));
+  moved = by_line (line_of n).line (omega arith) (omega arith)
+      ∙ ap (λ x. Some (after, x)) (sym (ap (λ x. (line_of x).line) is ∙ over_line n 3072));
 }
   where
     written : slice_set bars (line_of n).element 1 ≡ after
     written = set_by bars after (line_of n).element 0 has turn
 
-    by_line : (l : ℕ) → l < 4 → l % 2 ≡ 0 → crossed_back bars (line_of n).element (bit_xor l 2) ≡ Some (after, bit_xor l (3072 / 1024 % 4))
-    by_line = four (λ l. l % 2 ≡ 0 → crossed_back bars (line_of n).element (bit_xor l 2) ≡ Some (after, bit_xor l (3072 / 1024 % 4)))
+    by_line : (l : ℕ) → l < 4 → l % 2 ≡ 0 → crossed_back bars (line_of n).element (bit_xor l 2)
+        ≡ Some (after, bit_xor l (3072 / 1024 % 4))
+    by_line = four (λ l. l % 2 ≡ 0 → crossed_back bars (line_of n).element (bit_xor l 2)
+        ≡ Some (after, bit_xor l (3072 / 1024 % 4)))
         (λ e. rw has (ap (λ x. Some (x, 3)) written))
         (λ e. absurd cc)
         (λ e. rw has (ap (λ x. Some (x, 1)) written))
         (λ e. absurd cc)
 
 -- by the element and the line
-pub back_line : (bars before : List ℕ) (e l n m : ℕ) → l < 4 → n ≡ number_of (opposite (record { element = e; line = l }))
+pub back_line : (bars before : List ℕ) (e l n m : ℕ) → l < 4
+    → n ≡ number_of (opposite (record { element = e; line = l }))
     → HasCrossedBack bars n before m → crossed_back bars e l ≡ Some (before, m / 1024 % 4)
 back_line bars before e l n m low is back =
     let same : line_of n ≡ opposite (record { element = e; line = l }) =

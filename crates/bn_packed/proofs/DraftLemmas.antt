@@ -1,5 +1,6 @@
 -- Wires that are put in some at a time.
-use Rattle.std.specs.Prelude.{◌≡◌, ◌⊎◌, ℕ, ◌+◌, ◌-◌, ◌*◌, ◌<◌, ◌≤◌, List, [], ◌∷◌, ◌++◌, length, replicate, take, Some, None, slice_get, slice_set, refl}
+use Rattle.std.specs.Prelude.{◌≡◌, ◌⊎◌, ℕ, ◌+◌, ◌-◌, ◌*◌, ◌<◌, ◌≤◌, List, [], ◌∷◌, ◌++◌, length, replicate, take, Some}
+use Rattle.std.specs.Prelude.{None, slice_get, slice_set, refl}
 use Rattle.std.proofs.Common.{zero, suc, arith, sym, ap, subst, ◌∙◌, inl, inr}
 use Rattle.std.proofs.lemmas.Bool.Decides.{nat_tests}
 use Rattle.std.proofs.Math.Seq.{take-append_seam}
@@ -12,7 +13,8 @@ use Rattle.bn_packed.specs.Ends.{opposite, ahead, EndList, AreEndsOf}
 use Rattle.bn_packed.specs.Drafts.{AreDrawn}
 use Rattle.bn_packed.proofs.ListedLemmas.{ends_none, ends_more}
 
-pub drawn_none : (count : ℕ) (e : EndList) → e.elements ≡ count → e.ends ≡ replicate (4 * count) None → AreDrawn count [] e
+pub drawn_none : (count : ℕ) (e : EndList) → e.elements ≡ count → e.ends ≡ replicate (4 * count) None
+    → AreDrawn count [] e
 drawn_none count e elements ends = record {
   apart = tt;
   fitting = record { fits = λ n w h. absurd (cc) };
@@ -51,23 +53,28 @@ AreAdded count before vs n now = (ws : List Wire) → AreDrawn count ws before �
 
 pub added_none : (count : ℕ) (e : EndList) (vs : List Wire) → AreAdded count e vs 0 e
 added_none count e vs ws drawn apart =
-    let same : take (length ws + 0) (ws ++ vs) ≡ ws = ap (λ n. take n (ws ++ vs)) (omega arith) ∙ take-append_seam ws vs in
+    let same : take (length ws + 0) (ws ++ vs) ≡ ws = ap (λ n. take n (ws ++ vs)) (omega arith)
+    ∙ take-append_seam ws vs in
     subst (λ xs. AreEndsOf (ahead xs) count e) (sym same) drawn.ends
 
-pub added_more : (count : ℕ) (e before after : EndList) (vs : List Wire) (n : ℕ) (w : Wire) (over : Line) → AreFitting count vs → slice_get vs n ≡ Some w
+pub added_more : (count : ℕ) (e before after : EndList) (vs : List Wire) (n : ℕ) (w : Wire) (over : Line)
+    → AreFitting count vs → slice_get vs n ≡ Some w
     → over ≡ opposite w.from → AreAdded count e vs n before → after.elements ≡ before.elements
     → after.ends ≡ slice_set before.ends (4 * over.element + over.line) (Some w.to) → AreAdded count e vs (n + 1) after
 added_more count e before after vs n w over fitting has is so_far elements ends ws drawn apart =
     let at : slice_get (ws ++ vs) (length ws + n) ≡ Some w = get-behind ws vs n ∙ has in
     let next : length ws + n + 1 ≡ length ws + (n + 1) = omega arith in
     subst (λ k. AreEndsOf (ahead (take k (ws ++ vs))) count after) next
-    (ends_more count (ws ++ vs) (length ws + n) w over before after apart (fitting_both count ws vs drawn.fitting fitting)
+    (ends_more count (ws ++ vs) (length ws + n) w over before after apart
+    (fitting_both count ws vs drawn.fitting fitting)
     (slice_get_within (ws ++ vs) (length ws + n) w at) at is (so_far ws drawn apart) elements ends)
 
-pub added_all : (count : ℕ) (e now : EndList) (vs : List Wire) (n : ℕ) → AreFitting count vs → length vs ≤ n → AreAdded count e vs n now
+pub added_all : (count : ℕ) (e now : EndList) (vs : List Wire) (n : ℕ) → AreFitting count vs → length vs ≤ n
+    → AreAdded count e vs n now
     → (ws : List Wire) → AreDrawn count ws e → AreApart (ws ++ vs) → AreDrawn count (ws ++ vs) now
 added_all count e now vs n fitting all added ws drawn apart =
-    let whole : take (length ws + n) (ws ++ vs) ≡ ws ++ vs = take_all (length ws + n) (ws ++ vs) (omega (arith, length-append ws vs)) in
+    let whole : take (length ws + n) (ws ++ vs) ≡ ws ++ vs = take_all (length ws + n) (ws ++ vs)
+    (omega (arith, length-append ws vs)) in
     record {
       apart = apart;
       fitting = fitting_both count ws vs drawn.fitting fitting;
@@ -75,8 +82,11 @@ added_all count e now vs n fitting all added ws drawn apart =
     }
 
 -- wires put in where there were none
-pub drawn_alone : (count : ℕ) (e now : EndList) (vs : List Wire) → e.elements ≡ count → e.ends ≡ replicate (4 * count) None → AreApart vs
-    → ((ws : List Wire) → AreDrawn e.elements ws e → AreApart (ws ++ vs) → AreDrawn e.elements (ws ++ vs) now) → AreEndsOf (ahead vs) count now
+pub drawn_alone : (count : ℕ) (e now : EndList) (vs : List Wire) → e.elements ≡ count
+    → e.ends ≡ replicate (4 * count) None → AreApart vs
+    → ((ws : List Wire) → AreDrawn e.elements ws e → AreApart (ws ++ vs) → AreDrawn e.elements (ws ++ vs) now)
+    → AreEndsOf (ahead vs) count now
 drawn_alone count e now vs elements ends apart added =
-    let none : AreDrawn e.elements [] e = subst (λ n. AreDrawn n [] e) (sym elements) (drawn_none count e elements ends) in
+    let none : AreDrawn e.elements [] e = subst (λ n. AreDrawn n [] e) (sym elements) (drawn_none count e elements ends)
+    in
     subst (λ n. AreEndsOf (ahead vs) n now) elements (added [] none apart).ends

@@ -1,5 +1,6 @@
 -- Ends seen from their other lines, written one after another, and the wiring that they make.
-use Rattle.std.specs.Prelude.{◌≡◌, ℕ, ◌+◌, ◌*◌, ◌^◌, ◌<◌, ◌≤◌, List, [], ◌∷◌, length, replicate, Option, Some, None, slice_get, slice_set, option_and_then, ◌⊎◌, refl}
+use Rattle.std.specs.Prelude.{◌≡◌, ℕ, ◌+◌, ◌*◌, ◌^◌, ◌<◌, ◌≤◌, List, [], ◌∷◌, length, replicate, Option, Some, None}
+use Rattle.std.specs.Prelude.{slice_get, slice_set, option_and_then, ◌⊎◌, refl}
 use Rattle.std.proofs.Common.{zero, suc, arith, sym, ap, subst, ◌∙◌, inl, inr}
 use Rattle.std.proofs.lemmas.Bool.Decides.{nat_tests}
 use Rattle.std.proofs.lemmas.List.{length-replicate}
@@ -28,27 +29,36 @@ loose_tells (suc n) zero from h = cc
 loose_tells (suc n) (suc j) from h = loose_tells n j from h
 
 -- loose ends alone tell none
-pub none_reversed : (e s : EndList) → AreTargets e → s.ends ≡ replicate (4 * e.elements) None → AreReversed e.ends 0 s.ends
+pub none_reversed : (e s : EndList) → AreTargets e → s.ends ≡ replicate (4 * e.elements) None
+    → AreReversed e.ends 0 s.ends
 none_reversed e s are is = record {
   count = ap length is ∙ length-replicate {A = Option Line} (4 * e.elements) None ∙ sym are.whole;
   held = λ i to low. absurd (omega arith);
-  only = λ to from low h. absurd (loose_tells (4 * e.elements) (4 * to.element + to.line) from (ap (λ xs. slice_get xs (4 * to.element + to.line)) (sym is) ∙ h));
+  only = λ to from low h. absurd (loose_tells (4 * e.elements) (4 * to.element + to.line) from
+      (ap (λ xs. slice_get xs (4 * to.element + to.line)) (sym is) ∙ h));
 }
 
 by_number : (a b : Line) → a.line < 4 → b.line < 4 → 4 * a.element + a.line ≡ 4 * b.element + b.line → a ≡ b
-by_number a b low_a low_b is = sym (line_by_number a (4 * a.element + a.line) low_a refl) ∙ line_by_number b (4 * a.element + a.line) low_b is
+by_number a b low_a low_b is = sym (line_by_number a (4 * a.element + a.line) low_a refl)
+    ∙ line_by_number b (4 * a.element + a.line) low_b is
 
 sides : (i n : ℕ) → i < n + 1 → (i < n) ⊎ (i ≡ n)
 sides i n low = grind (arith, nat_tests)
 
 ways : (a b : ℕ) → (a ≡ b) ⊎ (a ≡ b → ⊥)
-ways a b = elim (three a b) [ inl less ↦ inr (λ is. omega arith) | inr (inl is) ↦ inl is | inr (inr more) ↦ inr (λ is. omega arith) ]
+ways a b = elim (three a b) [
+  | inl less ↦ inr (λ is. omega arith)
+  | inr (inl is) ↦ inl is
+  | inr (inr more)
+      ↦ inr (λ is. omega arith)
+]
   where
     three : (a b : ℕ) → (a < b) ⊎ ((a ≡ b) ⊎ (b < a))
     three a b = grind (arith, nat_tests)
 
 -- an end that leads nowhere
-pub loose_reversed : (e : EndList) (n : ℕ) (back : List (Option Line)) → slice_get e.ends n ≡ Some None → AreReversed e.ends n back
+pub loose_reversed : (e : EndList) (n : ℕ) (back : List (Option Line)) → slice_get e.ends n ≡ Some None
+    → AreReversed e.ends n back
     → AreReversed e.ends (n + 1) back
 loose_reversed e n back none so_far = record {
   count = so_far.count;
@@ -56,13 +66,16 @@ loose_reversed e n back none so_far = record {
   only = λ to from low h. let found = so_far.only to from low h in (found.0, omega (arith, found.1), found.2, found.3);
 }
   where
-    at : (i : ℕ) (to : Line) → slice_get e.ends i ≡ Some (Some to) → (i < n) ⊎ (i ≡ n) → slice_get back (4 * to.element + to.line) ≡ Some (Some (nth_line i))
+    at : (i : ℕ) (to : Line) → slice_get e.ends i ≡ Some (Some to) → (i < n) ⊎ (i ≡ n)
+        → slice_get back (4 * to.element + to.line) ≡ Some (Some (nth_line i))
     at i to has (inl below) = so_far.held i to below has
     at i to has (inr here) = let h = ap (slice_get e.ends) here in absurd (cc)
 
 -- an end that leads to a line
-pub more_reversed : (e : EndList) (n : ℕ) (to : Line) (back after : List (Option Line)) → AreTargets e → slice_get e.ends n ≡ Some (Some to)
-    → after ≡ slice_set back (4 * to.element + to.line) (Some (nth_line n)) → AreReversed e.ends n back → AreReversed e.ends (n + 1) after
+pub more_reversed : (e : EndList) (n : ℕ) (to : Line) (back after : List (Option Line)) → AreTargets e
+    → slice_get e.ends n ≡ Some (Some to)
+    → after ≡ slice_set back (4 * to.element + to.line) (Some (nth_line n)) → AreReversed e.ends n back
+    → AreReversed e.ends (n + 1) after
 more_reversed e n to back after are here is so_far = record {
   count = ap length is ∙ set_length back k (Some (nth_line n)) ∙ so_far.count;
   held = λ i t low has. at i t has (sides i n low);
@@ -76,15 +89,19 @@ more_reversed e n to back after are here is so_far = record {
     below = are.inside n to here
 
     within : k < length back
-    within = let element = below.element in let line = below.line in let whole = are.whole in let count = so_far.count in omega arith
+    within = let element = below.element in let line = below.line in let whole = are.whole in let count =
+        so_far.count in omega arith
 
     written : slice_get after k ≡ Some (Some (nth_line n))
     written = ap (λ xs. slice_get xs k) is ∙ slice_get-set_same back k (Some (nth_line n)) within
 
-    other : (t : Line) → (4 * t.element + t.line ≡ k → ⊥) → slice_get after (4 * t.element + t.line) ≡ slice_get back (4 * t.element + t.line)
-    other t off = ap (λ xs. slice_get xs (4 * t.element + t.line)) is ∙ slice_get-set_other back k (4 * t.element + t.line) (Some (nth_line n)) off
+    other : (t : Line) → (4 * t.element + t.line ≡ k → ⊥) → slice_get after (4 * t.element + t.line)
+        ≡ slice_get back (4 * t.element + t.line)
+    other t off = ap (λ xs. slice_get xs (4 * t.element + t.line)) is
+        ∙ slice_get-set_other back k (4 * t.element + t.line) (Some (nth_line n)) off
 
-    at : (i : ℕ) (t : Line) → slice_get e.ends i ≡ Some (Some t) → (i < n) ⊎ (i ≡ n) → slice_get after (4 * t.element + t.line) ≡ Some (Some (nth_line i))
+    at : (i : ℕ) (t : Line) → slice_get e.ends i ≡ Some (Some t) → (i < n) ⊎ (i ≡ n)
+        → slice_get after (4 * t.element + t.line) ≡ Some (Some (nth_line i))
     at i t has (inl low) = other t off ∙ so_far.held i t low has
       where
         off : 4 * t.element + t.line ≡ k → ⊥
@@ -93,8 +110,10 @@ more_reversed e n to back after are here is so_far = record {
             let number : i ≡ n = are.apart i n to (has ∙ ap (λ x. Some (Some x)) one) here in
             omega arith
     at i t has (inr last) =
-        let one : t ≡ to = (let h : slice_get e.ends n ≡ Some (Some t) = ap (slice_get e.ends) (sym last) ∙ has in cc) in
-        ap (λ (l : Line). slice_get after (4 * l.element + l.line)) one ∙ written ∙ ap (λ j. Some (Some (nth_line j))) (sym last)
+        let one : t ≡ to = (let h : slice_get e.ends n ≡ Some (Some t) = ap (slice_get e.ends) (sym last) ∙ has in cc)
+        in
+        ap (λ (l : Line). slice_get after (4 * l.element + l.line)) one ∙ written
+        ∙ ap (λ j. Some (Some (nth_line j))) (sym last)
 
     from_where : (t from : Line) → t.line < 4 → slice_get after (4 * t.element + t.line) ≡ Some (Some from)
         → ((4 * t.element + t.line ≡ k) ⊎ (4 * t.element + t.line ≡ k → ⊥))
@@ -108,10 +127,12 @@ more_reversed e n to back after are here is so_far = record {
         (found.0, omega (arith, found.1), found.2, found.3)
 
 -- what is read of a line is read in its place
-pub by_line : (ends : List (Option Line)) (n : ℕ) (l : Line) (o : Option Line) → l ≡ nth_line n → slice_get ends (4 * l.element + l.line) ≡ Some o
+pub by_line : (ends : List (Option Line)) (n : ℕ) (l : Line) (o : Option Line) → l ≡ nth_line n
+    → slice_get ends (4 * l.element + l.line) ≡ Some o
     → slice_get ends n ≡ Some o
 by_line ends n l o is has =
-    let number : 4 * l.element + l.line ≡ n = (let e = ap (λ (x : Line). x.element) is in let l = ap (λ (x : Line). x.line) is in omega arith) in
+    let number : 4 * l.element + l.line ≡ n = (let e = ap (λ (x : Line). x.element) is in let l = ap
+    (λ (x : Line). x.line) is in omega arith) in
     ap (slice_get ends) (sym number) ∙ has
 
 -- ---- the wiring
@@ -129,7 +150,8 @@ read e from to whole h = by_line ways_of
     ways_of : (4 ≤ from.line) ⊎ (from.line < 4)
     ways_of = grind (arith, nat_tests)
 
-    by_line : (4 ≤ from.line) ⊎ (from.line < 4) → (from.line < 4) × (slice_get e.ends (4 * from.element + from.line) ≡ Some (Some to))
+    by_line : (4 ≤ from.line) ⊎ (from.line < 4) → (from.line < 4)
+        × (slice_get e.ends (4 * from.element + from.line) ≡ Some (Some to))
     by_line (inl high) = let none = row_entry_past e.ends from.element from.line high in absurd (cc)
     by_line (inr low) = (
       low,
@@ -143,7 +165,8 @@ says e from to whole low has =
     row_entry e.ends e.elements from.element from.line (4 * from.element + from.line) whole low refl ∙ rw has refl
 
 -- the ends and the same seen from their other lines are one wiring
-pub reversed-IsWiring : (e s : EndList) → AreTargets e → s.elements ≡ e.elements → AreReversed e.ends (length e.ends) s.ends → IsWiring e s
+pub reversed-IsWiring : (e s : EndList) → AreTargets e → s.elements ≡ e.elements
+    → AreReversed e.ends (length e.ends) s.ends → IsWiring e s
 reversed-IsWiring e s are same back = record {
   same = same;
   few = are.few;

@@ -23,7 +23,8 @@ ltb_tells a b = elim (cases_lt a b) [
 ]
 
 -- the test says whether a track is free
-free_tells : (earlier : List Tracked) (n : ℕ) (w : Wire) → ((is_free earlier n w ≡ true) × IsFree earlier n (lesser w)) ⊎ ((is_free earlier n w ≡ false) × Blocks earlier n w)
+free_tells : (earlier : List Tracked) (n : ℕ) (w : Wire) → ((is_free earlier n w ≡ true) × IsFree earlier n (lesser w))
+    ⊎ ((is_free earlier n w ≡ false) × Blocks earlier n w)
 free_tells [] n w = inl (refl, λ t h e. absurd h)
 free_tells (t ∷ ts) n w = elim (eqb_tells t.track n) [
   | inr other ↦ elim (free_tells ts n w) [
@@ -31,7 +32,15 @@ free_tells (t ∷ ts) n w = elim (eqb_tells t.track n) [
     | inr blocked ↦ inr (rw (other.0, blocked.0) refl, block_later t ts n w blocked.1)
   ]
   | inl same ↦ elim (ltb_tells (greater (untracked t)) (lesser w)) [
-    | inr reaches ↦ inr (rw (same.0, reaches.0) refl, record { tracked = t; stands = inl refl; track = same.1; reaches = reaches.1 })
+    | inr reaches ↦ inr (
+      rw (same.0, reaches.0) refl,
+      record {
+        tracked = t;
+        stands = inl refl;
+        track = same.1;
+        reaches = reaches.1;
+      },
+    )
     | inl before ↦ elim (free_tells ts n w) [
       | inl free ↦ inl (rw (same.0, before.0, free.0) refl, λ s h e. passed free.1 (λ _. before.1) s h e)
       | inr blocked ↦ inr (rw (same.0, before.0, blocked.0) refl, block_later t ts n w blocked.1)
@@ -39,28 +48,42 @@ free_tells (t ∷ ts) n w = elim (eqb_tells t.track n) [
   ]
 ]
   where
-    passed : IsFree ts n (lesser w) → (t.track ≡ n → greater (untracked t) < lesser w) → (s : Tracked) → Has (t ∷ ts) s → s.track ≡ n → greater (untracked s) < lesser w
-    passed free here s (inl e) f = subst (λ (x : Tracked). greater (untracked x) < lesser w) (sym e) (here (sym (ap (λ (x : Tracked). x.track) e) ∙ f))
+    passed : IsFree ts n (lesser w) → (t.track ≡ n → greater (untracked t) < lesser w) → (s : Tracked) → Has (t ∷ ts) s
+        → s.track ≡ n → greater (untracked s) < lesser w
+    passed free here s (inl e) f = subst (λ (x : Tracked). greater (untracked x) < lesser w) (sym e)
+        (here (sym (ap (λ (x : Tracked). x.track) e) ∙ f))
     passed free here s (inr h) f = free s h f
 
 -- a search from n on, where none before n is free
-first_free_least : (earlier : List Tracked) (w : Wire) (fuel n : ℕ) → 0 < n → tracks_of earlier < n + fuel → ((m : ℕ) → 0 < m → m < n → IsFree earlier m (lesser w) → ⊥) → TakesLeast earlier (record { from = w.from; to = w.to; track = first_free earlier w fuel n })
-first_free_least earlier w zero n some far before = record { counted = some; free = free_beyond earlier n w (omega (arith, far)); least = before }
+first_free_least : (earlier : List Tracked) (w : Wire) (fuel n : ℕ) → 0 < n → tracks_of earlier < n + fuel
+    → ((m : ℕ) → 0 < m → m < n → IsFree earlier m (lesser w) → ⊥)
+    → TakesLeast earlier (record { from = w.from; to = w.to; track = first_free earlier w fuel n })
+first_free_least earlier w zero n some far before = record {
+  counted = some;
+  free = free_beyond earlier n w
+      (omega (arith, far));
+  least = before;
+}
 first_free_least earlier w (suc fuel) n some far before = elim (free_tells earlier n w) [
   | inl free ↦ rw free.0 (record { counted = some; free = free.1; least = before })
-  | inr blocked ↦ rw blocked.0 (first_free_least earlier w fuel (suc n) (omega arith) (omega (arith, far)) (λ m positive low free. elim (cases_lt m n) [
-    | inl lower ↦ before m positive lower free
-    | inr higher ↦
-        let same : blocked.1.tracked.track ≡ m = omega (arith, blocked.1.track, higher, low) in
-        let early = free blocked.1.tracked blocked.1.stands same in
-        absurd (omega (arith, early, blocked.1.reaches))
-  ]))
+  | inr blocked ↦ rw blocked.0 (first_free_least earlier w fuel (suc n) (omega arith) (omega (arith, far))
+      (λ m positive low free. elim (cases_lt m n) [
+        | inl lower ↦ before m positive lower free
+        | inr higher ↦
+            let same : blocked.1.tracked.track ≡ m = omega (arith, blocked.1.track, higher, low) in
+            let early = free blocked.1.tracked blocked.1.stands same in
+            absurd (omega (arith, early, blocked.1.reaches))
+      ]))
 ]
 
 -- each wire takes its least track
 assigned_least : (earlier : List Tracked) (ws : List Wire) → TakeLeast earlier (assigned earlier ws)
 assigned_least earlier [] = tt
-assigned_least earlier (w ∷ ws) = (first_free_least earlier w (tracks_of earlier) 1 (omega arith) (omega arith) (λ m some low. absurd (omega (arith, some, low))), assigned_least (tracked earlier w ∷ earlier) ws)
+assigned_least earlier (w ∷ ws) = (
+  first_free_least earlier w (tracks_of earlier) 1 (omega arith) (omega arith)
+      (λ m some low. absurd (omega (arith, some, low))),
+  assigned_least (tracked earlier w ∷ earlier) ws,
+)
 
 -- the wires stay as they are
 assigned_wires : (earlier : List Tracked) (ws : List Wire) → wires_of (assigned earlier ws) ≡ ws
@@ -69,4 +92,5 @@ assigned_wires earlier (w ∷ ws) = ap (λ vs. w ∷ vs) (assigned_wires (tracke
 
 -- a plan is what the function makes of its wires
 pub plans_compute : (ws : List Wire) (plan : List Tracked) → IsPlan ws plan → plan ≡ assigned [] (wires_of plan)
-plans_compute ws plan p = same_tracks [] plan (assigned [] (wires_of plan)) (sym (assigned_wires [] (wires_of plan))) p.tracks (assigned_least [] (wires_of plan))
+plans_compute ws plan p = same_tracks [] plan (assigned [] (wires_of plan)) (sym (assigned_wires [] (wires_of plan)))
+    p.tracks (assigned_least [] (wires_of plan))

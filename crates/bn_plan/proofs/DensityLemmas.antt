@@ -1,12 +1,14 @@
 -- Lemmas on positions: which wires cover one, and where most do.
-use Rattle.std.specs.Prelude.{◌≡◌, ◌≢◌, ℕ, zero, suc, ◌+◌, ◌*◌, ◌<◌, ◌≤◌, max, leb, true, false, cond, List, [], ◌∷◌, map, eqb, ◌⊎◌}
+use Rattle.std.specs.Prelude.{◌≡◌, ◌≢◌, ℕ, zero, suc, ◌+◌, ◌*◌, ◌<◌, ◌≤◌, max, leb, true, false, cond, List, [], ◌∷◌}
+use Rattle.std.specs.Prelude.{map, eqb, ◌⊎◌}
 use Rattle.std.specs.List.{IsDistinct}
 use Rattle.std.proofs.Common.{refl, sym, ◌∙◌, ap, arith, inl, inr}
 use Rattle.std.proofs.lemmas.Bool.{cases_lt}
 use Rattle.std.proofs.lemmas.Bool.Decides.{leb_tells}
 use Rattle.bn_circuits.specs.declared.line.Line.{Line}
 use Rattle.bn_circuits.specs.declared.line.Wire.{Wire}
-use Rattle.bn_plan.specs.Wires.{output_position, input_position, lesser, greater, Covers, covers, density, IsDensest, HasFourLines, AreRotary}
+use Rattle.bn_plan.specs.Wires.{output_position, input_position, lesser, greater, Covers, covers, density, IsDensest}
+use Rattle.bn_plan.specs.Wires.{HasFourLines, AreRotary}
 use Rattle.bn_plan.proofs.ListLemmas.{count-cons, pairwise_weaker, pairwise_map, pairwise_both, pairwise_distinct}
 
 -- ---- what a wire covers
@@ -67,7 +69,8 @@ none_beyond [] q h = refl
 none_beyond (w ∷ ws) q h =
     let miss : covers q w ≡ false = covers_false q w (λ c. absurd (omega (arith, c.ends, h))) in
     let more : density ws q ≡ 0 = none_beyond ws q (omega (arith, h)) in
-    let count : density (w ∷ ws) q ≡ 0 + density ws q = count-cons (covers q) w ws ∙ ap (λ b. cond b 1 0 + density ws q) miss in
+    let count : density (w ∷ ws) q ≡ 0 + density ws q = count-cons (covers q) w ws
+    ∙ ap (λ b. cond b 1 0 + density ws q) miss in
     omega (arith, count, more)
 
 -- p is the first of the numbers up to n at which f is greatest
@@ -78,21 +81,38 @@ record IsBest (f : ℕ → ℕ) (n p : ℕ) : Type 0 where
 
 -- the function gives it
 first_best_is : (f : ℕ → ℕ) (n : ℕ) → IsBest f n (first_best f n)
-first_best_is f zero = record { within = omega arith; greatest = λ q h. let same : q ≡ 0 = omega (arith, h) in let also : f q ≡ f 0 = ap f same in omega (arith, also); first = λ q h. absurd (omega (arith, h)) }
+first_best_is f zero = record {
+  within = omega arith;
+  greatest = λ q h. let same : q
+      ≡ 0 = omega (arith, h) in let also : f q ≡ f 0 = ap f same in omega (arith, also);
+  first = λ q h. absurd
+      (omega (arith, h));
+}
 first_best_is f (suc n) = let before = first_best_is f n in elim (leb_tells (f (suc n)) (f (first_best f n))) [
-  | inl less ↦ rw less.0 (record { within = let w = before.within in omega (arith, w); greatest = greatest_old (first_best f n) before less.1; first = before.first })
-  | inr more ↦ rw more.0 (record { within = omega arith; greatest = greatest_new (first_best f n) before more.1; first = λ q h. let low = before.greatest q (omega (arith, h)) in let high = more.1 in omega (arith, low, high) })
+  | inl less ↦ rw less.0 (record {
+    within = let w = before.within in omega (arith, w);
+    greatest = greatest_old
+        (first_best f n) before less.1;
+    first = before.first;
+  })
+  | inr more ↦ rw more.0 (record {
+    within = omega arith;
+    greatest = greatest_new (first_best f n) before more.1;
+    first = λ q h. let low = before.greatest q (omega (arith, h)) in let high = more.1 in omega (arith, low, high);
+  })
 ]
   where
     greatest_new : (p : ℕ) → IsBest f n p → f p < f (suc n) → (q : ℕ) → q ≤ suc n → f q ≤ f (suc n)
     greatest_new p b more q h = elim (cases_lt n q) [
-      | inl last ↦ let same : q ≡ suc n = omega (arith, last, h) in let also : f q ≡ f (suc n) = ap f same in omega (arith, also)
+      | inl last ↦ let same : q ≡ suc n = omega (arith, last, h) in let also : f q ≡ f (suc n) =
+          ap f same in omega (arith, also)
       | inr low ↦ let bound = b.greatest q low in omega (arith, bound, more)
     ]
 
     greatest_old : (p : ℕ) → IsBest f n p → f (suc n) ≤ f p → (q : ℕ) → q ≤ suc n → f q ≤ f p
     greatest_old p b less q h = elim (cases_lt n q) [
-      | inl last ↦ let same : q ≡ suc n = omega (arith, last, h) in let also : f q ≡ f (suc n) = ap f same in omega (arith, also, less)
+      | inl last ↦ let same : q ≡ suc n = omega (arith, last, h) in let also : f q ≡ f (suc n) =
+          ap f same in omega (arith, also, less)
       | inr low ↦ b.greatest q low
     ]
 
@@ -109,7 +129,12 @@ densest_is ws = let best = first_best_is (density ws) (last_position ws) in reco
 
 -- without wires both are 0
 pub densest_none : IsDensest [] 0 0
-densest_none = record { reached = refl; greatest = λ q. let none : density [] q ≡ 0 = refl in omega (arith, none); least = λ q h. absurd (omega (arith, h)) }
+densest_none = record {
+  reached = refl;
+  greatest = λ q. let none : density [] q
+      ≡ 0 = refl in omega (arith, none);
+  least = λ q h. absurd (omega (arith, h));
+}
 
 -- and only one
 pub densest_once : (ws : List Wire) (d e p q : ℕ) → IsDensest ws d p → IsDensest ws e q → (d ≡ e) × (p ≡ q)
@@ -133,9 +158,11 @@ same_line a b elements lines = λ i. record { element = elements i; line = lines
 -- two wires that begin at one position share a line
 starts_apart : (v w : Wire) → HasFourLines v → HasFourLines w → v.from ≢ w.from → v.to ≢ w.to → lesser v ≢ lesser w
 unfolding lesser
-starts_apart v w a b from to e = by_ends (cases_lt (output_position v.from) (input_position v.to)) (cases_lt (output_position w.from) (input_position w.to))
+starts_apart v w a b from to e = by_ends (cases_lt (output_position v.from) (input_position v.to))
+    (cases_lt (output_position w.from) (input_position w.to))
   where
-    by_ends : (output_position v.from < input_position v.to) ⊎ (input_position v.to ≤ output_position v.from) → (output_position w.from < input_position w.to) ⊎ (input_position w.to ≤ output_position w.from) → ⊥
+    by_ends : (output_position v.from < input_position v.to) ⊎ (input_position v.to ≤ output_position v.from)
+        → (output_position w.from < input_position w.to) ⊎ (input_position w.to ≤ output_position w.from) → ⊥
     by_ends (inl h) (inl k) =
         let same : 8 * v.from.element + v.from.line ≡ 8 * w.from.element + w.from.line = omega (arith, e, h, k) in
         from (same_line v.from w.from (omega (arith, same, a.from, b.from)) (omega (arith, same, a.from, b.from)))
@@ -148,7 +175,8 @@ starts_apart v w a b from to e = by_ends (cases_lt (output_position v.from) (inp
 -- so the lesser ends are without repeats
 pub starts_are_apart : (ws : List Wire) → AreRotary ws → IsDistinct eqb (map lesser ws)
 starts_are_apart ws r =
-    let both = pairwise_both (λ (v w : Wire). v.from ≢ w.from) (λ (v w : Wire). v.to ≢ w.to) ws r.from_apart r.to_apart in
+    let both = pairwise_both (λ (v w : Wire). v.from ≢ w.from) (λ (v w : Wire). v.to ≢ w.to) ws r.from_apart r.to_apart
+    in
     pairwise_distinct (map lesser ws) (pairwise_map (λ x y. x ≢ y) lesser ws
     (pairwise_weaker (λ (v w : Wire). (v.from ≢ w.from) × (v.to ≢ w.to)) (λ v w. lesser v ≢ lesser w) ws
     (λ v w h k apart. starts_apart v w (r.lines v h) (r.lines w k) apart.0 apart.1) both))

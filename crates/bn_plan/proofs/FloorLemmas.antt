@@ -17,17 +17,26 @@ floor_exists ws =
     let plan = plan_exists ws in
     let most = densest_is ws in (
       record { wires = plan.0; tracks = density ws (densest ws); densest = densest ws },
-      record { plan = plan.1; tracks = (plans_use_no_more ws plan.0 (density ws (densest ws)) (densest ws) plan.1 most).0; densest = most },
+      record {
+        plan = plan.1;
+        tracks = (plans_use_no_more ws plan.0 (density ws (densest ws)) (densest ws) plan.1
+            most).0;
+        densest = most;
+      },
     )
 
 -- the same wires have the same densities
-density_same : (ws vs : List Wire) (a b : List Tracked) → a ≡ b → IsPlan ws a → IsPlan vs b → (p : ℕ) → density ws p ≡ density vs p
-density_same ws vs a b same first second p = density_of ws a p first.all ∙ ap (λ ts. count_by (covers_at p) ts) same ∙ sym (density_of vs b p second.all)
+density_same : (ws vs : List Wire) (a b : List Tracked) → a ≡ b → IsPlan ws a → IsPlan vs b → (p : ℕ)
+    → density ws p ≡ density vs p
+density_same ws vs a b same first second p = density_of ws a p first.all ∙ ap (λ ts. count_by (covers_at p) ts) same
+    ∙ sym (density_of vs b p second.all)
 
 -- and only one
-pub floor_once : (ws vs : List Wire) (f g : FloorPlan) → AreRotary ws → AreRotary vs → ((w : Wire) → Has ws w ↔ Has vs w) → IsFloorPlan ws f → IsFloorPlan vs g → f ≡ g
+pub floor_once : (ws vs : List Wire) (f g : FloorPlan) → AreRotary ws → AreRotary vs
+    → ((w : Wire) → Has ws w ↔ Has vs w) → IsFloorPlan ws f → IsFloorPlan vs g → f ≡ g
 floor_once ws vs f g first second same a b =
-    let wires = plan_once ws vs f.wires g.wires (starts_are_apart ws first) (starts_are_apart vs second) same a.plan b.plan in
+    let wires = plan_once ws vs f.wires g.wires (starts_are_apart ws first) (starts_are_apart vs second) same a.plan
+    b.plan in
     let counts = density_same ws vs f.wires g.wires wires a.plan b.plan in
     let rest = densest_once ws f.tracks g.tracks f.densest g.densest a.densest (moved counts) in
     λ i. record { wires = wires i; tracks = rest.0 i; densest = rest.1 i }
@@ -40,7 +49,8 @@ floor_once ws vs f g first second same a b =
     }
 
 -- no assignment has fewer tracks
-pub none_has_fewer : (ws : List Wire) (f : FloorPlan) (ts : List Tracked) (used : List ℕ) → IsFloorPlan ws f → IsAssignment ws ts → HasTracks used ts → f.tracks ≤ length used
+pub none_has_fewer : (ws : List Wire) (f : FloorPlan) (ts : List Tracked) (used : List ℕ) → IsFloorPlan ws f
+    → IsAssignment ws ts → HasTracks used ts → f.tracks ≤ length used
 none_has_fewer ws f ts used a b has =
     let needed = tracks_are_needed ws ts used f.densest b has in
     omega (arith, needed, a.densest.reached)

@@ -40,7 +40,8 @@ ends_of w = elim (cases_lt (output_position w.from) (input_position w.to)) [
 ]
 
 -- elements with the same image are one, where no two have one
-same_image : {X Y : Type 0} (f : X → Y) (xs : List X) → Pairwise (λ x y. f x ≢ f y) xs → (x y : X) → Has xs x → Has xs y → f x ≡ f y → x ≡ y
+same_image : {X Y : Type 0} (f : X → Y) (xs : List X) → Pairwise (λ x y. f x ≢ f y) xs → (x y : X) → Has xs x → Has xs y
+    → f x ≡ f y → x ≡ y
 same_image f [] apart x y h k e = absurd h
 same_image f (z ∷ zs) apart x y (inl h) (inl k) e = h ∙ sym k
 same_image f (z ∷ zs) apart x y (inl h) (inr k) e = absurd (apart.0 y k (ap f (sym h) ∙ e))
@@ -49,10 +50,12 @@ same_image f (z ∷ zs) apart x y (inr h) (inr k) e = same_image f zs apart.1 x 
 
 module _ (ws : List Wire) (r : AreRotary ws) where
   by_output : (v w : Wire) → Has ws v → Has ws w → output_position v.from ≡ output_position w.from → v ≡ w
-  by_output v w h k e = same_image (λ (x : Wire). x.from) ws r.from_apart v w h k (same_output v.from w.from (r.lines v h).from (r.lines w k).from e)
+  by_output v w h k e = same_image (λ (x : Wire). x.from) ws r.from_apart v w h k
+      (same_output v.from w.from (r.lines v h).from (r.lines w k).from e)
 
   by_input : (v w : Wire) → Has ws v → Has ws w → input_position v.to ≡ input_position w.to → v ≡ w
-  by_input v w h k e = same_image (λ (x : Wire). x.to) ws r.to_apart v w h k (same_input v.to w.to (r.lines v h).to (r.lines w k).to e)
+  by_input v w h k e = same_image (λ (x : Wire). x.to) ws r.to_apart v w h k
+      (same_input v.to w.to (r.lines v h).to (r.lines w k).to e)
 
   clash : (v w : Wire) → Has ws v → Has ws w → output_position v.from ≢ input_position w.to
   clash v w h k = output_input v.from w.to (r.lines v h).from (r.lines w k).to
@@ -93,7 +96,8 @@ module _ (ws : List Wire) (r : AreRotary ws) where
   ends_apart v w h k e = by_ends (ends_of v) (ends_of w)
     where
       one : v ≡ w → ⊥
-      one same = let below = lesser_below v h in let also : lesser w ≡ lesser v = ap lesser (sym same) in absurd (omega (arith, below, e, also))
+      one same = let below = lesser_below v h in let also : lesser w ≡ lesser v =
+          ap lesser (sym same) in absurd (omega (arith, below, e, also))
 
       by_ends : Ends v → Ends w → ⊥
       by_ends (onward a b) (onward c d) = clash w v k h (sym c ∙ sym e ∙ b)
@@ -105,17 +109,20 @@ module _ (ws : List Wire) (r : AreRotary ws) where
 
 module _ (ws : List Wire) (r : AreRotary ws) (are : AreWiresOf ws ws) where
   -- the wire of an output line that is its lesser end
-  pub begins_out : (from to : Line) → target ws from ≡ Some to → output_position from < input_position to → BeginsAt ws (output_position from) (record { from = from; to = to })
+  pub begins_out : (from to : Line) → target ws from ≡ Some to → output_position from < input_position to
+      → BeginsAt ws (output_position from) (record { from = from; to = to })
   unfolding lesser
   begins_out from to is low = ((are.each (record { from = from; to = to })).1 is, omega (arith, low))
 
   -- and of an input line
-  pub begins_in : (from to : Line) → target ws from ≡ Some to → input_position to < output_position from → BeginsAt ws (input_position to) (record { from = from; to = to })
+  pub begins_in : (from to : Line) → target ws from ≡ Some to → input_position to < output_position from
+      → BeginsAt ws (input_position to) (record { from = from; to = to })
   unfolding lesser
   begins_in from to is low = ((are.each (record { from = from; to = to })).1 is, omega (arith, low))
 
   -- a wire that begins at an output line leaves it
-  pub out_only : (from : Line) → from.line < 4 → (w : Wire) → BeginsAt ws (output_position from) w → (target ws from ≡ Some w.to) × (output_position from < input_position w.to)
+  pub out_only : (from : Line) → from.line < 4 → (w : Wire) → BeginsAt ws (output_position from) w
+      → (target ws from ≡ Some w.to) × (output_position from < input_position w.to)
   out_only from low w b = by_ends (ends_of w)
     where
       by_ends : Ends w → (target ws from ≡ Some w.to) × (output_position from < input_position w.to)
@@ -126,7 +133,8 @@ module _ (ws : List Wire) (r : AreRotary ws) (are : AreWiresOf ws ws) where
       by_ends (backward a c) = absurd (output_input from w.to low (r.lines w b.0).to (sym b.1 ∙ a))
 
   -- and one that begins at an input line ends there
-  pub in_only : (to : Line) → to.line < 4 → (w : Wire) → BeginsAt ws (input_position to) w → (target ws w.from ≡ Some to) × (input_position to < output_position w.from)
+  pub in_only : (to : Line) → to.line < 4 → (w : Wire) → BeginsAt ws (input_position to) w
+      → (target ws w.from ≡ Some to) × (input_position to < output_position w.from)
   in_only to low w b = by_ends (ends_of w)
     where
       by_ends : Ends w → (target ws w.from ≡ Some to) × (input_position to < output_position w.from)

@@ -1,5 +1,6 @@
 -- What is kept of the wires that have begun stays so from one position to the next.
-use Rattle.std.specs.Prelude.{◌≡◌, ◌≢◌, ◌↔◌, ◌⊎◌, ℕ, zero, suc, ◌+◌, ◌<◌, ◌≤◌, max, List, [], ◌∷◌, ◌++◌, length, eqb, get_or, Some, None}
+use Rattle.std.specs.Prelude.{◌≡◌, ◌≢◌, ◌↔◌, ◌⊎◌, ℕ, zero, suc, ◌+◌, ◌<◌, ◌≤◌, max, List, [], ◌∷◌, ◌++◌, length, eqb}
+use Rattle.std.specs.Prelude.{get_or, Some, None}
 use Rattle.std.specs.List.Sorted.{IsPermutation}
 use Rattle.std.proofs.Common.{refl, sym, subst, ◌∙◌, ap, arith, inl, inr}
 use Rattle.std.proofs.lemmas.Bool.{cases_lt}
@@ -33,7 +34,8 @@ pub push_new : {X : Type 0} (xs : List X) (y : X) → Has (xs ++ y ∷ []) y
 push_new [] y = inl refl
 push_new (z ∷ zs) y = inr (push_new zs y)
 
-pub pairwise_push : {X : Type 0} (R : X → X → Type 0) (xs : List X) (y : X) → Pairwise R xs → ((x : X) → Has xs x → R x y) → Pairwise R (xs ++ y ∷ [])
+pub pairwise_push : {X : Type 0} (R : X → X → Type 0) (xs : List X) (y : X) → Pairwise R xs
+    → ((x : X) → Has xs x → R x y) → Pairwise R (xs ++ y ∷ [])
 pairwise_push R [] y a each = ((λ x h. absurd h), tt)
 pairwise_push R (z ∷ zs) y a each = (first, pairwise_push R zs y a.1 (λ x h. each x (inr h)))
   where
@@ -41,7 +43,8 @@ pairwise_push R (z ∷ zs) y a each = (first, pairwise_push R zs y a.1 (λ x h. 
     first x h = elim (in_push zs y x h) [ inl k ↦ a.0 x k | inr e ↦ subst (R z) (sym e) (each z (inl refl)) ]
 
 -- two elements are one, or related one way or the other
-pairwise_pick : {X : Type 0} (R : X → X → Type 0) (xs : List X) → Pairwise R xs → (x y : X) → Has xs x → Has xs y → (x ≡ y) ⊎ (R x y ⊎ R y x)
+pairwise_pick : {X : Type 0} (R : X → X → Type 0) (xs : List X) → Pairwise R xs → (x y : X) → Has xs x → Has xs y
+    → (x ≡ y) ⊎ (R x y ⊎ R y x)
 pairwise_pick R [] a x y h k = absurd h
 pairwise_pick R (z ∷ zs) a x y (inl h) (inl k) = inl (h ∙ sym k)
 pairwise_pick R (z ∷ zs) a x y (inl h) (inr k) = inr (inl (subst (λ w. R w y) (sym h) (a.0 y k)))
@@ -54,14 +57,16 @@ tracks_of-push (u ∷ us) t = let rest = tracks_of-push us t in omega (arith, re
 
 -- elements of a list are those of another order of it
 pub moved_in : {X : Type 0} (xs ys : List X) → IsPermutation xs ys → (x : X) → Has xs x → Has ys x
-moved_in xs ys all x h = let there = Contains-permutation xs ys x all (in_contains xs x h) in contains_in ys x there.0 there.1 there.2
+moved_in xs ys all x h = let there = Contains-permutation xs ys x all (in_contains xs x h) in contains_in ys x there.0
+    there.1 there.2
 
 pub moved_back : {X : Type 0} (xs ys : List X) → IsPermutation xs ys → (x : X) → Has ys x → Has xs x
 moved_back xs ys all = moved_in ys xs (IsPermutation-sym xs ys all)
 
 -- numbers without repeats stay so
 pub moved_apart : (xs ys : List ℕ) → IsPermutation xs ys → Pairwise (λ m n. m ≢ n) xs → Pairwise (λ m n. m ≢ n) ys
-moved_apart xs ys all a = distinct_pairwise ys (IsDistinct-IsPermutation eqb eqb_flips xs ys all (pairwise_distinct xs a))
+moved_apart xs ys all a = distinct_pairwise ys (IsDistinct-IsPermutation eqb eqb_flips xs ys all
+    (pairwise_distinct xs a))
 
 -- ---- the least track of a wire more
 
@@ -90,7 +95,8 @@ onto_in [] ts t h = absurd h
 onto_in (u ∷ us) ts t (inl e) = onto_below us (u ∷ ts) t (inl e)
 onto_in (u ∷ us) ts t (inr h) = onto_in us (u ∷ ts) t h
 
-least_push : (earlier ts : List Tracked) (t : Tracked) → TakeLeast earlier ts → TakesLeast (onto ts earlier) t → TakeLeast earlier (ts ++ t ∷ [])
+least_push : (earlier ts : List Tracked) (t : Tracked) → TakeLeast earlier ts → TakesLeast (onto ts earlier) t
+    → TakeLeast earlier (ts ++ t ∷ [])
 least_push earlier [] t a here = (here, tt)
 least_push earlier (u ∷ us) t a here = (a.0, least_push (u ∷ earlier) us t a.1 here)
 
@@ -105,7 +111,8 @@ least_onto ts t a = record {
     back : (s : Tracked) → Has (onto ts []) s → Has ts s
     back s h = elim (in_onto ts [] s h) [ inl k ↦ k | inr none ↦ absurd none ]
 
-pub take_least_push : (ts : List Tracked) (t : Tracked) → TakeLeast [] ts → TakesLeast ts t → TakeLeast [] (ts ++ t ∷ [])
+pub take_least_push : (ts : List Tracked) (t : Tracked) → TakeLeast [] ts → TakesLeast ts t
+    → TakeLeast [] (ts ++ t ∷ [])
 take_least_push ts t a here = least_push [] ts t a (least_onto ts t here)
 
 -- ---- what holds at each position
@@ -122,16 +129,19 @@ module _ (ws : List Wire) (r : AreRotary ws) (p : ℕ) (s : Swept) (is : IsSwept
   within t h = let low = below_tracks_of s.wires t h in omega (arith, low, is.tracks)
 
   -- two wires of one track that both reach the position are one
-  one_reaches : (t u : Tracked) → Has s.wires t → Has s.wires u → t.track ≡ u.track → p ≤ greater (untracked t) → p ≤ greater (untracked u) → t ≡ u
-  one_reaches t u h k same low high = elim (pairwise_pick (λ (x y : Tracked). x.track ≡ y.track → Fit (untracked x) (untracked y)) s.wires (tracks_fit [] s.wires is.least) t u h k) [
-    | inl e ↦ e
-    | inr apart ↦ absurd (fits apart)
-  ]
+  one_reaches : (t u : Tracked) → Has s.wires t → Has s.wires u → t.track ≡ u.track → p ≤ greater (untracked t)
+      → p ≤ greater (untracked u) → t ≡ u
+  one_reaches t u h k same low high = elim (pairwise_pick (λ (x y : Tracked). x.track ≡ y.track
+      → Fit (untracked x) (untracked y)) s.wires (tracks_fit [] s.wires is.least) t u h k) [
+        | inl e ↦ e
+        | inr apart ↦ absurd (fits apart)
+      ]
     where
       cover : (x : Tracked) → Has s.wires x → p ≤ greater (untracked x) → Covers p (untracked x)
       cover x l reach = let begun = (known x l).1 in record { starts = omega (arith, begun); ends = reach }
 
-      fits : (t.track ≡ u.track → Fit (untracked t) (untracked u)) ⊎ (u.track ≡ t.track → Fit (untracked u) (untracked t)) → ⊥
+      fits : (t.track ≡ u.track → Fit (untracked t) (untracked u))
+          ⊎ (u.track ≡ t.track → Fit (untracked u) (untracked t)) → ⊥
       fits (inl fit) = fit same p (cover t h low) (cover u k high)
       fits (inr fit) = fit (sym same) p (cover u k high) (cover t h low)
 
@@ -140,7 +150,8 @@ module _ (ws : List Wire) (r : AreRotary ws) (p : ℕ) (s : Swept) (is : IsSwept
   not_free t h reach k = let early = ((is.free t.track).0 k).2 t h refl in absurd (omega (arith, early, reach))
 
   -- the wires that have begun, at the next position
-  begun_still : ((w : Wire) → BeginsAt ws p w → ⊥) → (w : Wire) → Has (wires_of s.wires) w ↔ Has ws w × (lesser w < p + 1)
+  begun_still : ((w : Wire) → BeginsAt ws p w → ⊥) → (w : Wire)
+      → Has (wires_of s.wires) w ↔ Has ws w × (lesser w < p + 1)
   begun_still none w = ((λ h. let k = (is.begun w).0 h in let low = k.1 in (k.0, omega (arith, low))), back)
     where
       back : Has ws w × (lesser w < p + 1) → Has (wires_of s.wires) w
@@ -159,7 +170,11 @@ module _ (ws : List Wire) (r : AreRotary ws) (p : ℕ) (s : Swept) (is : IsSwept
     begun = begun_still none;
     tracks = is.tracks;
     few = let few = is.few in omega (arith, few);
-    free = λ n. ((λ h. let k = (is.free n).0 h in (k.0, k.1, λ t l e. let early = k.2 t l e in omega (arith, early))), λ h. (is.free n).1 (h.0, h.1, λ t l e. passed t l (h.2 t l e)));
+    free = λ n. (
+      (λ h. let k = (is.free n).0 h in (k.0, k.1, λ t l e. let early = k.2 t l e in omega (arith, early))),
+      λ
+          h. (is.free n).1 (h.0, h.1, λ t l e. passed t l (h.2 t l e)),
+    );
     once = is.once;
     ends = λ t h reach. is.ends t h (omega (arith, reach));
     ended = λ q n reach more some. is.ended q n (omega (arith, reach)) more some;
@@ -176,8 +191,15 @@ module _ (ws : List Wire) (r : AreRotary ws) (p : ℕ) (s : Swept) (is : IsSwept
       ]
 
   -- but one ends
-  pub swept_end : (free : List ℕ) (x : ℕ) → ((w : Wire) → BeginsAt ws p w → ⊥) → p < length s.ending → get_or s.ending p None ≡ Some x → IsPermutation (x ∷ s.free) free
-      → IsSwept ws (p + 1) (record { wires = s.wires; free = free; ending = s.ending; tracks = s.tracks; densest = s.densest })
+  pub swept_end : (free : List ℕ) (x : ℕ) → ((w : Wire) → BeginsAt ws p w → ⊥) → p < length s.ending
+      → get_or s.ending p None ≡ Some x → IsPermutation (x ∷ s.free) free
+      → IsSwept ws (p + 1) (record {
+        wires = s.wires;
+        free = free;
+        ending = s.ending;
+        tracks = s.tracks;
+        densest = s.densest;
+      })
   swept_end free x none inside some moved = record {
     order = is.order;
     least = is.least;
@@ -185,7 +207,11 @@ module _ (ws : List Wire) (r : AreRotary ws) (p : ℕ) (s : Swept) (is : IsSwept
     tracks = is.tracks;
     few = let few = is.few in omega (arith, few);
     free = λ n. (there n, back n);
-    once = moved_apart (x ∷ s.free) free moved ((λ n h e. not_free (last.0) last.1 (omega (arith, last.2)) (subst (Has s.free) (sym e ∙ track) h)), is.once);
+    once = moved_apart (x ∷ s.free) free moved (
+      (λ n h e. not_free (last.0) last.1 (omega (arith, last.2))
+          (subst (Has s.free) (sym e ∙ track) h)),
+      is.once,
+    );
     ends = λ t h reach. is.ends t h (omega (arith, reach));
     ended = λ q n reach more some_there. is.ended q n (omega (arith, reach)) more some_there;
     densest = is.densest;
@@ -197,21 +223,28 @@ module _ (ws : List Wire) (r : AreRotary ws) (p : ℕ) (s : Swept) (is : IsSwept
       -- the wire that ends at the position has the track that is kept there
       track_there : (t : Tracked) → Has s.wires t → greater (untracked t) ≡ p → x ≡ t.track
       track_there t h here =
-          let both : Some x ≡ Some t.track = sym some ∙ ap (λ q. get_or s.ending q None) (sym here) ∙ is.ends t h (omega (arith, here)) in
+          let both : Some x ≡ Some t.track = sym some ∙ ap (λ q. get_or s.ending q None) (sym here)
+          ∙ is.ends t h (omega (arith, here)) in
           cc
 
       track : x ≡ last.0.track
       track = track_there last.0 last.1 last.2
 
       freed : (n : ℕ) → n ≡ x → (0 < n) × (n ≤ s.tracks) × IsFree s.wires n (p + 1)
-      freed n e = ((let low = counted last.0 last.1 in omega (arith, e, track, low)), (let high = within last.0 last.1 in omega (arith, e, track, high)), ends_here)
+      freed n e = (
+        (let low = counted last.0 last.1 in omega (arith, e, track, low)),
+        (let high = within last.0 last.1 in omega (arith, e, track, high)),
+        ends_here,
+      )
         where
           ends_here : IsFree s.wires n (p + 1)
           ends_here u h f = elim (cases_lt (greater (untracked u)) p) [
             | inl less ↦ omega (arith, less)
             | inr high ↦
-                let same : u ≡ last.0 = one_reaches u last.0 h last.1 (f ∙ e ∙ track) high (let here = last.2 in omega (arith, here)) in
-                let place : greater (untracked u) ≡ greater (untracked last.0) = ap (λ (y : Tracked). greater (untracked y)) same in
+                let same : u ≡ last.0 = one_reaches u last.0 h last.1 (f ∙ e ∙ track) high
+                (let here = last.2 in omega (arith, here)) in
+                let place : greater (untracked u) ≡ greater (untracked last.0) =
+                ap (λ (y : Tracked). greater (untracked y)) same in
                 let here = last.2 in
                 omega (arith, place, here)
           ]

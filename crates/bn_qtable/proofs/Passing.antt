@@ -7,7 +7,8 @@ use Rattle.bn_csv.specs.Forms.{is_state_name, is_symbol}
 use Rattle.bn_csv.proofs.FaultLemmas.{in_number, passed, within_number}
 use Rattle.bn_machine.specs.declared.quint.Shift.{Shift}
 use Rattle.bn_machine.specs.declared.quint.Shift.TheVariants.{Left, Stay, Right}
-use Rattle.bn_qtable.specs.Entry.{SaidQuadruple, Says, Rewrites, Moves, HasForms, SaysHasForms, quadruple_entry, read_field, act_field, slash}
+use Rattle.bn_qtable.specs.Entry.{SaidQuadruple, Says, Rewrites, Moves, HasForms, SaysHasForms, quadruple_entry}
+use Rattle.bn_qtable.specs.Entry.{read_field, act_field, slash}
 use Rattle.bn_machine.specs.Shifts.{is_shift, shift_text}
 use Rattle.bn_qtable.specs.Faults.{quadruple_entry_fault, quadruple_field_fault, quadruple_form_fault, is_read, is_act}
 use Rattle.bn_qtable.specs.declared.entry.TheConstants.{MOST_ENTRIES}
@@ -66,7 +67,8 @@ record Passes (a b c d e f g h : List ℕ) : Type 0 where
   act3 : is_act d g ≡ true
   next : is_state_name h ≡ true
 
-fields-pass : (n : ℕ) (a b c d e f g h : List ℕ) → quadruple_field_fault n a b c d e f g h ≡ None → Passes a b c d e f g h
+fields-pass : (n : ℕ) (a b c d e f g h : List ℕ) → quadruple_field_fault n a b c d e f g h ≡ None
+    → Passes a b c d e f g h
 fields-pass n a b c d e f g h p =
     let p1 = passed (is_state_name a) _ _ p in
     let p2 = passed (is_read b) _ _ p1.1 in
@@ -76,7 +78,16 @@ fields-pass n a b c d e f g h p =
     let p6 = passed (is_act c f) _ _ p5.1 in
     let p7 = passed (is_act d g) _ _ p6.1 in
     let p8 = passed (is_state_name h) _ _ p7.1 in
-    record { state = p1.0; read1 = p2.0; read2 = p3.0; read3 = p4.0; act1 = p5.0; act2 = p6.0; act3 = p7.0; next = p8.0 }
+    record {
+      state = p1.0;
+      read1 = p2.0;
+      read2 = p3.0;
+      read3 = p4.0;
+      act1 = p5.0;
+      act2 = p6.0;
+      act3 = p7.0;
+      next = p8.0;
+    }
 
 fields-back : (n : ℕ) (s : SaidQuadruple) → HasForms s → quadruple_form_fault n (quadruple_entry s) ≡ None
 fields-back n s h = rw (
@@ -117,7 +128,8 @@ eight-or-fault n (a ∷ b ∷ c ∷ d ∷ e ∷ f ∷ g ∷ x ∷ y ∷ ys) p = 
 
 eight-said : (a b c d e f g h b2 c2 d2 e2 f2 g2 : List ℕ) → b ≡ b2 → c ≡ c2 → d ≡ d2 → e ≡ e2 → f ≡ f2 → g ≡ g2
     → a ∷ b ∷ c ∷ d ∷ e ∷ f ∷ g ∷ h ∷ [] ≡ a ∷ b2 ∷ c2 ∷ d2 ∷ e2 ∷ f2 ∷ g2 ∷ h ∷ []
-eight-said a b c d e f g h b2 c2 d2 e2 f2 g2 p1 p2 p3 p4 p5 p6 = λ i. a ∷ p1 i ∷ p2 i ∷ p3 i ∷ p4 i ∷ p5 i ∷ p6 i ∷ h ∷ []
+eight-said a b c d e f g h b2 c2 d2 e2 f2 g2 p1 p2 p3 p4 p5 p6 =
+    λ i. a ∷ p1 i ∷ p2 i ∷ p3 i ∷ p4 i ∷ p5 i ∷ p6 i ∷ h ∷ []
 
 -- what an entry says
 pub record SaysSo (fields : List (List ℕ)) : Type 0 where
@@ -134,10 +146,13 @@ says-so n fields none =
     let three = tell x.d x.g p.read3 p.act3 in
     record {
       what = record { state = x.a; one = one.told; two = two.told; three = three.told; next = x.h };
-      is = x.is ∙ eight-said x.a x.b x.c x.d x.e x.f x.g x.h _ _ _ _ _ _ one.read_is two.read_is three.read_is one.act_is two.act_is three.act_is;
+      is = x.is ∙ eight-said x.a x.b x.c x.d x.e x.f x.g x.h _ _ _ _ _ _ one.read_is two.read_is three.read_is
+          one.act_is two.act_is three.act_is;
       forms = record { state = p.state; one = one.forms; two = two.forms; three = three.forms; next = p.next };
     }
 
 -- entries in the right forms have no fault, up to as many as a table may have
-pub no_fault : (n : ℕ) (s : SaidQuadruple) → n ≤ MOST_ENTRIES → HasForms s → quadruple_entry_fault n (quadruple_entry s) ≡ None
-no_fault n s few h = within_number MOST_ENTRIES refusal.TooMany quadruple_form_fault n (quadruple_entry s) few ∙ fields-back n s h
+pub no_fault : (n : ℕ) (s : SaidQuadruple) → n ≤ MOST_ENTRIES → HasForms s
+    → quadruple_entry_fault n (quadruple_entry s) ≡ None
+no_fault n s few h = within_number MOST_ENTRIES refusal.TooMany quadruple_form_fault n (quadruple_entry s) few
+    ∙ fields-back n s h

@@ -11,8 +11,10 @@ use Rattle.bn_quad.specs.Calls.{StepsBack}
 use Rattle.bn_quad.proofs.ReversibleLemmas.{turned_list_steps_back}
 use Rattle.bn_quad.specs.declared.quad.Quad.{Quad}
 
-sound_turned : (states : ℕ) (symbols : List ℕ) (q : Quad) → length symbols ≡ 3 → IsSound states symbols q → IsSound states symbols (turned_quad q)
-sound_turned states symbols q tapes h = sound_rule states symbols (turned (rule_of q)) (turned_in_range states symbols (rule_of q) (rule_in_range states symbols q tapes h))
+sound_turned : (states : ℕ) (symbols : List ℕ) (q : Quad) → length symbols ≡ 3 → IsSound states symbols q
+    → IsSound states symbols (turned_quad q)
+sound_turned states symbols q tapes h = sound_rule states symbols (turned (rule_of q))
+    (turned_in_range states symbols (rule_of q) (rule_in_range states symbols q tapes h))
 
 all_reversed : {X : Type 0} (P : X → Type 0) (xs : List X) → All P xs → All P (reverse xs)
 all_reversed P xs h = λ k d inside.
@@ -20,18 +22,23 @@ all_reversed P xs h = λ k d inside.
     let low : k < length xs = omega arith in
     subst P (sym (get_or-reverse xs k d low)) (h (length xs - 1 - k) d (omega arith))
 
-turned_kept : (qs : List Quad) (states : ℕ) (symbols : List ℕ) → IsKept qs states symbols → IsKept (map turned_quad (reverse qs)) states symbols
+turned_kept : (qs : List Quad) (states : ℕ) (symbols : List ℕ) → IsKept qs states symbols
+    → IsKept (map turned_quad (reverse qs)) states symbols
 turned_kept qs states symbols h =
-    let long : length (map turned_quad (reverse qs)) ≡ length qs = length-map (reverse qs) turned_quad ∙ length-reverse qs in
+    let long : length (map turned_quad (reverse qs)) ≡ length qs =
+    length-map (reverse qs) turned_quad ∙ length-reverse qs in
     record {
       some = omega (arith, h.some);
       few = omega (arith, h.few);
       tapes = h.tapes;
-      sound = All-map (IsSound states symbols) turned_quad (reverse qs) (λ k d inside. sound_turned states symbols (get_or (reverse qs) k d) h.tapes (all_reversed (IsSound states symbols) qs h.sound k d inside));
+      sound = All-map (IsSound states symbols) turned_quad (reverse qs)
+          (λ k d inside. sound_turned states symbols (get_or (reverse qs) k d) h.tapes
+          (all_reversed (IsSound states symbols) qs h.sound k d inside));
     }
 
 -- what is kept can be kept turned round
-pub kept_turned : (qs ps : List Quad) (states : ℕ) (symbols : List ℕ) → ps ≡ map turned_quad (reverse qs) → IsKept qs states symbols → IsKept ps states symbols
+pub kept_turned : (qs ps : List Quad) (states : ℕ) (symbols : List ℕ) → ps ≡ map turned_quad (reverse qs)
+    → IsKept qs states symbols → IsKept ps states symbols
 kept_turned qs ps states symbols e h = subst (λ xs. IsKept xs states symbols) (sym e) (turned_kept qs states symbols h)
 
 rules_of-turned : (qs : List Quad) → rules_of (map turned_quad qs) ≡ map turned (rules_of qs)
@@ -50,8 +57,10 @@ pub rules_of-turned_quads : (qs : List Quad) → rules_of (map turned_quad (reve
 rules_of-turned_quads qs = rules_of-turned (reverse qs) ∙ ap (map turned) (reverse-map rule_of qs)
 
 -- what is kept turned round is the machine turned round
-pub inverse_kept : (qs ps : List Quad) (states : ℕ) (symbols : List ℕ) → ps ≡ map turned_quad (reverse qs) → quadruples_of (rules_of ps) states symbols ≡ inverse_of (quadruples_of (rules_of qs) states symbols)
-inverse_kept qs ps states symbols e = ap (λ rs. quadruples_of rs states symbols) (ap rules_of e ∙ rules_of-turned_quads qs)
+pub inverse_kept : (qs ps : List Quad) (states : ℕ) (symbols : List ℕ) → ps ≡ map turned_quad (reverse qs)
+    → quadruples_of (rules_of ps) states symbols ≡ inverse_of (quadruples_of (rules_of qs) states symbols)
+inverse_kept qs ps states symbols e = ap (λ rs. quadruples_of rs states symbols)
+    (ap rules_of e ∙ rules_of-turned_quads qs)
 
 pub inverse_steps_back : (rs ss : List (Rule ℕ)) → ss ≡ turned_list rs → StepsBack rs ss
 inverse_steps_back rs ss e = subst (StepsBack rs) (sym e) (λ n m c d sum. turned_list_steps_back rs n m c d sum)

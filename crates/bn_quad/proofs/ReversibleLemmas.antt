@@ -8,8 +8,11 @@ use Rattle.bn_machine.specs.Tape.{Tape, scanned, write, blank_tape}
 use Rattle.bn_machine.proofs.TapeLemmas.{scanned-write, write-back, shift-back, opposite-opposite}
 use Rattle.bn_lists.specs.Lists.{nth}
 use Rattle.bn_lists.proofs.ListLemmas.{nth_within, nth_once}
-use Rattle.bn_quad.specs.Quadruples.{Deed, Rewrite, Move, Rule, Configuration, DeedApplies, done, AppliesTo, after, Leads, LeadsBy, HasOneSuccessor, HasOnePredecessor, turned_deed, turned, turned_list}
-use Rattle.bn_quad.specs.Overlap.{MeetsInDomain, MeetsInRange, OverlapsInDomain, OverlapsInRange, IsClash, IsDeterministic, IsReversible}
+use Rattle.bn_quad.specs.Quadruples.{Deed, Rewrite, Move, Rule, Configuration, DeedApplies, done, AppliesTo, after}
+use Rattle.bn_quad.specs.Quadruples.{Leads, LeadsBy, HasOneSuccessor, HasOnePredecessor, turned_deed, turned}
+use Rattle.bn_quad.specs.Quadruples.{turned_list}
+use Rattle.bn_quad.specs.Overlap.{MeetsInDomain, MeetsInRange, OverlapsInDomain, OverlapsInRange, IsClash}
+use Rattle.bn_quad.specs.Overlap.{IsDeterministic, IsReversible}
 use Rattle.bn_quad.proofs.ClashLemmas.{clash_once}
 use Rattle.bn_quad.specs.declared.clash.Clash.TheVariants.{Domain, Range}
 
@@ -42,14 +45,26 @@ meets_in_range (Move s) (Move s') t u e = tt
 
 -- a tape to which two deeds that meet in range both come
 meeting : (d e : Deed) → MeetsInRange d e → (t : Tape) × DeedApplies (turned_deed d) t × DeedApplies (turned_deed e) t
-meeting (Rewrite r w) (Rewrite r' w') h = (write blank_tape w, scanned-write blank_tape w, scanned-write blank_tape w ∙ h)
+meeting (Rewrite r w) (Rewrite r' w') h = (
+  write blank_tape w,
+  scanned-write blank_tape w,
+  scanned-write blank_tape w
+      ∙ h,
+)
 meeting (Rewrite r w) (Move s) h = (write blank_tape w, scanned-write blank_tape w, tt)
 meeting (Move s) (Rewrite r w) h = (write blank_tape w, tt, scanned-write blank_tape w)
 meeting (Move s) (Move s') h = (blank_tape, tt, tt)
 
 module _ {Q : Type 0} where
-  pub same_configuration : (c d : Configuration Q) → c.state ≡ d.state → c.one ≡ d.one → c.two ≡ d.two → c.three ≡ d.three → c ≡ d
-  same_configuration c d states one two three = λ i. record { state = states i; one = one i; two = two i; three = three i }
+  pub same_configuration : (c d : Configuration Q) → c.state ≡ d.state → c.one ≡ d.one → c.two ≡ d.two
+      → c.three ≡ d.three → c ≡ d
+  same_configuration c d states one two three = λ i. record {
+    state = states i;
+    one = one i;
+    two = two i;
+    three = three
+        i;
+  }
 
   pub turned-turned : (r : Rule Q) → turned (turned r) ≡ r
   turned-turned r = λ i. record {
@@ -69,7 +84,9 @@ module _ {Q : Type 0} where
       two = admits_back r.two c.two l.applies.two;
       three = admits_back r.three c.three l.applies.three;
     };
-    gives = sym (same_configuration (after (turned r) (after r c)) c (sym l.applies.from) (done_back r.one c.one l.applies.one) (done_back r.two c.two l.applies.two) (done_back r.three c.three l.applies.three));
+    gives = sym (same_configuration (after (turned r) (after r c)) c (sym l.applies.from)
+        (done_back r.one c.one l.applies.one) (done_back r.two c.two l.applies.two)
+        (done_back r.three c.three l.applies.three));
   })
 
   pub turned_leads_back : (r : Rule Q) (c d : Configuration Q) → Leads (turned r) d c → Leads r c d
@@ -88,7 +105,13 @@ module _ {Q : Type 0} where
   both_apply : (r s : Rule Q) (c : Configuration Q) → AppliesTo r c → AppliesTo s c → OverlapsInDomain r s
   both_apply r s c h k = record {
     from = sym h.from ∙ k.from;
-    tapes = (meets_in_domain r.one s.one c.one h.one k.one, (meets_in_domain r.two s.two c.two h.two k.two, (meets_in_domain r.three s.three c.three h.three k.three, tt)));
+    tapes = (
+      meets_in_domain r.one s.one c.one h.one k.one,
+      (
+        meets_in_domain r.two s.two c.two h.two k.two,
+        (meets_in_domain r.three s.three c.three h.three k.three, tt),
+      ),
+    );
   }
 
   -- two that lead to one configuration overlap in range
@@ -107,7 +130,8 @@ module _ {Q : Type 0} where
       }
 
   -- to two that overlap in range there is a configuration to which both lead
-  both_from : (r s : Rule Q) → OverlapsInRange r s → (e : Configuration Q) × AppliesTo (turned r) e × AppliesTo (turned s) e
+  both_from : (r s : Rule Q) → OverlapsInRange r s → (e : Configuration Q) × AppliesTo (turned r) e
+      × AppliesTo (turned s) e
   both_from r s h =
       let one = meeting r.one s.one h.tapes.0 in
       let two = meeting r.two s.two h.tapes.1.0 in
@@ -120,18 +144,22 @@ module _ {Q : Type 0} where
   -- ---- the list
 
   -- of quadruples that are apart in domain one at most applies
-  pub one_applies : (rs : List (Rule Q)) (m n : ℕ) (r s : Rule Q) (c : Configuration Q) → IsDeterministic rs → nth rs m ≡ Some r → nth rs n ≡ Some s → AppliesTo r c → AppliesTo s c → m ≡ n
+  pub one_applies : (rs : List (Rule Q)) (m n : ℕ) (r s : Rule Q) (c : Configuration Q) → IsDeterministic rs
+      → nth rs m ≡ Some r → nth rs n ≡ Some s → AppliesTo r c → AppliesTo s c → m ≡ n
   one_applies rs m n r s c apart here there h k = clash_once Domain rs m n r s apart here there (both_apply r s c h k)
 
   -- of quadruples that are apart in range one at most leads to a configuration
-  pub one_leads : (rs : List (Rule Q)) (m n : ℕ) (r s : Rule Q) (c d e : Configuration Q) → IsReversible rs → nth rs m ≡ Some r → nth rs n ≡ Some s → Leads r c e → Leads s d e → m ≡ n
-  one_leads rs m n r s c d e apart here there h k = clash_once Range rs m n r s apart here there (both_lead r s c d e h k)
+  pub one_leads : (rs : List (Rule Q)) (m n : ℕ) (r s : Rule Q) (c d e : Configuration Q) → IsReversible rs
+      → nth rs m ≡ Some r → nth rs n ≡ Some s → Leads r c e → Leads s d e → m ≡ n
+  one_leads rs m n r s c d e apart here there h k = clash_once Range rs m n r s apart here there
+      (both_lead r s c d e h k)
 
   pub one_successor : (rs : List (Rule Q)) → IsDeterministic rs → HasOneSuccessor rs
   one_successor rs apart = λ c d e f g.
       let l = f.leads in
       let k = g.leads in
-      let same = one_applies rs f.number g.number l.rule k.rule c apart l.stands k.stands l.leads.applies k.leads.applies in
+      let same = one_applies rs f.number g.number l.rule k.rule c apart l.stands k.stands l.leads.applies
+      k.leads.applies in
       let there : nth rs g.number ≡ Some l.rule = subst (λ i. nth rs i ≡ Some l.rule) same l.stands in
       let one : l.rule ≡ k.rule = nth_once rs g.number l.rule k.rule there k.stands in
       leads_once k.rule c d e (subst (λ r. Leads r c d) one l.leads) k.leads
@@ -149,15 +177,28 @@ module _ {Q : Type 0} where
   reversible_if : (rs : List (Rule Q)) → IsDeterministic rs → HasOnePredecessor rs → IsReversible rs
   reversible_if rs apart only = record { none = λ i j k. refute i j k (both_from k.first k.second k.clashes) }
     where
-      refute : (i j : ℕ) (k : IsClash Range rs i j) → (e : Configuration Q) × AppliesTo (turned k.first) e × AppliesTo (turned k.second) e → ⊥
+      refute : (i j : ℕ) (k : IsClash Range rs i j) → (e : Configuration Q) × AppliesTo (turned k.first) e
+          × AppliesTo (turned k.second) e → ⊥
       refute i j k (e, h, g) =
           let c = after (turned k.first) e in
           let d = after (turned k.second) e in
           let l : Leads k.first c e = turned_leads_back k.first c e (record { applies = h; gives = refl }) in
           let m : Leads k.second d e = turned_leads_back k.second d e (record { applies = g; gives = refl }) in
-          let same : c ≡ d = only c d e (record { number = i; leads = record { rule = k.first; stands = k.first_stands; leads = l } }) (record { number = j; leads = record { rule = k.second; stands = k.second_stands; leads = m } }) in
+          let same : c ≡ d = only c d e (record {
+            number = i;
+            leads = record
+                { rule = k.first; stands = k.first_stands; leads = l };
+          })
+          (record { number = j; leads = record { rule = k.second; stands = k.second_stands; leads = m } }) in
           let applies : AppliesTo k.second c = subst (AppliesTo k.second) (sym same) m.applies in
-          apart.none i j (record { before = k.before; first = k.first; second = k.second; first_stands = k.first_stands; second_stands = k.second_stands; clashes = both_apply k.first k.second c l.applies applies })
+          apart.none i j (record {
+            before = k.before;
+            first = k.first;
+            second = k.second;
+            first_stands = k.first_stands;
+            second_stands = k.second_stands;
+            clashes = both_apply k.first k.second c l.applies applies;
+          })
 
   -- Deterministic quadruples are reversible exactly where no two configurations have one successor.
   pub reversible_is_one_to_one : (rs : List (Rule Q)) → IsDeterministic rs → (IsReversible rs ↔ HasOnePredecessor rs)
@@ -166,43 +207,62 @@ module _ {Q : Type 0} where
   -- ---- turned round
 
   at_place : (rs : List (Rule Q)) (k : ℕ) (r : Rule Q) → slice_get rs k ≡ Some r → get_or rs k r ≡ r
-  at_place rs k r e = let inside : k < length rs = slice_get_within rs k r e in some_once (sym (slice_get-get_or rs k r inside) ∙ e)
+  at_place rs k r e = let inside : k < length rs = slice_get_within rs k r e in some_once
+      (sym (slice_get-get_or rs k r inside) ∙ e)
     where
       some_once : {X : Type 0} {x y : X} → Some x ≡ Some y → x ≡ y
       some_once e = cc
 
-  turned_place : (rs : List (Rule Q)) (k j : ℕ) (r : Rule Q) → suc k + suc j ≡ length rs + 1 → slice_get rs k ≡ Some r → slice_get (turned_list rs) j ≡ Some (turned r)
+  turned_place : (rs : List (Rule Q)) (k j : ℕ) (r : Rule Q) → suc k + suc j ≡ length rs + 1 → slice_get rs k ≡ Some r
+      → slice_get (turned_list rs) j ≡ Some (turned r)
   turned_place rs k j r sum e =
       let inside : k < length rs = slice_get_within rs k r e in
       let long : length (reverse rs) ≡ length rs = length-reverse rs in
       let mirrored : length rs - 1 - j ≡ k = omega arith in
       let low : j < length rs = omega arith in
       let low_reversed : j < length (reverse rs) = omega arith in
-      let found : slice_get (reverse rs) j ≡ Some r = slice_get-get_or (reverse rs) j r low_reversed ∙ ap Some (get_or-reverse rs j r low ∙ ap (λ i. get_or rs i r) mirrored ∙ at_place rs k r e) in
+      let found : slice_get (reverse rs) j ≡ Some r = slice_get-get_or (reverse rs) j r low_reversed
+      ∙ ap Some (get_or-reverse rs j r low ∙ ap (λ i. get_or rs i r) mirrored ∙ at_place rs k r e) in
       slice_get-map turned (reverse rs) j ∙ ap (option_map turned) found
 
   -- the quadruple that stands n-th from the front stands, turned round, n-th from the back
-  pub nth-turned_list : (rs : List (Rule Q)) (n m : ℕ) (r : Rule Q) → n + m ≡ length rs + 1 → nth rs n ≡ Some r → nth (turned_list rs) m ≡ Some (turned r)
+  pub nth-turned_list : (rs : List (Rule Q)) (n m : ℕ) (r : Rule Q) → n + m ≡ length rs + 1 → nth rs n ≡ Some r
+      → nth (turned_list rs) m ≡ Some (turned r)
   nth-turned_list rs zero m r sum e = absurd (cc)
-  nth-turned_list rs (suc k) zero r sum e = let inside : suc k ≤ length rs = nth_within rs (suc k) r e in absurd (omega arith)
+  nth-turned_list rs (suc k) zero r sum e = let inside : suc k ≤ length rs =
+      nth_within rs (suc k) r e in absurd (omega arith)
   nth-turned_list rs (suc k) (suc j) r sum e = turned_place rs k j r sum e
 
   -- each step by a quadruple of the list is turned round by one of the list turned round
-  pub turned_list_steps_back : (rs : List (Rule Q)) (n m : ℕ) (c d : Configuration Q) → n + m ≡ length rs + 1 → LeadsBy rs n c d ↔ LeadsBy (turned_list rs) m d c
+  pub turned_list_steps_back : (rs : List (Rule Q)) (n m : ℕ) (c d : Configuration Q) → n + m ≡ length rs + 1
+      → LeadsBy rs n c d ↔ LeadsBy (turned_list rs) m d c
   turned_list_steps_back rs n m c d sum = (forth, back n m sum)
     where
       forth : LeadsBy rs n c d → LeadsBy (turned_list rs) m d c
-      forth l = record { rule = turned l.rule; stands = nth-turned_list rs n m l.rule sum l.stands; leads = turned_leads l.rule c d l.leads }
+      forth l = record {
+        rule = turned l.rule;
+        stands = nth-turned_list rs n m l.rule sum l.stands;
+        leads = turned_leads
+            l.rule c d l.leads;
+      }
 
       length_of_turned : length (turned_list rs) ≡ length rs
       length_of_turned = length-map (reverse rs) turned ∙ length-reverse rs
 
       back : (n m : ℕ) → n + m ≡ length rs + 1 → LeadsBy (turned_list rs) m d c → LeadsBy rs n c d
-      back zero m sum l = let high : m ≤ length (turned_list rs) = nth_within (turned_list rs) m l.rule l.stands in absurd (omega (arith, length_of_turned))
+      back zero m sum l = let high : m ≤ length (turned_list rs) =
+          nth_within (turned_list rs) m l.rule l.stands in absurd (omega (arith, length_of_turned))
       back (suc k) zero sum l = let e = l.stands in absurd (cc)
       back (suc k) (suc j) sum l =
           let inside : k < length rs = omega arith in
           let here : nth rs (suc k) ≡ Some (get_or rs k l.rule) = slice_get-get_or rs k l.rule inside in
-          let there : nth (turned_list rs) (suc j) ≡ Some (turned (get_or rs k l.rule)) = nth-turned_list rs (suc k) (suc j) (get_or rs k l.rule) sum here in
-          let one : l.rule ≡ turned (get_or rs k l.rule) = nth_once (turned_list rs) (suc j) l.rule (turned (get_or rs k l.rule)) l.stands there in
-          record { rule = get_or rs k l.rule; stands = here; leads = turned_leads_back (get_or rs k l.rule) c d (subst (λ r. Leads r d c) one l.leads) }
+          let there : nth (turned_list rs) (suc j) ≡ Some (turned (get_or rs k l.rule)) =
+          nth-turned_list rs (suc k) (suc j) (get_or rs k l.rule) sum here in
+          let one : l.rule ≡ turned (get_or rs k l.rule) = nth_once (turned_list rs) (suc j) l.rule
+          (turned (get_or rs k l.rule)) l.stands there in
+          record {
+            rule = get_or rs k l.rule;
+            stands = here;
+            leads = turned_leads_back (get_or rs k l.rule) c d
+                (subst (λ r. Leads r d c) one l.leads);
+          }

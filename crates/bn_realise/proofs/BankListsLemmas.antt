@@ -10,26 +10,38 @@ use Rattle.bn_column.specs.Nets.{wire_of}
 use Rattle.bn_net.specs.Wirings.{AreWiresOf}
 use Rattle.bn_realise.specs.Banks.{column_at, IsBankWire}
 use Rattle.bn_realise.specs.BankWires.{IsEarlier, IsHalf, IsStage}
-use Rattle.bn_realise.proofs.BankWiresLemmas.{all_earlier, half_with, half_without, none_earlier, stage_begins, stage_ends, stage_with, stage_without}
+use Rattle.bn_realise.proofs.BankWiresLemmas.{all_earlier, half_with, half_without, none_earlier, stage_begins}
+use Rattle.bn_realise.proofs.BankWiresLemmas.{stage_ends, stage_with, stage_without}
 
 module _ (b : ℕ) (t : Table) (reversible : IsReversible t) (square : t.outputs ≡ t.inputs) (some : 0 < t.inputs) where
   -- with the wire of a row on to the next column
-  half_list : (j i : ℕ) (ws : List Wire) → i < t.inputs → AreWiresOf (IsStage b t j i) ws → (vs : List Wire) × AreWiresOf (IsHalf b t j i) vs
+  half_list : (j i : ℕ) (ws : List Wire) → i < t.inputs → AreWiresOf (IsStage b t j i) ws
+      → (vs : List Wire) × AreWiresOf (IsHalf b t j i) vs
   half_list j i ws row stage = by_next (cases_lt (j + 1) t.states)
     where
       by_next : (j + 1 < t.states) ⊎ (t.states ≤ j + 1) → (vs : List Wire) × AreWiresOf (IsHalf b t j i) vs
-      by_next (inl next) = (ws ++ wire_of (column_at b t.inputs j + i) east (column_at b t.inputs (j + 1) + i) west ∷ [], half_with b t reversible square some j i ws next row stage)
+      by_next (inl next) = (
+        ws ++ wire_of (column_at b t.inputs j + i) east (column_at b t.inputs (j + 1) + i) west
+            ∷ [],
+        half_with b t reversible square some j i ws next row stage,
+      )
       by_next (inr last) = (ws, half_without b t reversible square some j i ws last stage)
 
   -- and with the wire from where its signal is turned back
-  row_list : (j i : ℕ) (ws : List Wire) → j < t.states → i < t.inputs → AreWiresOf (IsHalf b t j i) ws → (vs : List Wire) × AreWiresOf (IsStage b t j (i + 1)) vs
+  row_list : (j i : ℕ) (ws : List Wire) → j < t.states → i < t.inputs → AreWiresOf (IsHalf b t j i) ws
+      → (vs : List Wire) × AreWiresOf (IsStage b t j (i + 1)) vs
   row_list j i ws there row half = by_move (t.go j i) refl
     where
       by_move : (o : Option (ℕ × ℕ)) → t.go j i ≡ o → (vs : List Wire) × AreWiresOf (IsStage b t j (i + 1)) vs
       by_move None none = (ws, stage_without b t reversible square some j i ws none half)
-      by_move (Some m) goes = (ws ++ wire_of (column_at b t.inputs j + i) west (column_at b t.inputs m.0 + m.1) east ∷ [], stage_with b t reversible square some j i m.0 m.1 ws there row goes half)
+      by_move (Some m) goes = (
+        ws ++ wire_of (column_at b t.inputs j + i) west (column_at b t.inputs m.0 + m.1) east
+            ∷ [],
+        stage_with b t reversible square some j i m.0 m.1 ws there row goes half,
+      )
 
-  stage_list : (j i : ℕ) (ws : List Wire) → j < t.states → i ≤ t.inputs → AreWiresOf (IsEarlier b t j) ws → (vs : List Wire) × AreWiresOf (IsStage b t j i) vs
+  stage_list : (j i : ℕ) (ws : List Wire) → j < t.states → i ≤ t.inputs → AreWiresOf (IsEarlier b t j) ws
+      → (vs : List Wire) × AreWiresOf (IsStage b t j i) vs
   stage_list j zero ws there row earlier =
       let inner = inner_wires (column_at b t.inputs j) t.inputs some in
       (ws ++ inner.0, stage_begins b t reversible square some j ws inner.0 there earlier inner.1)
@@ -45,8 +57,11 @@ module _ (b : ℕ) (t : Table) (reversible : IsReversible t) (square : t.outputs
   earlier_list (suc j) within =
       let before = earlier_list j (omega arith) in
       let whole = stage_list j t.inputs before.0 (omega arith) (omega arith) before.1 in
-      let count : j + 1 ≡ suc j = omega arith in
-      (whole.0, subst (λ n. AreWiresOf (IsEarlier b t n) whole.0) count (stage_ends b t reversible square some j t.inputs whole.0 refl whole.1))
+      let count : j + 1 ≡ suc j = omega arith in (
+        whole.0,
+        subst (λ n. AreWiresOf (IsEarlier b t n) whole.0) count
+            (stage_ends b t reversible square some j t.inputs whole.0 refl whole.1),
+      )
 
   pub bank_list : (ws : List Wire) × AreWiresOf (IsBankWire b t) ws
   bank_list =

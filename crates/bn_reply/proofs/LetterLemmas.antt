@@ -1,5 +1,6 @@
 -- The letters of a word, one after another.
-use Rattle.std.proofs.Common.{append_assoc, ◌≡◌, ◌≢◌, ◌<◌, ◌+◌, ◌++◌, ◌∷◌, ◌∙◌, ℕ, suc, List, [], length, take, get_or, Option, Some, None, arith, sym, ap}
+use Rattle.std.proofs.Common.{append_assoc, ◌≡◌, ◌≢◌, ◌<◌, ◌+◌, ◌++◌, ◌∷◌, ◌∙◌, ℕ, suc, List, [], length, take, get_or}
+use Rattle.std.proofs.Common.{Option, Some, None, arith, sym, ap}
 use Rattle.std.proofs.Common.{subst, refl}
 use Rattle.std.specs.Prelude.{Contains, IfSome, IfNone, MatchOption, slice_get}
 use Rattle.std.proofs.lemmas.List.{take_more, map-append}
@@ -22,10 +23,16 @@ table_alphabet t h = record { begins = blank_first t h; apart = one_symbol t h }
 
 -- a byte with a place among the letters is one of them
 pub letter_at : (t : Named) (byte symbol : ℕ) → slice_get t.letters symbol ≡ Some byte → Contains t.letters byte
-letter_at t byte symbol here = (symbol, slice_get_within t.letters symbol byte here, get_or_from_slice_get t.letters symbol byte byte here)
+letter_at t byte symbol here = (
+  symbol,
+  slice_get_within t.letters symbol byte here,
+  get_or_from_slice_get t.letters
+      symbol byte byte here,
+)
 
 -- what a table's answer says of a byte that isn't the blank's letter
-pub symbol_found : (t : Named) → HasAlphabet t → (byte : ℕ) → byte ≢ blank → (o : Option ℕ) → IfSome o (λ s. slice_get t.letters s ≡ Some byte) →
+pub symbol_found : (t : Named) → HasAlphabet t → (byte : ℕ) → byte ≢ blank → (o : Option ℕ)
+    → IfSome o (λ s. slice_get t.letters s ≡ Some byte) →
     IfNone o (Contains t.letters byte → ⊥) → MatchOption o (IsLetterOf t byte → ⊥) (IsSymbolOf t byte)
 symbol_found t h byte apart None found none = λ letter. none letter.known
 symbol_found t h byte apart (Some s) found none = record {
@@ -59,7 +66,8 @@ none_so_far t word = record {
 at_number : (word : List ℕ) (n : ℕ) → n < length word → nth word (suc n) ≡ Some (get_or word n 0)
 at_number word n h = slice_get-get_or word n 0 h
 
-pub one_more : (t : Named) (word : List ℕ) (n : ℕ) (symbols : List ℕ) (s : ℕ) → n < length word → SpelledSoFar t word n symbols →
+pub one_more : (t : Named) (word : List ℕ) (n : ℕ) (symbols : List ℕ) (s : ℕ) → n < length word
+    → SpelledSoFar t word n symbols →
     IsSymbolOf t (get_or word n 0) s → SpelledSoFar t word (n + 1) (symbols ++ s ∷ [])
 one_more t word n symbols s inside h symbol = record {
   spelled = record {
@@ -73,21 +81,29 @@ one_more t word n symbols s inside h symbol = record {
     });
   };
   before =
-      let more : AllBefore (IsLetterOf t) word (suc (suc n)) = all_before_more (IsLetterOf t) word (suc n) (get_or word n 0) h.before
+      let more : AllBefore (IsLetterOf t) word (suc (suc n)) = all_before_more (IsLetterOf t) word (suc n)
+      (get_or word n 0) h.before
       (at_number word n inside) symbol.letter in
       let e : suc (suc n) ≡ suc (n + 1) = omega arith in
       subst (AllBefore (IsLetterOf t) word) e more;
 }
 
 -- the byte behind them is the first that is foreign
-pub first_foreign : (t : Named) (word : List ℕ) (n : ℕ) (symbols : List ℕ) → n < length word → SpelledSoFar t word n symbols →
+pub first_foreign : (t : Named) (word : List ℕ) (n : ℕ) (symbols : List ℕ) → n < length word
+    → SpelledSoFar t word n symbols →
     (IsLetterOf t (get_or word n 0) → ⊥) → IsFirstForeign t word (n + 1)
 first_foreign t word n symbols inside h foreign =
     let e : suc n ≡ n + 1 = omega arith in
-    subst (IsFirstForeign t word) e (record { byte = get_or word n 0; stands = at_number word n inside; foreign = foreign; before = h.before })
+    subst (IsFirstForeign t word) e (record {
+      byte = get_or word n 0;
+      stands = at_number word n inside;
+      foreign = foreign;
+      before = h.before;
+    })
 
 -- the letters of the symbols up to one more
-pub letters_of-next : (t : Named) (text symbols : List ℕ) (n byte : ℕ) → n < length symbols → slice_get t.letters (get_or symbols n 0) ≡ Some byte →
+pub letters_of-next : (t : Named) (text symbols : List ℕ) (n byte : ℕ) → n < length symbols
+    → slice_get t.letters (get_or symbols n 0) ≡ Some byte →
     (text ++ letters_of t (take n symbols)) ++ byte ∷ [] ≡ text ++ letters_of t (take (n + 1) symbols)
 letters_of-next t text symbols n byte inside here =
     append_assoc text (letters_of t (take n symbols)) (byte ∷ [])

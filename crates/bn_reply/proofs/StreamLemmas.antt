@@ -7,19 +7,22 @@ use Rattle.bn_reply.specs.Outside.{GaveAll, GaveMore}
 use Rattle.bn_reply.specs.declared.limits.TheConstants.{MOST_INPUT_BYTES}
 
 -- an input that was read whole
-pub gave_read : (left after : Option (List ℕ)) (bytes : List ℕ) → IfSome left (λ xs. (bytes ≡ xs) × (after ≡ Some [])) → GaveAll left after bytes
+pub gave_read : (left after : Option (List ℕ)) (bytes : List ℕ) → IfSome left (λ xs. (bytes ≡ xs) × (after ≡ Some []))
+    → GaveAll left after bytes
 gave_read None after bytes h = record { lost = tt; ended = tt }
 gave_read (Some xs) after bytes h =
     let lost : Loses (Some xs) (Some []) bytes = sym h.0 ∙ sym (append-nil bytes) in
     record { lost = subst (λ a. Loses (Some xs) a bytes) (sym h.1) lost; ended = h.1 }
 
 -- an input that was found too long
-pub gave_more : (left after : Option (List ℕ)) (limit : ℕ) (too_long : Type 0) (bytes : List ℕ) → ReadsWithin left after limit too_long bytes → too_long →
+pub gave_more : (left after : Option (List ℕ)) (limit : ℕ) (too_long : Type 0) (bytes : List ℕ)
+    → ReadsWithin left after limit too_long bytes → too_long →
     GaveMore left after limit
 gave_more left after limit too_long bytes reads is = (bytes, reads.lost, reads.longer is)
 
 -- an input that was not
-pub gave_within : (left after : Option (List ℕ)) (limit : ℕ) (too_long : Type 0) (bytes : List ℕ) → ReadsWithin left after limit too_long bytes → (too_long → ⊥) →
+pub gave_within : (left after : Option (List ℕ)) (limit : ℕ) (too_long : Type 0) (bytes : List ℕ)
+    → ReadsWithin left after limit too_long bytes → (too_long → ⊥) →
     length bytes ≤ limit
 gave_within left after limit too_long bytes reads none = by (cases_lt limit (length bytes))
   where
@@ -33,7 +36,8 @@ gives_same xs bytes after lost ended =
     sym (none ∙ append-nil bytes)
 
 -- what holds of the bytes that were read holds of those that the source tells
-pub at_bytes : (left after : Option (List ℕ)) (bytes : List ℕ) (P : List ℕ → Type 0) → GaveAll left after bytes → P bytes → IfSome left P
+pub at_bytes : (left after : Option (List ℕ)) (bytes : List ℕ) (P : List ℕ → Type 0) → GaveAll left after bytes
+    → P bytes → IfSome left P
 at_bytes None after bytes P all p = tt
 at_bytes (Some xs) after bytes P all p = subst P (gives_same xs bytes after all.lost all.ended) p
 

@@ -1,4 +1,5 @@
--- Bytes are a table, or have a first fault, and not both; a table's machine is in standard form, or a first demand isn't met.
+-- Bytes are a table, or have a first fault, and not both; a table's machine is in standard form, or a first demand
+-- isn't met.
 use Rattle.std.proofs.Common.{◌≡◌, ◌≢◌, ℕ, List, ◌⊎◌, inl, inr, refl, sym, subst, ap, ◌∙◌, Option, Some, None}
 use Rattle.std.specs.Prelude.{◌↔◌}
 use Rattle.bn_csv.specs.Entries.{entries_of}
@@ -18,7 +19,8 @@ use Rattle.bn_reply.proofs.StandardOrNot.{standard_or_not}
 -- ---- any table
 
 -- of one first fault one text tells
-pub first_once : {T F : Type 0} (R : T → Type 0) (found : Option F) (line_of : F → List ℕ) (a b : List ℕ) → TellsFirst R found line_of a →
+pub first_once : {T F : Type 0} (R : T → Type 0) (found : Option F) (line_of : F → List ℕ) (a b : List ℕ)
+    → TellsFirst R found line_of a →
     TellsFirst R found line_of b → a ≡ b
 first_once R found line_of a b h k =
     let same : h.fault ≡ k.fault = cc (h.first, k.first) in
@@ -29,7 +31,8 @@ none_or_some None = inl refl
 none_or_some (Some f) = inr (f, refl)
 
 -- there is a reading, or the first fault is told
-pub read_or_told : {T F : Type 0} (R : T → Type 0) (found : Option F) (line_of : F → List ℕ) → (found ≡ None) ↔ ((t : T) × R t) →
+pub read_or_told : {T F : Type 0} (R : T → Type 0) (found : Option F) (line_of : F → List ℕ)
+    → (found ≡ None) ↔ ((t : T) × R t) →
     ((t : T) × R t) ⊎ ((text : List ℕ) × TellsFirst R found line_of text)
 read_or_told R found line_of law = elim (none_or_some found) [
   | inl none ↦ inl (law.0 none)
@@ -63,10 +66,12 @@ fault_once bytes a b h k = first_once (Reads bytes) (table_fault (entries_of byt
 -- ---- a table's machine
 
 pub why_once : (t : Named) (a b : List ℕ) → TellsWhy t a → TellsWhy t b → a ≡ b
-why_once t a b h k = h.told ∙ ap why_line (verdict_once t.machine.quints h.why k.why h.said k.said h.first k.first) ∙ sym k.told
+why_once t a b h k = h.told ∙ ap why_line (verdict_once t.machine.quints h.why k.why h.said k.said h.first k.first)
+    ∙ sym k.told
 
 -- a demand that isn't met, told in its line
-pub why_told : (t : Named) (why : Why) (text : List ℕ) → IsStandardRefusal t.machine.quints why → why ≢ whys.NoMemory → text ≡ why_line why → TellsWhy t text
+pub why_told : (t : Named) (why : Why) (text : List ℕ) → IsStandardRefusal t.machine.quints why → why ≢ whys.NoMemory
+    → text ≡ why_line why → TellsWhy t text
 why_told t why text first said told = record {
   unfit = λ s. said
       (standard_accepted t.machine.quints why s first);

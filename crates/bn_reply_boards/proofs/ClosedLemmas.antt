@@ -8,4 +8,5 @@ use Rattle.bn_reply_boards_laws.proofs.HeadlineLemmas.{replies-tell_outcomes}
 use Rattle.bn_table.proofs.MachineLemmas.{tables_machines}
 
 pub tells : GeneratedRunsTellOutcomes
-tells = λ k status text told count. told_of (replies-tell_outcomes tables_machines flats_one counted exits-one run_to_exit moments) k status text told
+tells = λ k status text told count. told_of (replies-tell_outcomes tables_machines flats_one counted exits-one
+    run_to_exit moments) k status text told

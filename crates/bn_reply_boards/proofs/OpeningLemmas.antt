@@ -41,7 +41,8 @@ all_three P x y z first second third (suc (suc (suc k))) d low = absurd (omega a
 
 -- the machine of a translation is within the limits of controls
 pub within_limits : (p : Program) (t : Translation) → IsMachine p → FitsTable p → IsTranslation p t
-    → t.machine.states ≡ 2 * p.states + 2 * length p.quints + 4 → length t.machine.rules ≡ 4 * length p.quints + 2 * p.symbols + 3 → IsWithinLimits t.machine
+    → t.machine.states ≡ 2 * p.states + 2 * length p.quints + 4
+    → length t.machine.rules ≡ 4 * length p.quints + 2 * p.symbols + 3 → IsWithinLimits t.machine
 within_limits p t machine fits is states rules =
     let some = some_symbols p machine in
     let few = fits.symbols in
@@ -50,16 +51,22 @@ within_limits p t machine fits is states rules =
     record {
       quadruples = omega arith;
       states = omega arith;
-      some_symbols = subst (λ zs. All (λ z. 1 ≤ z) zs) (sym is.symbols) (all_three (λ z. 1 ≤ z) p.symbols (length p.quints + 1) p.symbols (omega arith) (omega arith) (omega arith));
-      few_symbols = subst (λ zs. All (λ z. z ≤ 4001) zs) (sym is.symbols) (all_three (λ z. z ≤ 4001) p.symbols (length p.quints + 1) p.symbols (omega arith) (omega arith) (omega arith));
+      some_symbols = subst (λ zs. All (λ z. 1 ≤ z) zs) (sym is.symbols)
+          (all_three (λ z. 1 ≤ z) p.symbols (length p.quints + 1) p.symbols (omega arith) (omega arith) (omega arith));
+      few_symbols = subst (λ zs. All (λ z. z ≤ 4001) zs) (sym is.symbols)
+          (all_three (λ z. z ≤ 4001) p.symbols (length p.quints + 1) p.symbols (omega arith) (omega arith)
+          (omega arith));
     }
 
 -- a word of a table's letters is one of the translation's first tape
-pub word_of : (t : Named) (m : Translation) (symbols : List ℕ) → t.machine.symbols ≡ length t.letters → IsTranslation t.machine m → All (IsLetterSymbol t) symbols
+pub word_of : (t : Named) (m : Translation) (symbols : List ℕ) → t.machine.symbols ≡ length t.letters
+    → IsTranslation t.machine m → All (IsLetterSymbol t) symbols
     → IsWordOf m.machine symbols
 word_of t m symbols count is all k d low =
     let letter = all k d low in
-    let first : symbol_count m.machine 1 ≡ t.machine.symbols = ap (λ zs. symbol_count (record { rules = m.machine.rules; states = m.machine.states; symbols = zs }) 1) is.symbols in
+    let first : symbol_count m.machine 1 ≡ t.machine.symbols =
+    ap (λ zs. symbol_count (record { rules = m.machine.rules; states = m.machine.states; symbols = zs }) 1)
+    is.symbols in
     let apart = letter.letter in
     let known = letter.known in
     (positive _ apart, omega arith)
@@ -69,13 +76,16 @@ word_of t m symbols count is all k d low =
     positive (suc n) h = omega arith
 
 -- the count of a refusal is that of the machine's boards
-pub counted : (p : Program) (t : Translation) (l : Limits) (count : ℕ) → IsTranslation p t → assembled.CountsElements t.machine l count → CountsElements p l count
+pub counted : (p : Program) (t : Translation) (l : Limits) (count : ℕ) → IsTranslation p t
+    → assembled.CountsElements t.machine l count → CountsElements p l count
 counted p t l count is h = record { translation = t; names = h.0; translates = is; numbering = h.1; is = h.2 }
 
 -- the number of elements of a board
-pub elements_are : (n : Circuit) (net : Parts Rotary) → IsBoard n (rotary_circuit net) → length net.elements ≡ size n.tables
+pub elements_are : (n : Circuit) (net : Parts Rotary) → IsBoard n (rotary_circuit net)
+    → length net.elements ≡ size n.tables
 elements_are n net board =
-    sym (length-map net.elements (λ _. rotary)) ∙ ap (λ ts. length ts) board.tables ∙ length-replicate (size n.tables) rotary
+    sym (length-map net.elements (λ _. rotary)) ∙ ap (λ ts. length ts) board.tables
+    ∙ length-replicate (size n.tables) rotary
 
 -- what is assembled and flattened is the machine's board
 module _ (m : Quadruples) (l : Limits) (c : Configuration ℕ) (a : Assembled) (b : Flattened) (names : List ControlState)
@@ -105,11 +115,20 @@ module _ (m : Quadruples) (l : Limits) (c : Configuration ℕ) (a : Assembled) (
   }
 
 -- so is that of a translation
-module _ (p : Program) (l : Limits) (symbols : List ℕ) (t : Translation) (is : IsTranslation p t) (fits : length symbols ≤ l.right) where
+module _ (p : Program) (l : Limits) (symbols : List ℕ) (t : Translation) (is : IsTranslation p t)
+    (fits : length symbols ≤ l.right) where
   module _ (b : Flattened) (names : List ControlState) (network : Circuit)
       (h : IsBoardFor t.machine l (words_on t.machine symbols [] []) names network b) where
     abbrev as_flat : Flat
-    as_flat = record { translation = t; limits = l; word = symbols; names = names; network = network; circuit = rotary_circuit b.net; layout = b.layout }
+    as_flat = record {
+      translation = t;
+      limits = l;
+      word = symbols;
+      names = names;
+      network = network;
+      circuit = rotary_circuit b.net;
+      layout = b.layout;
+    }
 
     is_flat : IsFlatOf p symbols l as_flat
     is_flat = record {

@@ -20,7 +20,8 @@ use Rattle.bn_realise.specs.Banks.{bottom_at}
 use Rattle.bn_network.specs.Cells.{cell_line_count}
 use Rattle.bn_network.specs.Networks.{cells_in}
 use Rattle.bn_table.specs.Rows.{Named}
-use Rattle.bn_board_spec.specs.Layouts.{Layout, symbol_count_at, cell_element, cell_state_at, cells_shown, is_marked_at, marked_column, symbol_by}
+use Rattle.bn_board_spec.specs.Layouts.{Layout, symbol_count_at, cell_element, cell_state_at, cells_shown, is_marked_at}
+use Rattle.bn_board_spec.specs.Layouts.{marked_column, symbol_by}
 use Rattle.bn_reply_boards.specs.Shown.{HasLetter, HaveLetters}
 
 -- ---- cells
@@ -38,27 +39,35 @@ symbol_within : (z q : ℕ) → q < 2 * z → symbol_by z q < z
 symbol_within z q low = grind (arith, nat_tests)
 
 module _ (t : Named) (tape : ℕ) where
-  state_letter : (z : ℕ) → (tape ≢ 2 → z ≡ t.machine.symbols) → (o : Option ℕ) → ((q : ℕ) → o ≡ Some q → q < 2 * z) → HasLetter t tape (option_map (symbol_by z) o)
+  state_letter : (z : ℕ) → (tape ≢ 2 → z ≡ t.machine.symbols) → (o : Option ℕ) → ((q : ℕ) → o ≡ Some q → q < 2 * z)
+      → HasLetter t tape (option_map (symbol_by z) o)
   state_letter z is None within = tt
-  state_letter z is (Some q) within = λ other. subst (λ n. symbol_by z q < n) (is other) (symbol_within z q (within q refl))
+  state_letter z is (Some q) within = λ other. subst (λ n. symbol_by z q < n) (is other)
+      (symbol_within z q (within q refl))
 
-  pub shown_letters : (b : Layout) (states : List ℕ) → (tape ≢ 2 → symbol_count_at b tape ≡ t.machine.symbols) → HaveLetters t tape (cells_shown b states tape)
+  pub shown_letters : (b : Layout) (states : List ℕ) → (tape ≢ 2 → symbol_count_at b tape ≡ t.machine.symbols)
+      → HaveLetters t tape (cells_shown b states tape)
   shown_letters b states is =
-      All-map (HasLetter t tape) (λ p. option_map (symbol_by (symbol_count_at b tape)) (cell_state_at b states tape p)) (range_with_len 0 (cells_in b.limits tape))
+      All-map (HasLetter t tape) (λ p. option_map (symbol_by (symbol_count_at b tape)) (cell_state_at b states tape p))
+      (range_with_len 0 (cells_in b.limits tape))
       (λ k d low. state_letter (symbol_count_at b tape) is (cell_state_at b states tape _)
-      (λ q here. column_within states (cell_element b tape _) (2 * symbol_count_at b tape) (cell_line_count (symbol_count_at b tape)) q here))
+      (λ q here. column_within states (cell_element b tape _) (2 * symbol_count_at b tape)
+      (cell_line_count (symbol_count_at b tape)) q here))
 
 -- tape 3 has a cell
 pub some_shown : (b : Layout) (states : List ℕ) → 1 ≤ length (cells_shown b states 3)
 some_shown b states =
-    let count = length-map-range_with_len (λ p. option_map (symbol_by (symbol_count_at b 3)) (cell_state_at b states 3 p)) 0 (cells_in b.limits 3) in
+    let count = length-map-range_with_len (λ p. option_map (symbol_by (symbol_count_at b 3))
+    (cell_state_at b states 3 p)) 0 (cells_in b.limits 3) in
     omega arith
 
 -- ---- places
 
-pub line_within : (net : Parts Rotary) (c : Config) → IsConfig (rotary_circuit net) c → (p : Place) → p ≡ c.place → (line_of_place p).line < 4
+pub line_within : (net : Parts Rotary) (c : Config) → IsConfig (rotary_circuit net) c → (p : Place) → p ≡ c.place
+    → (line_of_place p).line < 4
 line_within net c good (Enter e l) is =
-    (input_below net.elements (record { element = e; line = l }) (subst (IsPlace (rotary_circuit net)) (sym is) good.place)).line
+    (input_below net.elements (record { element = e; line = l })
+    (subst (IsPlace (rotary_circuit net)) (sym is) good.place)).line
 line_within net c good (Left e l) is =
     (let place : IsPlace (rotary_circuit net) (Left e l) = subst (IsPlace (rotary_circuit net)) (sym is) good.place in
     (output_below net.elements (record { element = e; line = l }) place.0).line)

@@ -1,8 +1,11 @@
 -- The names of the lines of cells and of the control (this project's own profile).
-use Rattle.std.specs.Prelude.{ℕ, ◌+◌, ◌-◌, ◌==◌, nat_lt, if◌then◌else◌, List, [], ◌∷◌, ◌++◌, codes, decimal, slice_index}
+use Rattle.std.specs.Prelude.{ℕ, ◌+◌, ◌-◌, ◌==◌, ◌≤◌, nat_lt, if◌then◌else◌, List, [], ◌∷◌, ◌++◌, codes, decimal}
+use Rattle.std.specs.Prelude.{slice_index}
 use Rattle.bn_network.specs.declared.cell_line.CellLine.{CellLine}
 use Rattle.bn_network.specs.declared.cell_line.CellLine.TheVariants as lines
 use Rattle.bn_network.specs.Controls.{lines_before}
+use Rattle.bn_network.specs.declared.limits.TheConstants.{MOST_SYMBOLS}
+use Rattle.bn_reply_boards.specs.declared.line_names.SymbolCounts.{SymbolCounts}
 
 -- the name of a cell's input line
 abbrev pub cell_line_text : CellLine → List ℕ
@@ -34,3 +37,11 @@ control_line_text zs i =
     else if nat_lt i (lines_before zs 1) then answer_text (answer_line (slice_index zs 0) (i - lines_before zs 0)) 1
     else if nat_lt i (lines_before zs 2) then answer_text (answer_line (slice_index zs 1) (i - lines_before zs 1)) 2
     else answer_text (answer_line (slice_index zs 2) (i - lines_before zs 2)) 3
+
+-- the numbers of symbols, tape by tape
+abbrev pub counts_in : SymbolCounts → List ℕ
+counts_in z = z.one ∷ z.two ∷ z.three ∷ []
+
+-- none of them is greater than that of a tape whose cells may tell its symbols apart
+abbrev pub AreFew : SymbolCounts → Type 0
+AreFew z = (z.one ≤ MOST_SYMBOLS) × (z.two ≤ MOST_SYMBOLS) × (z.three ≤ MOST_SYMBOLS)

@@ -16,7 +16,7 @@ pub use generate::reply_generate;
 pub use generate_laws::{
     generate_has_one_reply, generated_runs_tell_outcomes, generated_tables_are_given,
 };
-pub use line_names::{push_cell_line, push_control_line};
+pub use line_names::{SymbolCounts, counts_of_table, push_cell_line, push_control_line};
 pub use opening::{
     OpenedInput, OpenedMachine, OpenedWindow, open_board, open_input, open_machine, open_window,
 };

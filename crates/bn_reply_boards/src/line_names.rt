@@ -2,7 +2,8 @@
 
 ghost use Rattle.std.specs.Prelude.{◌≡◌, ◌<◌, ◌++◌, OnOk};
 ghost use Rattle.bn_bennett_laws.specs.List.{symbols_of};
-ghost use Rattle.bn_reply_boards.specs.LineNames.{answer_line, answer_text, cell_line_text, control_line_text};
+ghost use Rattle.bn_reply_boards.specs.LineNames.{AreFew, answer_line, answer_text, cell_line_text, control_line_text};
+ghost use Rattle.bn_reply_boards.specs.LineNames.{counts_in};
 
 use bn_base::push_u64;
 use bn_network::CellLine;
@@ -33,21 +34,49 @@ pub fn push_cell_line(text: &mut Vec<u8>, line: CellLine) -> Result<(), NoMemory
     }
 }
 
-/// Appends the name of an input line of the control of a table's reversible machine, counted from 0.
-pub fn push_control_line(text: &mut Vec<u8>, table: &Table, line: u32) -> Result<(), NoMemory>
-    ensures { OnOk result (text.new.items ≡ text.old.items ++ control_line_text (symbols_of table.now.machine) line) }
+/// How many symbols each of the three tapes has, the blank among them.
+#[derive(Clone, Copy, Debug)]
+pub struct SymbolCounts {
+    /// Those of tape 1.
+    pub one: u32,
+    /// Those of tape 2.
+    pub two: u32,
+    /// Those of tape 3.
+    pub three: u32,
+}
+
+/// How many symbols the tapes of a table's reversible machine have.
+pub fn counts_of_table(table: &Table) -> SymbolCounts
+    ensures counts { counts_in result ≡ symbols_of table.now.machine }
+    ensures few { AreFew result }
 {
     // The table's own facts: its machine is within the limits of tables.
     let letters = table.machine().symbols();
-    let history = table.machine().quints().len() as u32 + 1;
+    SymbolCounts {
+        one: letters,
+        two: table.machine().quints().len() as u32 + 1,
+        three: letters,
+    }
+}
+
+/// Appends the name of an input line of the control of a machine whose tapes have so many symbols, counted from 0.
+pub fn push_control_line(
+    text: &mut Vec<u8>,
+    counts: SymbolCounts,
+    line: u32,
+) -> Result<(), NoMemory>
+    requires { AreFew counts }
+    ensures { OnOk result (text.new.items ≡ text.old.items ++ control_line_text (counts_in counts) line) }
+{
+    let SymbolCounts { one, two, three } = counts;
     if line == 0 {
         push(text, b"Start")
-    } else if line < letters + 4 {
-        push_answer(text, letters, line - 1, 1)
-    } else if line < letters + history + 7 {
-        push_answer(text, history, line - (letters + 4), 2)
+    } else if line < one + 4 {
+        push_answer(text, one, line - 1, 1)
+    } else if line < one + two + 7 {
+        push_answer(text, two, line - (one + 4), 2)
     } else {
-        push_answer(text, letters, line - (letters + history + 7), 3)
+        push_answer(text, three, line - (one + two + 7), 3)
     }
 }
 

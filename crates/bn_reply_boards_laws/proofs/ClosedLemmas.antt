@@ -27,7 +27,8 @@ compile_settled = telling.compile_settled tables_machines flats_there flats_one 
 
 -- and `run`
 pub run_settled : RunIsSettled
-run_settled = telling.run_settled tables_machines flats_there flats_one counted exits-one (exits-named run_to_exit) moments
+run_settled = telling.run_settled tables_machines flats_there flats_one counted exits-one (exits-named run_to_exit)
+    moments
 
 -- and an answer that was given whole tells the headline
 pub headline_told : AnswersTellHeadline

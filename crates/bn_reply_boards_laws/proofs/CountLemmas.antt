@@ -45,8 +45,10 @@ size-modules m l names t is =
     let a = cells_in l 1 * cell_size (symbol_count m 1) in
     let b = cells_in l 2 * cell_size (symbol_count m 2) in
     let c = cells_in l 3 * cell_size (symbol_count m 3) in
-    let cells : size (one ++ two ++ three) ≡ a + b + c = size-append (one ++ two) three ∙ ap (λ n. n + size three) (size-append one two)
-    ∙ (λ i. size-replicate (cells_in l 1) (cell_table (symbol_count m 1)) i + size-replicate (cells_in l 2) (cell_table (symbol_count m 2)) i
+    let cells : size (one ++ two ++ three) ≡ a + b + c = size-append (one ++ two) three
+    ∙ ap (λ n. n + size three) (size-append one two)
+    ∙ (λ i. size-replicate (cells_in l 1) (cell_table (symbol_count m 1)) i
+    + size-replicate (cells_in l 2) (cell_table (symbol_count m 2)) i
     + size-replicate (cells_in l 3) (cell_table (symbol_count m 3)) i) in
     let control : size_of t ≡ bank_size (length names) (control_lines m) = λ i. is.states i * (is.inputs i + 1) in
     (λ i. control i + cells i) ∙ four (bank_size (length names) (control_lines m)) a b c
@@ -57,18 +59,22 @@ boards-counted translations controls = (one_count, of_board)
   where
     one_count : (p : Program) (l : Limits) (a b : ℕ) → CountsElements p l a → CountsElements p l b → a ≡ b
     one_count p l a b h k =
-        let same : k.translation ≡ h.translation = translations p k.translation h.translation k.translates h.translates in
-        let numbering : IsNumbering h.translation.machine k.names = subst (λ (t : Translation). IsNumbering t.machine k.names) same k.numbering in
+        let same : k.translation ≡ h.translation = translations p k.translation h.translation k.translates h.translates
+        in
+        let numbering : IsNumbering h.translation.machine k.names =
+        subst (λ (t : Translation). IsNumbering t.machine k.names) same k.numbering in
         let names : h.names ≡ k.names = controls.0 h.translation.machine h.names k.names h.numbering numbering in
         h.is ∙ (λ i. elements_by (sym same i).machine l (length (names i))) ∙ sym k.is
 
-    of_board : (p : Program) (symbols : List ℕ) (l : Limits) (f : Flat) → IsFlatOf p symbols l f → CountsElements p l (size f.network.tables)
+    of_board : (p : Program) (symbols : List ℕ) (l : Limits) (f : Flat) → IsFlatOf p symbols l f
+        → CountsElements p l (size f.network.tables)
     of_board p symbols l f flat = record {
       translation = f.translation;
       names = f.names;
       translates = flat.translation;
       numbering = flat.numbering;
-      is = ap size flat.is_network.tables ∙ size-modules f.translation.machine l f.names flat.is_network.control flat.is_network.is_control;
+      is = ap size flat.is_network.tables ∙ size-modules f.translation.machine l f.names flat.is_network.control
+          flat.is_network.is_control;
     }
 
 -- ---- a property of numbers
@@ -88,8 +94,12 @@ module _ (holds : ℕ → Type 0) where
   counts_once (suc n) (suc a) (suc b) (inr h) (inr k) = counts_once n (suc a) (suc b) h.1 k.1
 
   -- one number more, by a test of it
-  pub counts_more : (n a c : ℕ) (b : Bool) → (b ≡ true → holds n) → (b ≡ false → holds n → ⊥) → c ≡ a + one_if b → Counts holds n a → Counts holds (suc n) c
+  pub counts_more : (n a c : ℕ) (b : Bool) → (b ≡ true → holds n) → (b ≡ false → holds n → ⊥) → c ≡ a + one_if b
+      → Counts holds n a → Counts holds (suc n) c
   counts_more n a zero true here other same so_far = absurd (omega arith)
-  counts_more n a (suc c) true here other same so_far = let is : a ≡ c = omega arith in inl (here refl, subst (Counts holds n) is so_far)
-  counts_more n a zero false here other same so_far = let is : a ≡ 0 = omega arith in (other refl, subst (Counts holds n) is so_far)
-  counts_more n a (suc c) false here other same so_far = let is : a ≡ suc c = omega arith in inr (other refl, subst (Counts holds n) is so_far)
+  counts_more n a (suc c) true here other same so_far = let is : a ≡ c =
+      omega arith in inl (here refl, subst (Counts holds n) is so_far)
+  counts_more n a zero false here other same so_far = let is : a ≡ 0 =
+      omega arith in (other refl, subst (Counts holds n) is so_far)
+  counts_more n a (suc c) false here other same so_far = let is : a ≡ suc c =
+      omega arith in inr (other refl, subst (Counts holds n) is so_far)

@@ -15,7 +15,8 @@ use Rattle.bn_machine.proofs.OutcomeLemmas.{outcome_exists}
 use Rattle.bn_board_spec.specs.declared.exit.Exit.{Exit}
 use Rattle.bn_board_spec.specs.declared.exit.Exit.TheVariants as exit
 use Rattle.bn_board_spec.specs.BoardMoments.{IsBoardMoment}
-use Rattle.bn_board_spec.specs.Layouts.{IsExit, IsNamedExit, Layout, ends, inside, is_moment, left, moment_at, moments, named, right, stuck, unnamed}
+use Rattle.bn_board_spec.specs.Layouts.{IsExit, IsNamedExit, Layout, ends, inside, is_moment, left, moment_at, moments}
+use Rattle.bn_board_spec.specs.Layouts.{named, right, stuck, unnamed}
 use Rattle.bn_board_spec.specs.Flats.{Flat, flat_start, machine_of}
 use Rattle.bn_board_spec.proofs.ReadingLemmas.{own_accepted, own_flat}
 use Rattle.bn_board_laws.specs.Headline.{RunsToExit}
@@ -47,8 +48,12 @@ exits-named boards p symbols l f flat accepted n =
               (exit.Inside, inside before.0 before.1 before.2))
           | inr high ↦
               (let there : IsNamedExit f.layout (board_after f ran.cost).place ran.exit =
-              named_of f.layout (board_after f ran.cost).place ran.exit ran.is_exit (not_unnamed f o ran.exit ran.for_outcome) in
-              (ran.exit, subst (λ (c : Config). IsNamedExit f.layout c.place ran.exit) (sym (at_cost p f i o ran n high)) there))
+              named_of f.layout (board_after f ran.cost).place ran.exit ran.is_exit
+              (not_unnamed f o ran.exit ran.for_outcome) in (
+                ran.exit,
+                subst (λ (c : Config). IsNamedExit f.layout c.place ran.exit)
+                    (sym (at_cost p f i o ran n high)) there,
+              ))
         ]
 
 -- what has a name isn't without one
@@ -71,13 +76,16 @@ module _ (f : Flat) (cost : ℕ) (run_to : Reaches (Goes f.circuit) cost (flat_s
   -- a front of the run
   front : (n : ℕ) → n ≤ cost → Reaches (Goes f.circuit) n (flat_start f) (board_after f n)
   front n low =
-      let cut = runs_split (Goes f.circuit) n (cost - n) cost (flat_start f) (board_after f cost) (omega arith) run_to in
-      subst (λ c. Reaches (Goes f.circuit) n (flat_start f) c) (sym (Reaches-run f.circuit n (flat_start f) cut.0 cut.1)) cut.1
+      let cut = runs_split (Goes f.circuit) n (cost - n) cost (flat_start f) (board_after f cost) (omega arith) run_to
+      in
+      subst (λ c. Reaches (Goes f.circuit) n (flat_start f) c) (sym
+      (Reaches-run f.circuit n (flat_start f) cut.0 cut.1)) cut.1
 
   -- one step of it
   step_on : (n : ℕ) → n < cost → Goes f.circuit (board_after f n) (board_after f (suc n))
   step_on n low =
-      let cut = runs_split (Goes f.circuit) n 1 (suc n) (flat_start f) (board_after f (suc n)) (omega arith) (front (suc n) (omega arith)) in
+      let cut = runs_split (Goes f.circuit) n 1 (suc n) (flat_start f) (board_after f (suc n)) (omega arith)
+      (front (suc n) (omega arith)) in
       let here : board_after f n ≡ cut.0 = Reaches-run f.circuit n (flat_start f) cut.0 cut.1 in
       let there : cut.2.0 ≡ board_after f (suc n) = cut.2.2 in
       subst (λ c. Goes f.circuit c (board_after f (suc n))) (sym here) (subst (Goes f.circuit cut.0) there cut.2.1)
@@ -87,19 +95,23 @@ module _ (f : Flat) (cost : ℕ) (run_to : Reaches (Goes f.circuit) cost (flat_s
   steps_made n low = steps_of_run f.circuit n (flat_start f) (board_after f n) (front n low) ∙ zero-add n
 
   -- one step more counts one moment more, or none
-  moments_more : (n : ℕ) → n < cost → moments f.layout f.circuit (suc n) (flat_start f) ≡ moments f.layout f.circuit n (flat_start f) + one_if
+  moments_more : (n : ℕ) → n < cost → moments f.layout f.circuit (suc n) (flat_start f)
+      ≡ moments f.layout f.circuit n (flat_start f) + one_if
       (is_moment f.layout (board_after f (suc n)))
   moments_more n low =
-      let both = tallies-add.0 f.circuit (is_moment f.layout) n 1 (flat_start f) (board_after f n) (front n (omega arith)) in
+      let both = tallies-add.0 f.circuit (is_moment f.layout) n 1 (flat_start f) (board_after f n)
+      (front n (omega arith)) in
       let one = tally-more f.circuit (is_moment f.layout) 0 (board_after f n) (board_after f (suc n)) (step_on n low) in
       let none = tally-zero f.circuit (is_moment f.layout) (board_after f (suc n)) in
       let count : n + 1 ≡ suc n = omega arith in
-      let whole : tally (is_moment f.layout) f.circuit (suc n) (flat_start f) ≡ tally (is_moment f.layout) f.circuit (n + 1) (flat_start f) =
+      let whole : tally (is_moment f.layout) f.circuit (suc n) (flat_start f)
+      ≡ tally (is_moment f.layout) f.circuit (n + 1) (flat_start f) =
       ap (λ m. tally (is_moment f.layout) f.circuit m (flat_start f)) (sym count) in
       omega (arith, both, one, none, whole)
 
   module _ (has : (t a : ℕ) → t ≤ cost → (moment_at f.layout (board_after f t) ≡ Some a → HasMoment f t)
-      × (IsBoardMoment (machine_of f) f.limits f.names f.network (board_after f t) a → moment_at f.layout (board_after f t) ≡ Some a)) where
+      × (IsBoardMoment (machine_of f) f.limits f.names f.network (board_after f t) a
+      → moment_at f.layout (board_after f t) ≡ Some a)) where
     test_holds : (t : ℕ) → t ≤ cost → is_moment f.layout (board_after f t) ≡ true → HasMoment f t
     test_holds t low = by_option (moment_at f.layout (board_after f t)) refl
       where
@@ -108,7 +120,8 @@ module _ (f : Flat) (cost : ℕ) (run_to : Reaches (Goes f.circuit) cost (flat_s
         by_option (Some a) is test = (has t a low).0 is
 
     test_fails : (t : ℕ) → t ≤ cost → is_moment f.layout (board_after f t) ≡ false → HasMoment f t → ⊥
-    test_fails t low test h = let there = (has t h.0 low).1 h.1 in let is : is_some (Some h.0) ≡ false = ap (λ (o : Option ℕ). is_some o) (sym there)
+    test_fails t low test h = let there = (has t h.0 low).1 h.1 in let is : is_some (Some h.0) ≡ false =
+        ap (λ (o : Option ℕ). is_some o) (sym there)
         ∙ test in cc
 
     count_to : (n : ℕ) → n ≤ cost → Counts (HasMoment f) (suc n) (moments f.layout f.circuit n (flat_start f))
@@ -116,10 +129,12 @@ module _ (f : Flat) (cost : ℕ) (run_to : Reaches (Goes f.circuit) cost (flat_s
         let none = tally-zero f.circuit (is_moment f.layout) (flat_start f) in
         let first : one_if (is_moment f.layout (board_after f 0)) ≡ one_if (is_moment f.layout (flat_start f)) =
         ap (λ c. one_if (is_moment f.layout c)) (run-zero f.circuit (flat_start f)) in
-        counts_more (HasMoment f) 0 0 (moments f.layout f.circuit 0 (flat_start f)) (is_moment f.layout (board_after f 0)) (test_holds 0 low) (test_fails 0 low)
+        counts_more (HasMoment f) 0 0 (moments f.layout f.circuit 0 (flat_start f))
+        (is_moment f.layout (board_after f 0)) (test_holds 0 low) (test_fails 0 low)
         (omega (arith, none, first)) refl
     count_to (suc n) low =
-        counts_more (HasMoment f) (suc n) (moments f.layout f.circuit n (flat_start f)) (moments f.layout f.circuit (suc n) (flat_start f))
+        counts_more (HasMoment f) (suc n) (moments f.layout f.circuit n (flat_start f))
+        (moments f.layout f.circuit (suc n) (flat_start f))
         (is_moment f.layout (board_after f (suc n)))
         (test_holds (suc n) low) (test_fails (suc n) low) (moments_more n (omega arith)) (count_to n (omega arith))
 
@@ -133,30 +148,39 @@ moments-counted boards have p symbols l f flat accepted n =
     own = have p f.word f.limits f (own_flat p symbols l f flat) (own_accepted p symbols l f flat accepted)
 
     by_order : (i : ℕ) (o : Outcome) → RunsToExit p f i o →
-        Counts (HasMoment f) ((board_after f n).steps + 1) (moments f.layout f.circuit (board_after f n).steps (flat_start f))
-        × (moments f.layout f.circuit n (flat_start f) ≡ moments f.layout f.circuit (board_after f n).steps (flat_start f))
+        Counts (HasMoment f) ((board_after f n).steps + 1) (moments f.layout f.circuit (board_after f n).steps
+        (flat_start f))
+        × (moments f.layout f.circuit n (flat_start f) ≡ moments f.layout f.circuit (board_after f n).steps
+        (flat_start f))
     by_order i o ran =
         let steps = (board_after f n).steps in
-        let more : suc steps ≡ steps + 1 = omega arith in
-        (subst (λ m. Counts (HasMoment f) m (moments f.layout f.circuit steps (flat_start f))) more (count_to f ran.cost ran.run_to found steps made.0), made.1)
+        let more : suc steps ≡ steps + 1 = omega arith in (
+          subst (λ m. Counts (HasMoment f) m (moments f.layout f.circuit steps (flat_start f))) more
+              (count_to f ran.cost ran.run_to found steps made.0),
+          made.1,
+        )
       where
         found : (t a : ℕ) → t ≤ ran.cost → (moment_at f.layout (board_after f t) ≡ Some a → HasMoment f t)
-            × (IsBoardMoment (machine_of f) f.limits f.names f.network (board_after f t) a → moment_at f.layout (board_after f t) ≡ Some a)
+            × (IsBoardMoment (machine_of f) f.limits f.names f.network (board_after f t) a
+            → moment_at f.layout (board_after f t) ≡ Some a)
         found t a low = (
           (λ h. (a, (own.sums ran.cost t a ran.has_cost low).1 ((own.found ran.cost t a ran.has_cost low).0 h))),
           (λ h. (own.found ran.cost t a ran.has_cost low).1 ((own.sums ran.cost t a ran.has_cost low).0 h)),
         )
 
         -- from the cost on no moment more is counted
-        no_more : ran.cost ≤ n → moments f.layout f.circuit n (flat_start f) ≡ moments f.layout f.circuit ran.cost (flat_start f)
+        no_more : ran.cost ≤ n → moments f.layout f.circuit n (flat_start f)
+            ≡ moments f.layout f.circuit ran.cost (flat_start f)
         no_more high =
-            let both = tallies-add.0 f.circuit (is_moment f.layout) ran.cost (n - ran.cost) (flat_start f) (board_after f ran.cost) ran.run_to in
+            let both = tallies-add.0 f.circuit (is_moment f.layout) ran.cost (n - ran.cost) (flat_start f)
+            (board_after f ran.cost) ran.run_to in
             let none = tally_stuck f.circuit (is_moment f.layout) (n - ran.cost) (board_after f ran.cost) ran.ended in
             let sum : ran.cost + (n - ran.cost) ≡ n = omega arith in
             let whole = ap (λ m. tally (is_moment f.layout) f.circuit m (flat_start f)) sum in
             omega (arith, both, none, whole)
 
-        made : ((board_after f n).steps ≤ ran.cost) × (moments f.layout f.circuit n (flat_start f) ≡ moments f.layout f.circuit (board_after f n).steps (flat_start f))
+        made : ((board_after f n).steps ≤ ran.cost) × (moments f.layout f.circuit n (flat_start f)
+            ≡ moments f.layout f.circuit (board_after f n).steps (flat_start f))
         made =
             elim (cases_lt n ran.cost) [
               | inl low ↦

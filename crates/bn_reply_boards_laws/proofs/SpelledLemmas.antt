@@ -1,5 +1,6 @@
 -- A board at its start may be spelled: no wire leads into its start, and none leads from its end.
-use Rattle.std.specs.Prelude.{◌≡◌, ◌≢◌, ℕ, ◌+◌, ◌-◌, ◌<◌, ◌≤◌, List, [], ◌∷◌, ◌++◌, length, replicate, Option, Some, None, slice_get, slice_set, refl}
+use Rattle.std.specs.Prelude.{◌≡◌, ◌≢◌, ℕ, ◌+◌, ◌-◌, ◌<◌, ◌≤◌, List, [], ◌∷◌, ◌++◌, length, replicate, Option, Some}
+use Rattle.std.specs.Prelude.{None, slice_get, slice_set, refl}
 use Rattle.std.proofs.Common.{zero, suc, arith, sym, ap, subst, ◌∙◌, inl, inr}
 use Rattle.std.proofs.lemmas.Bool.Decides.{eqb_tells}
 use Rattle.std.proofs.lemmas.List.{length-replicate, length-set}
@@ -28,8 +29,10 @@ use Rattle.bn_network.specs.Controls.{ControlState, Tape as to_tape, in_number, 
 use Rattle.bn_network.specs.Networks.{IsNetwork, IsNetWire, commands, replies, rightward, leftward}
 use Rattle.bn_network.proofs.LineLemmas.{lines_some}
 use Rattle.bn_network_laws.proofs.CellRowLemmas.{cells_later}
-use Rattle.bn_board_spec.specs.Boards.{AreModules, IsBoard, IsBoardWire, own, between, StandsFor, bars_of, base, board_start, on_board, size, size_of}
-use Rattle.bn_board_spec.proofs.ModuleLemmas.{bank_within, banks_apart, input_once, one_table, output_once, wired_input, wired_output}
+use Rattle.bn_board_spec.specs.Boards.{AreModules, IsBoard, IsBoardWire, own, between, StandsFor, bars_of, base}
+use Rattle.bn_board_spec.specs.Boards.{board_start, on_board, size, size_of}
+use Rattle.bn_board_spec.proofs.ModuleLemmas.{bank_within, banks_apart, input_once, one_table, output_once, wired_input}
+use Rattle.bn_board_spec.proofs.ModuleLemmas.{wired_output}
 use Rattle.bn_board_spec.proofs.MovedLemmas.{in_bank}
 use Rattle.bn_board_spec.specs.Layouts.{Layout, IsLayout, end_place, lines_at}
 use Rattle.bn_board_spec.specs.Flats.{AreSameFlats, Flat, IsFlatOf, flat_start, situation_at_start}
@@ -73,7 +76,8 @@ bars_low [] qs e q h = absurd (cc)
 bars_low (t ∷ ts) [] e q h = absurd (cc)
 bars_low (t ∷ ts) (r ∷ qs) e q h =
     bars_joined (slice_set (replicate (size_of t) vertical) (bottom_at 0 t.inputs r) horizontal) (bars_of ts qs)
-    (bars_marked (replicate (size_of t) vertical) (bottom_at 0 t.inputs r) (bars_alike (size_of t))) (bars_low ts qs) e q h
+    (bars_marked (replicate (size_of t) vertical) (bottom_at 0 t.inputs r) (bars_alike (size_of t))) (bars_low ts qs) e
+    q h
 
 -- ---- the network's wires
 
@@ -87,32 +91,41 @@ number_of a b same = ap (λ (x : Line). x.line) same
 none_from : (m : Quadruples) (l : Limits) (from to : Line) → IsNetWire m l from to → from ≡ line_at 0 0 → ⊥
 none_from m l from to (commands t c tape kind line f g) is =
     let some = lines_some m.symbols (t - 1) in
-    let same : out_number m (to_tape t c) ≡ 0 = number_of (line_at 0 (out_number m (to_tape t c))) (line_at 0 0) (sym f ∙ is) in
+    let same : out_number m (to_tape t c) ≡ 0 = number_of (line_at 0 (out_number m (to_tape t c))) (line_at 0 0)
+    (sym f ∙ is) in
     omega arith
 none_from m l from to (replies t c tape kind line f g) is =
-    let some = cells_later l t tape in let same = sym (ap (λ (x : Line). x.element) f) ∙ ap (λ (x : Line). x.element) is in omega arith
+    let some = cells_later l t tape in let same = sym (ap (λ (x : Line). x.element) f)
+    ∙ ap (λ (x : Line). x.element) is in omega arith
 none_from m l from to (rightward t p c tape low kind line f g) is =
-    let some = cells_later l t tape in let same = sym (ap (λ (x : Line). x.element) f) ∙ ap (λ (x : Line). x.element) is in omega arith
+    let some = cells_later l t tape in let same = sym (ap (λ (x : Line). x.element) f)
+    ∙ ap (λ (x : Line). x.element) is in omega arith
 none_from m l from to (leftward t p c tape low kind line f g) is =
-    let some = cells_later l t tape in let same = sym (ap (λ (x : Line). x.element) f) ∙ ap (λ (x : Line). x.element) is in omega arith
+    let some = cells_later l t tape in let same = sym (ap (λ (x : Line). x.element) f)
+    ∙ ap (λ (x : Line). x.element) is in omega arith
 
 -- and none to its line from the outside
 none_into : (m : Quadruples) (l : Limits) (from to : Line) → IsNetWire m l from to → to ≡ line_at 0 0 → ⊥
 none_into m l from to (commands t c tape kind line f g) is =
-    let some = cells_later l t tape in let same = sym (ap (λ (x : Line). x.element) g) ∙ ap (λ (x : Line). x.element) is in omega arith
+    let some = cells_later l t tape in let same = sym (ap (λ (x : Line). x.element) g)
+    ∙ ap (λ (x : Line). x.element) is in omega arith
 none_into m l from to (replies t c tape kind line f g) is =
     let some = lines_some m.symbols (t - 1) in
-    let same : in_number m (to_tape t c) ≡ 0 = number_of (line_at 0 (in_number m (to_tape t c))) (line_at 0 0) (sym g ∙ is) in
+    let same : in_number m (to_tape t c) ≡ 0 = number_of (line_at 0 (in_number m (to_tape t c))) (line_at 0 0)
+    (sym g ∙ is) in
     omega arith
 none_into m l from to (rightward t p c tape low kind line f g) is =
-    let some = cells_later l t tape in let same = sym (ap (λ (x : Line). x.element) g) ∙ ap (λ (x : Line). x.element) is in omega arith
+    let some = cells_later l t tape in let same = sym (ap (λ (x : Line). x.element) g)
+    ∙ ap (λ (x : Line). x.element) is in omega arith
 none_into m l from to (leftward t p c tape low kind line f g) is =
-    let some = cells_later l t tape in let same = sym (ap (λ (x : Line). x.element) g) ∙ ap (λ (x : Line). x.element) is in omega arith
+    let some = cells_later l t tape in let same = sym (ap (λ (x : Line). x.element) g)
+    ∙ ap (λ (x : Line). x.element) is in omega arith
 
 -- ---- the board's start and end
 
 module _ (machine : Quadruples) (l : Limits) (names : List ControlState) (net : Circuit)
-    (is_network : IsNetwork machine l names net) (modules : AreModules net) (circuit : Circuit) (is_board : IsBoard net circuit) where
+    (is_network : IsNetwork machine l names net) (modules : AreModules net) (circuit : Circuit)
+    (is_board : IsBoard net circuit) where
   abbrev control : Table
   control = is_network.control
 
@@ -133,7 +146,8 @@ module _ (machine : Quadruples) (l : Limits) (names : List ControlState) (net : 
   first_bank x low = let h = in_bank 0 control 0 x some_state low in omega arith
 
   last_column : (x : ℕ) → x ≤ control.inputs → column_at 0 control.inputs (control.states - 1) + x < size_of control
-  last_column x low = let some = some_state in let h = in_bank 0 control (control.states - 1) x (omega arith) low in omega arith
+  last_column x low = let some = some_state in let h = in_bank 0 control (control.states - 1) x (omega arith) low in
+      omega arith
 
   within_board : (x : ℕ) → x < size_of control → x < size net.tables
   within_board x low = let h = bank_within net.tables 0 control has_control in omega arith
@@ -142,7 +156,8 @@ module _ (machine : Quadruples) (l : Limits) (names : List ControlState) (net : 
   other_bank : (m : ℕ) (t : Table) (x : ℕ) → slice_get net.tables m ≡ Some t → m ≢ 0 → base net.tables m ≤ x →
       x < base net.tables m + size_of t →
       x < size_of control → ⊥
-  other_bank m t x has apart low high first = banks_apart net.tables m 0 t control x has has_control apart low high (omega arith) (omega arith)
+  other_bank m t x has apart low high first = banks_apart net.tables m 0 t control x has has_control apart low high
+      (omega arith) (omega arith)
 
   -- no wire of the board leads into its start
   unfed_wire : (from to : Line) → IsBoardWire net from to → to ≡ bank_input_line 0 0 → ⊥
@@ -158,11 +173,13 @@ module _ (machine : Quadruples) (l : Limits) (names : List ControlState) (net : 
         | inr apart ↦
             (let within = bank_wire-IsWithinLines (base net.tables m) t reversible lines from to bank in
             let place : to.element ≡ 0 + 0 = ap (λ (x : Line). x.element) is in
-            other_bank m t to.element has apart.1 within.to_low (omega (arith, within.to_high)) (let some = first_bank 0 (omega arith) in omega arith))
+            other_bank m t to.element has apart.1 within.to_low (omega (arith, within.to_high))
+            (let some = first_bank 0 (omega arith) in omega arith))
       ]
   unfed_wire from to (between out into t wire has leaves ends) is =
       let there = wired_input net modules out into wire in
-      let one : line_at 0 0 ≡ into = input_once net modules (line_at 0 0) into control there.0 has_control there.1 some_line there.2 (sym is ∙ ends) in
+      let one : line_at 0 0 ≡ into = input_once net modules (line_at 0 0) into control there.0 has_control there.1
+      some_line there.2 (sym is ∙ ends) in
       none_into machine l out into ((is_network.wires out into).0 wire) (sym one)
 
   -- and none leads from its end
@@ -179,12 +196,15 @@ module _ (machine : Quadruples) (l : Limits) (names : List ControlState) (net : 
             output-no_wire 0 t reversible lines 0 to row (subst (λ (x : Line). IsBankWire 0 t x to) leaves wire))
         | inr apart ↦
             (let within = bank_wire-IsWithinLines (base net.tables m) t reversible lines from to bank in
-            let place : from.element ≡ column_at 0 control.inputs (control.states - 1) + 0 = ap (λ (x : Line). x.element) is in
-            other_bank m t from.element has apart.1 within.from_low (omega (arith, within.from_high)) (let low = last_column 0 (omega arith) in omega arith))
+            let place : from.element ≡ column_at 0 control.inputs (control.states - 1) + 0 =
+            ap (λ (x : Line). x.element) is in
+            other_bank m t from.element has apart.1 within.from_low (omega (arith, within.from_high))
+            (let low = last_column 0 (omega arith) in omega arith))
       ]
   unwired_wire from to (between out into t wire has leaves ends) is =
       let row = wired_output net modules out into t wire has in
-      let one : line_at 0 0 ≡ out = output_once net modules (line_at 0 0) out control t has_control has some_line row (sym is ∙ leaves) in
+      let one : line_at 0 0 ≡ out = output_once net modules (line_at 0 0) out control t has_control has some_line row
+      (sym is ∙ leaves) in
       none_from machine l out into ((is_network.wires out into).0 wire) (sym one)
 
   -- ---- the spelling
@@ -210,7 +230,8 @@ module _ (machine : Quadruples) (l : Limits) (names : List ControlState) (net : 
 
   no_target : (o : Option Line) → target circuit.wires (bank_output_line 0 control 0) ≡ o → o ≡ None
   no_target None is = refl
-  no_target (Some to) is = absurd (unwired_wire (bank_output_line 0 control 0) to ((is_board.wires (bank_output_line 0 control 0) to).0 is) refl)
+  no_target (Some to) is = absurd (unwired_wire (bank_output_line 0 control 0) to
+      ((is_board.wires (bank_output_line 0 control 0) to).0 is) refl)
 
   -- at its start it is a configuration of the board
   start_place : (s : Situation) → s.place ≡ Enter 0 0 → Enter 0 west ≡ on_board net.tables s.place
@@ -242,7 +263,8 @@ module _ (machine : Quadruples) (l : Limits) (names : List ControlState) (net : 
         let inputs = rotary_inputs (size net.tables) 0 (within_board 0 (first_bank 0 (omega arith))) in
         subst (λ n. 3 < n) (sym inputs) (omega arith);
     end =
-        let outputs = rotary_outputs (size net.tables) (bank_output_line 0 control 0).element (within_board _ (last_column 0 (omega arith))) in
+        let outputs = rotary_outputs (size net.tables) (bank_output_line 0 control 0).element
+        (within_board _ (last_column 0 (omega arith))) in
         subst (λ n. 1 < n) (sym outputs) (omega arith);
     unfed = no_source (source circuit.wires (bank_input_line 0 0)) refl;
     unwired = no_target (target circuit.wires (bank_output_line 0 control 0)) refl;
@@ -252,11 +274,13 @@ module _ (machine : Quadruples) (l : Limits) (names : List ControlState) (net : 
   end_is : (b : Layout) → IsLayout machine l names b →
       Left (bank_output_line 0 control 0).element (bank_output_line 0 control 0).line ≡ end_place b
   end_is b is =
-      let lines : control.inputs ≡ lines_at b = is_network.is_control.inputs ∙ ap (λ zs. lines_before zs 3) (sym is.symbols) in
+      let lines : control.inputs ≡ lines_at b = is_network.is_control.inputs
+      ∙ ap (λ zs. lines_before zs 3) (sym is.symbols) in
       let states : control.states ≡ b.states = is_network.is_control.states ∙ sym is.states in
       let column : column_at 0 control.inputs (control.states - 1) ≡ column_at 0 (lines_at b) (b.states - 1) =
       ap (λ k. column_at 0 k (control.states - 1)) lines ∙ ap (λ n. column_at 0 (lines_at b) (n - 1)) states in
-      let zero_row : column_at 0 control.inputs (control.states - 1) + 0 ≡ column_at 0 (lines_at b) (b.states - 1) = omega arith in
+      let zero_row : column_at 0 control.inputs (control.states - 1) + 0 ≡ column_at 0 (lines_at b) (b.states - 1) =
+      omega arith in
       ap (λ e. Left e east) zero_row
 
   pub start_spelling : (s : Situation) → s.place ≡ Enter 0 0 → (b : Layout) → IsLayout machine l names b →
@@ -270,7 +294,8 @@ module _ (machine : Quadruples) (l : Limits) (names : List ControlState) (net : 
   }
 
   -- so it has a configuration text
-  pub start-spells : (s : Situation) → s.place ≡ Enter 0 0 → StandsFor net s (board_start net.tables s) → size net.tables ≤ MOST_ELEMENTS →
+  pub start-spells : (s : Situation) → s.place ≡ Enter 0 0 → StandsFor net s (board_start net.tables s)
+      → size net.tables ≤ MOST_ELEMENTS →
       (b : Layout) → IsLayout machine l names b →
       (u : Spelling) × IsBoardSpelling net b (board_start net.tables s) u × ((text : List ℕ) × Spelled Two u text)
   start-spells s at stands few b is =
@@ -289,10 +314,12 @@ boards-spelled read p symbols l f flat accepted =
 pub board_targets : (net circuit : Circuit) → IsBoard net circuit → (b : Layout) (at_start : Config) (s : Spelling) →
     IsBoardSpelling net b at_start s → (from : Line) → target s.wires from ≡ target circuit.wires from
 board_targets net circuit board b at_start s a from =
-    options_one (target s.wires from) (target circuit.wires from) (λ to h. (board.wires from to).1 ((a.wires from to).0 h))
+    options_one (target s.wires from) (target circuit.wires from)
+    (λ to h. (board.wires from to).1 ((a.wires from to).0 h))
     (λ to h. (a.wires from to).1 ((board.wires from to).0 h))
 
-pub target_of : (f : Flat) (p : Program) (symbols : List ℕ) (l : Limits) → IsFlatOf p symbols l f → (s : Spelling) → IsFlatSpelling f s → (from : Line) →
+pub target_of : (f : Flat) (p : Program) (symbols : List ℕ) (l : Limits) → IsFlatOf p symbols l f → (s : Spelling)
+    → IsFlatSpelling f s → (from : Line) →
     target s.wires from ≡ target f.circuit.wires from
 target_of f p symbols l flat s a from = board_targets f.network f.circuit flat.is_board f.layout (flat_start f) s a from
 
@@ -303,20 +330,27 @@ pub left_once : (c d : Line) → Left c.element c.line ≡ Left d.element d.line
 left_once c d h = same_lines c d (cc) (cc)
 
 -- boards that are the same up to the order of their wires have one text
-pub one_board_text : (net far circuit other : Circuit) → IsBoard net circuit → IsBoard far other → net.tables ≡ far.tables →
+pub one_board_text : (net far circuit other : Circuit) → IsBoard net circuit → IsBoard far other
+    → net.tables ≡ far.tables →
     ((from : Line) → target circuit.wires from ≡ target other.wires from) → (b c : Layout) → b ≡ c →
     (at_start at_other : Config) → at_start ≡ at_other → (s u : Spelling) (text second : List ℕ) →
-    IsBoardSpelling net b at_start s → IsBoardSpelling far c at_other u → Spelled Two s text → Spelled Two u second → text ≡ second
-one_board_text net far circuit other board also tables targets b c layouts at_start at_other starts s u text second x y one two =
+    IsBoardSpelling net b at_start s → IsBoardSpelling far c at_other u → Spelled Two s text → Spelled Two u second
+    → text ≡ second
+one_board_text net far circuit other board also tables targets b c layouts at_start at_other starts s u text second x y
+    one two =
     let elements : s.elements ≡ u.elements = x.elements ∙ ap size tables ∙ sym y.elements in
     let config : s.config ≡ u.config = x.config ∙ starts ∙ sym y.config in
-    let start : s.start ≡ u.start = entered_once s.start u.start (x.start ∙ ap (λ (z : Config). z.place) starts ∙ sym y.start) in
+    let start : s.start ≡ u.start = entered_once s.start u.start
+    (x.start ∙ ap (λ (z : Config). z.place) starts ∙ sym y.start) in
     let end : s.end ≡ u.end = left_once s.end u.end (x.end ∙ ap end_place layouts ∙ sym y.end) in
     same_text Two s u text second elements (λ from. board_targets net circuit board b at_start s x from ∙ targets from
     ∙ sym (board_targets far other also c at_other u y from)) config start end one two
 
-pub spelled_alike : (f g : Flat) → AreSameFlats f g → (p : Program) (symbols : List ℕ) (l : Limits) → IsFlatOf p symbols l f → IsFlatOf p symbols l g →
-    (s u : Spelling) (text second : List ℕ) → IsFlatSpelling f s → IsFlatSpelling g u → Spelled Two s text → Spelled Two u second → text ≡ second
+pub spelled_alike : (f g : Flat) → AreSameFlats f g → (p : Program) (symbols : List ℕ) (l : Limits)
+    → IsFlatOf p symbols l f → IsFlatOf p symbols l g →
+    (s u : Spelling) (text second : List ℕ) → IsFlatSpelling f s → IsFlatSpelling g u → Spelled Two s text
+    → Spelled Two u second → text ≡ second
 spelled_alike f g same p symbols l flat other s u text second a b one two =
-    one_board_text f.network g.network f.circuit g.circuit flat.is_board other.is_board same.network.tables same.circuit.targets
+    one_board_text f.network g.network f.circuit g.circuit flat.is_board other.is_board same.network.tables
+    same.circuit.targets
     f.layout g.layout same.layout (flat_start f) (flat_start g) same.start s u text second a b one two

@@ -34,11 +34,14 @@ use Rattle.bn_reply.specs.declared.status.Status.TheVariants as statuses
 use Rattle.bn_reply_boards_laws.specs.Counts.{Counts}
 use Rattle.bn_reply_boards_laws.specs.Windows.{ComesTo}
 use Rattle.bn_reply_boards_laws.specs.CompileReply.{CompileIsSettled, TellsStart}
-use Rattle.bn_reply_boards_laws.specs.RunText.{elements_line, exit_line, output_from, output_line, quadruple_line, rest_text, run_text, shown_lines, state_text}
+use Rattle.bn_reply_boards_laws.specs.RunText.{elements_line, exit_line, output_from, output_line, quadruple_line}
+use Rattle.bn_reply_boards_laws.specs.RunText.{rest_text, run_text, shown_lines, state_text}
 use Rattle.bn_reply_boards_laws.specs.RunText.{steps_line, stuck_line, tape_lines}
-use Rattle.bn_reply_boards_laws.specs.RunReply.{HasMoment, RunIsSettled, TellsRun, board_after, budget, reached, exit_status}
+use Rattle.bn_reply_boards_laws.specs.RunReply.{HasMoment, RunIsSettled, TellsRun, board_after, budget, reached}
+use Rattle.bn_reply_boards_laws.specs.RunReply.{exit_status}
 use Rattle.bn_reply_boards_laws.specs.Headline.{IsGiven}
-use Rattle.bn_reply_boards_laws.specs.Laws.{BoardsAreCounted, BoardsAreSpelled, BoardsHaveRuns, BoardsTellAlike, BoardsTellRuns, ExitsAreNamed, MomentsAreCounted}
+use Rattle.bn_reply_boards_laws.specs.Laws.{BoardsAreCounted, BoardsAreSpelled, BoardsHaveRuns, BoardsTellAlike}
+use Rattle.bn_reply_boards_laws.specs.Laws.{BoardsTellRuns, ExitsAreNamed, MomentsAreCounted}
 use Rattle.bn_reply_boards_laws.specs.Laws.{found_text}
 use Rattle.bn_reply_boards_laws.proofs.CountLemmas.{counts_once}
 use Rattle.bn_reply_boards_laws.proofs.SpelledLemmas.{spelled_alike}
@@ -48,18 +51,22 @@ use Rattle.bn_reply_boards_laws.proofs.WindowLemmas.{given_accepted, standard_ma
 -- ---- moments of two boards
 
 -- a moment knows the tables of the network alone
-moment_by_tables : (m : Quadruples) (l : Limits) (names : List ControlState) (n o : Circuit) (d : Config) (a : ℕ) → n.tables ≡ o.tables →
+moment_by_tables : (m : Quadruples) (l : Limits) (names : List ControlState) (n o : Circuit) (d : Config) (a : ℕ)
+    → n.tables ≡ o.tables →
     IsBoardMoment m l names n d a →
     IsBoardMoment m l names o d a
 moment_by_tables m l names n o d a same (left_by_end final control has left) =
     left_by_end final control (subst (λ (ts : List Table). slice_get ts 0 ≡ Some control) same has) left
 moment_by_tables m l names n o d a same (enters_first other first entry into wire place q names_it marked) =
     enters_first other first entry into wire
-    (subst (λ (ts : List Table). d.place ≡ Enter (bank_input_line (base ts into.element) into.line).element west) same place) q names_it marked
+    (subst (λ (ts : List Table). d.place ≡ Enter (bank_input_line (base ts into.element) into.line).element west) same
+    place) q names_it marked
 
-pub moment_there : (f g : Flat) (d : Config) (a : ℕ) → f.translation ≡ g.translation → f.limits ≡ g.limits → f.names ≡ g.names →
+pub moment_there : (f g : Flat) (d : Config) (a : ℕ) → f.translation ≡ g.translation → f.limits ≡ g.limits
+    → f.names ≡ g.names →
     f.network.tables ≡ g.network.tables →
-    IsBoardMoment (machine_of f) f.limits f.names f.network d a → IsBoardMoment (machine_of g) g.limits g.names g.network d a
+    IsBoardMoment (machine_of f) f.limits f.names f.network d a
+    → IsBoardMoment (machine_of g) g.limits g.names g.network d a
 moment_there f g d a translation limits names tables h =
     subst (λ (ns : List ControlState). IsBoardMoment (machine_of g) g.limits ns g.network d a) names
     (subst (λ (l : Limits). IsBoardMoment (machine_of g) l f.names g.network d a) limits
@@ -67,7 +74,8 @@ moment_there f g d a translation limits names tables h =
     (moment_by_tables (machine_of f) f.limits f.names f.network g.network d a tables h)))
 
 -- what is counted by one property is counted by another that is the same
-counts_alike : (P Q : ℕ → Type 0) → ((n : ℕ) → P n → Q n) → ((n : ℕ) → Q n → P n) → (n c : ℕ) → Counts P n c → Counts Q n c
+counts_alike : (P Q : ℕ → Type 0) → ((n : ℕ) → P n → Q n) → ((n : ℕ) → Q n → P n) → (n c : ℕ) → Counts P n c
+    → Counts Q n c
 counts_alike P Q to from zero c h = h
 counts_alike P Q to from (suc n) zero h = ((λ q. h.0 (from n q)), counts_alike P Q to from n zero h.1)
 counts_alike P Q to from (suc n) (suc c) (inl h) = inl (to n h.0, counts_alike P Q to from n c h.1)
@@ -89,7 +97,8 @@ module _ (f g : Flat) (same : AreSameFlats f g) (limits : f.limits ≡ g.limits)
   reached_same : (given : Option ℕ) → reached f given ≡ reached g given
   reached_same given = after_same (budget f given) ∙ ap (board_after g) (budget_same given)
 
-  told_same : (given : Option ℕ) → places f.circuit (budget f given) (flat_start f) ≡ places g.circuit (budget g given) (flat_start g)
+  told_same : (given : Option ℕ) → places f.circuit (budget f given) (flat_start f)
+      ≡ places g.circuit (budget g given) (flat_start g)
   told_same given = places_same (budget f given) ∙ ap (λ n. places g.circuit n (flat_start g)) (budget_same given)
 
   moment_to : (n : ℕ) → HasMoment f n → HasMoment g n
@@ -103,25 +112,29 @@ module _ (f g : Flat) (same : AreSameFlats f g) (limits : f.limits ≡ g.limits)
   moment_from n h = (
     h.0,
     subst (λ c. IsBoardMoment (machine_of f) f.limits f.names f.network c h.0) (sym (after_same n))
-        (moment_there g f (board_after g n) h.0 (sym same.translation) (sym limits) (sym same.names) (sym same.network.tables) h.1),
+        (moment_there g f (board_after g n) h.0 (sym same.translation) (sym limits) (sym same.names)
+        (sym same.network.tables) h.1),
   )
 
   module _ (t : Named) where
     pub exit_same : (p : Place) (e : Exit) → exit_line t f p e ≡ exit_line t g p e
     exit_same p Inside = refl
     exit_same p End = refl
-    exit_same p (Stuck a c) = ap (λ (s : Translation). stuck_line t (state_text t (machine_state_by s.final_state (name_of s a))) c) same.translation
+    exit_same p (Stuck a c) = ap (λ (s : Translation). stuck_line t
+        (state_text t (machine_state_by s.final_state (name_of s a))) c) same.translation
     exit_same p (Window n s) = refl
     exit_same p Unnamed = refl
 
     shown_same : (states : List ℕ) → shown_lines t f states ≡ shown_lines t g states
-    shown_same states = λ i. tape_lines t (spelled_tape (same.layout i) states 1) (spelled_tape (same.layout i) states 2)
+    shown_same states = λ i. tape_lines t (spelled_tape (same.layout i) states 1)
+        (spelled_tape (same.layout i) states 2)
         (spelled_tape (same.layout i) states 3)
 
     rest_same : (d : Config) (k : ℕ) (e : Exit) → rest_text t f d k e ≡ rest_text t g d k e
     rest_same d k End =
         let shown = shown_same d.states in
-        λ i. quadruple_line k ++ (shown i ++ output_line t (output_from (drop 1 (spelled_tape (same.layout i) d.states 3).cells)))
+        λ i. quadruple_line k ++ (shown i ++ output_line t (output_from
+        (drop 1 (spelled_tape (same.layout i) d.states 3).cells)))
     rest_same d k Inside = shown_same d.states
     rest_same d k (Stuck a c) = shown_same d.states
     rest_same d k (Window n s) = shown_same d.states
@@ -135,7 +148,8 @@ module _ (f g : Flat) (same : AreSameFlats f g) (limits : f.limits ≡ g.limits)
         let rest = rest_same d k e in
         λ i. elements_line (elements i) ++ (exits i ++ (steps_line d.steps ++ rest i))
 
-    tell_there : (given : Option ℕ) (s : Status) (text : List ℕ) (told : List Place) → TellsRun given t f s text told → TellsRun given t g s text told
+    tell_there : (given : Option ℕ) (s : Status) (text : List ℕ) (told : List Place) → TellsRun given t f s text told
+        → TellsRun given t g s text told
     tell_there given s text told a =
         let configs = reached_same given in
         record {
@@ -144,15 +158,19 @@ module _ (f g : Flat) (same : AreSameFlats f g) (limits : f.limits ≡ g.limits)
               (subst (λ (c : Config). IsNamedExit f.layout c.place a.exit) configs a.is_exit);
           moments = a.moments;
           counted = subst (λ (c : Config). Counts (HasMoment g) (c.steps + 1) a.moments) configs
-              (counts_alike (HasMoment f) (HasMoment g) moment_to moment_from ((reached f given).steps + 1) a.moments a.counted);
+              (counts_alike (HasMoment f) (HasMoment g) moment_to moment_from ((reached f given).steps + 1) a.moments
+              a.counted);
           status_is = a.status_is;
-          text_is = a.text_is ∙ text_same (reached f given) (a.moments - 1) a.exit ∙ ap (λ (c : Config). run_text t g c (a.moments - 1) a.exit) configs;
+          text_is = a.text_is ∙ text_same (reached f given) (a.moments - 1) a.exit
+              ∙ ap (λ (c : Config). run_text t g c (a.moments - 1) a.exit) configs;
           told_is = a.told_is ∙ told_same given;
         }
 
 -- of one board one run is told
-run_once : (given : Option ℕ) (t : Named) (f : Flat) → ((at : Place) (e x : Exit) → IsNamedExit f.layout at e → IsNamedExit f.layout at x → e ≡ x) →
-    (s u : Status) (text second : List ℕ) (told heard : List Place) → TellsRun given t f s text told → TellsRun given t f u second heard →
+run_once : (given : Option ℕ) (t : Named) (f : Flat) → ((at : Place) (e x : Exit) → IsNamedExit f.layout at e
+    → IsNamedExit f.layout at x → e ≡ x) →
+    (s u : Status) (text second : List ℕ) (told heard : List Place) → TellsRun given t f s text told
+    → TellsRun given t f u second heard →
     AgreeInAll s u text second told heard
 run_once given t f one s u text second told heard a b =
     let exits = one (reached f given).place a.exit b.exit a.is_exit b.is_exit in
@@ -167,7 +185,8 @@ run_once given t f one s u text second told heard a b =
 
 module _ (machines : TablesAreMachines) (ones : FlatsAreOne) where
   -- two boards are the same
-  pub same_boards : (bytes letters : List ℕ) (l : Limits) (t : Named) (symbols : List ℕ) (f g : Flat) → IsGiven bytes letters l t symbols →
+  pub same_boards : (bytes letters : List ℕ) (l : Limits) (t : Named) (symbols : List ℕ) (f g : Flat)
+      → IsGiven bytes letters l t symbols →
       ComesTo t.machine l symbols f →
       ComesTo t.machine l symbols g → AreSameFlats f g
   same_boards bytes letters l t symbols f g given a b =
@@ -175,7 +194,8 @@ module _ (machines : TablesAreMachines) (ones : FlatsAreOne) where
 
   pub boards-tell_alike : BoardsTellAlike
   boards-tell_alike bytes letters l t symbols f g number s text told given a b tells =
-      tell_there f g (same_boards bytes letters l t symbols f g given a b) (a.flat.limits_are ∙ sym b.flat.limits_are) t number s text told tells
+      tell_there f g (same_boards bytes letters l t symbols f g given a b) (a.flat.limits_are ∙ sym b.flat.limits_are) t
+      number s text told tells
 
 -- a run with the exit and the moments that the layout finds is told
 pub boards-tell_runs : TablesAreMachines → ExitsAreNamed → MomentsAreCounted → BoardsTellRuns
@@ -196,14 +216,16 @@ boards-tell_runs machines exits counts bytes letters l t symbols f number given 
       },
     )
   where
-    not_unnamed : (x : Exit) → IsNamedExit f.layout (reached f number).place x → IsExit f.layout (reached f number).place e → e ≢ exits_of.Unnamed
+    not_unnamed : (x : Exit) → IsNamedExit f.layout (reached f number).place x
+        → IsExit f.layout (reached f number).place e → e ≢ exits_of.Unnamed
     not_unnamed x there (named h) = named_apart f.layout (reached f number).place e h
     not_unnamed x there (unnamed same none) = absurd (none x there)
 
 -- and there is an exit
 pub boards-have_runs : TablesAreMachines → ExitsAreNamed → BoardsHaveRuns
 boards-have_runs machines exits bytes letters l t symbols f number given comes =
-    let found = exits t.machine symbols l f comes.flat (given_accepted machines bytes letters l t symbols f given comes) (budget f number) in
+    let found = exits t.machine symbols l f comes.flat (given_accepted machines bytes letters l t symbols f given comes)
+    (budget f number) in
     (found.0, named found.1)
 
 status_answers : (e : Exit) → IsReplyStatus (exit_status e)
@@ -216,13 +238,15 @@ status_answers Unnamed = tt
 -- ---- the two commands
 
 -- one answer to the words that ask for a run
-pub run_settled : TablesAreMachines → FlatsAreThere → FlatsAreOne → BoardsAreCounted → ExitsAreOne → ExitsAreNamed → MomentsAreCounted → RunIsSettled
+pub run_settled : TablesAreMachines → FlatsAreThere → FlatsAreOne → BoardsAreCounted → ExitsAreOne → ExitsAreNamed
+    → MomentsAreCounted → RunIsSettled
 run_settled machines flats ones counted exits_one exits counts given word l bytes small =
     window_settled (TellsRun given) word l bytes machines flats counted small
     some one
     (λ t f s text told a. subst IsReplyStatus (sym a.status_is) (status_answers a.exit))
   where
-    some : (t : Named) (symbols : List ℕ) (f : Flat) → IsGiven bytes word l t symbols → ComesTo t.machine l symbols f → HasAnswer (TellsRun given t f)
+    some : (t : Named) (symbols : List ℕ) (f : Flat) → IsGiven bytes word l t symbols → ComesTo t.machine l symbols f
+        → HasAnswer (TellsRun given t f)
     some t symbols f is comes =
         let found = boards-have_runs machines exits bytes word l t symbols f given is comes in (
           exit_status found.0,
@@ -231,29 +255,37 @@ run_settled machines flats ones counted exits_one exits counts given word l byte
           (boards-tell_runs machines exits counts bytes word l t symbols f given is comes found.0 found.1).1,
         )
 
-    one : (t : Named) (symbols : List ℕ) (f g : Flat) → IsGiven bytes word l t symbols → ComesTo t.machine l symbols f → ComesTo t.machine l symbols g →
-        (s u : Status) (a b : List ℕ) (x y : List Place) → TellsRun given t f s a x → TellsRun given t g u b y → AgreeInAll s u a b x y
+    one : (t : Named) (symbols : List ℕ) (f g : Flat) → IsGiven bytes word l t symbols → ComesTo t.machine l symbols f
+        → ComesTo t.machine l symbols g →
+        (s u : Status) (a b : List ℕ) (x y : List Place) → TellsRun given t f s a x → TellsRun given t g u b y
+        → AgreeInAll s u a b x y
     one t symbols f g is h k s u a b x y tells other =
-        run_once given t f (exits_one t.machine symbols l f h.flat (given_accepted machines bytes word l t symbols f is h)) s u a b x y tells
+        run_once given t f (exits_one t.machine symbols l f h.flat
+        (given_accepted machines bytes word l t symbols f is h)) s u a b x y tells
         (boards-tell_alike machines ones bytes word l t symbols g f given u b y is k h other)
 
 -- and to those that ask for a board
-pub compile_settled : TablesAreMachines → FlatsAreThere → FlatsAreOne → BoardsAreCounted → BoardsAreSpelled → CompileIsSettled
+pub compile_settled : TablesAreMachines → FlatsAreThere → FlatsAreOne → BoardsAreCounted → BoardsAreSpelled
+    → CompileIsSettled
 compile_settled machines flats ones counted spelled word l bytes small =
     window_settled (λ t. TellsStart) word l bytes machines flats counted small some one
     (λ t f s text told a. subst IsReplyStatus (sym a.done) tt)
   where
-    some : (t : Named) (symbols : List ℕ) (f : Flat) → IsGiven bytes word l t symbols → ComesTo t.machine l symbols f → HasAnswer (TellsStart f)
+    some : (t : Named) (symbols : List ℕ) (f : Flat) → IsGiven bytes word l t symbols → ComesTo t.machine l symbols f
+        → HasAnswer (TellsStart f)
     some t symbols f is comes =
         let s = spelled t.machine symbols l f comes.flat (given_accepted machines bytes word l t symbols f is comes) in
         (statuses.Done, s.2.0, [], record { spelling = s.0; board = s.1; spelled = s.2.1; done = refl; silent = refl })
 
-    one : (t : Named) (symbols : List ℕ) (f g : Flat) → IsGiven bytes word l t symbols → ComesTo t.machine l symbols f → ComesTo t.machine l symbols g →
-        (s u : Status) (a b : List ℕ) (x y : List Place) → TellsStart f s a x → TellsStart g u b y → AgreeInAll s u a b x y
+    one : (t : Named) (symbols : List ℕ) (f g : Flat) → IsGiven bytes word l t symbols → ComesTo t.machine l symbols f
+        → ComesTo t.machine l symbols g →
+        (s u : Status) (a b : List ℕ) (x y : List Place) → TellsStart f s a x → TellsStart g u b y
+        → AgreeInAll s u a b x y
     one t symbols f g is h k s u a b x y tells other =
         let same = same_boards machines ones bytes word l t symbols f g is h k in
         record {
           statuses = tells.done ∙ sym other.done;
-          texts = spelled_alike f g same t.machine symbols l h.flat k.flat tells.spelling other.spelling a b tells.board other.board tells.spelled other.spelled;
+          texts = spelled_alike f g same t.machine symbols l h.flat k.flat tells.spelling other.spelling a b tells.board
+              other.board tells.spelled other.spelled;
           places = tells.silent ∙ sym other.silent;
         }

@@ -1,3 +1,4 @@
 pub mod BuildReply
 pub mod Buildable
 pub mod Opened
+pub mod BennettBuilds

@@ -7,5 +7,5 @@ mod opening;
 mod sizes;
 
 pub use build::answer_build;
-pub use laws::build_has_one_reply;
+pub use laws::{build_has_one_reply, compiling_is_building};
 pub use opening::{OpenedBuild, open_build};

@@ -31,37 +31,70 @@ use Rattle.bn_reply_circuits.specs.MirrorLaws.{IsUncounted, MirroredTextsComeBac
 -- ---- one answer
 
 -- the mirror that is written
-image_spelled : (bytes text : List ℕ) (a : Mirrored bytes text) → Spelled a.version a.image text
-image_spelled bytes text a = record { admitted = mirrors-admitted a.version a.spelling a.image a.spelled.admitted a.is_mirror; is_text = a.written }
+pub image_spelled : (bytes text : List ℕ) (a : Mirrored bytes text) → Spelled a.version a.image text
+image_spelled bytes text a = record {
+  admitted = mirrors-admitted a.version a.spelling a.image a.spelled.admitted
+      a.is_mirror;
+  is_text = a.written;
+}
 
 one_text : (bytes text second : List ℕ) → Mirrored bytes text → Mirrored bytes second → text ≡ second
 one_text bytes text second a b =
     let both = spellings-agree a.version b.version a.spelling b.spelling bytes a.spelled b.spelled in
     let same = mirrors-one a.spelling b.spelling a.image b.image both.1 a.is_mirror b.is_mirror in
-    same-have-one-text b.version a.image b.image text second same (subst (λ v. Spelled v a.image text) both.0 (image_spelled bytes text a)) (image_spelled bytes second b)
+    same-have-one-text b.version a.image b.image text second same
+    (subst (λ v. Spelled v a.image text) both.0 (image_spelled bytes text a)) (image_spelled bytes second b)
 
 mirrored_or_not : (bytes text second : List ℕ) → Mirrored bytes text → Misspelled bytes second → ⊥
-mirrored_or_not bytes text second a b = faulty_texts-spell-nothing a.version a.spelling bytes b.line b.fault b.first a.spelled
+mirrored_or_not bytes text second a b = faulty_texts-spell-nothing a.version a.spelling bytes b.line b.fault b.first
+    a.spelled
 
-by_spelling : (bytes : List ℕ) → ((v : Version) × (s : Spelling) × Spelled v s bytes) ⊎ ((line : ℕ) × (fault : Fault) × IsFirstFault bytes line fault) → HasAnswer (MirrorReplies bytes)
+by_spelling : (bytes : List ℕ) → ((v : Version) × (s : Spelling) × Spelled v s bytes)
+    ⊎ ((line : ℕ) × (fault : Fault) × IsFirstFault bytes line fault) → HasAnswer (MirrorReplies bytes)
 by_spelling bytes (inl (v, s, is)) =
     let m = mirrors-there v s is.admitted in
-    let text = has-text v m.0 (mirrors-admitted v s m.0 is.admitted m.1) in
-    (Done, text.0, [], mirrored (record { version = v; spelling = s; spelled = is; image = m.0; is_mirror = m.1; written = text.1.is_text }) refl refl)
-by_spelling bytes (inr (line, fault, first)) = (Text, fault_text line fault, [], misspelled (record { line = line; fault = fault; first = first; written = refl }) refl refl)
+    let text = has-text v m.0 (mirrors-admitted v s m.0 is.admitted m.1) in (
+      Done,
+      text.0,
+      [],
+      mirrored (record {
+        version = v;
+        spelling = s;
+        spelled = is;
+        image = m.0;
+        is_mirror = m.1;
+        written = text.1.is_text;
+      }) refl refl,
+    )
+by_spelling bytes (inr (line, fault, first)) = (
+  Text,
+  fault_text line fault,
+  [],
+  misspelled
+      (record { line = line; fault = fault; first = first; written = refl }) refl refl,
+)
 
 mirror_one : (bytes : List ℕ) → IsOneAnswer (MirrorReplies bytes)
-mirror_one bytes status other text second told heard (mirrored a e m) (mirrored b d n) = agree Done status other text second told heard e d (one_text bytes text second a b) m n
-mirror_one bytes status other text second told heard (mirrored a e m) (misspelled b d n) = absurd (mirrored_or_not bytes text second a b)
-mirror_one bytes status other text second told heard (misspelled a e m) (mirrored b d n) = absurd (mirrored_or_not bytes second text b a)
-mirror_one bytes status other text second told heard (misspelled a e m) (misspelled b d n) = agree Text status other text second told heard e d (one_fault bytes text second a b) m n
+mirror_one bytes status other text second told heard (mirrored a e m) (mirrored b d n) =
+    agree Done status other text second told heard e d (one_text bytes text second a b) m n
+mirror_one bytes status other text second told heard (mirrored a e m) (misspelled b d n) =
+    absurd (mirrored_or_not bytes text second a b)
+mirror_one bytes status other text second told heard (misspelled a e m) (mirrored b d n) =
+    absurd (mirrored_or_not bytes second text b a)
+mirror_one bytes status other text second told heard (misspelled a e m) (misspelled b d n) =
+    agree Text status other text second told heard e d (one_fault bytes text second a b) m n
 
-mirror_status : (bytes : List ℕ) (status : Status) (text : List ℕ) (told : List Place) → MirrorReplies bytes status text told → IsReplyStatus status
+mirror_status : (bytes : List ℕ) (status : Status) (text : List ℕ) (told : List Place)
+    → MirrorReplies bytes status text told → IsReplyStatus status
 mirror_status bytes status text told (mirrored a e m) = subst IsReplyStatus (sym e) tt
 mirror_status bytes status text told (misspelled a e m) = subst IsReplyStatus (sym e) tt
 
 pub mirror_settled : MirrorIsSettled
-mirror_settled bytes = record { some = by_spelling bytes (texts-spell-or-fault bytes); one = mirror_one bytes; status = mirror_status bytes }
+mirror_settled bytes = record {
+  some = by_spelling bytes (texts-spell-or-fault bytes);
+  one = mirror_one bytes;
+  status = mirror_status bytes;
+}
 
 -- ---- what the code replies
 
@@ -97,11 +130,13 @@ back_again bytes text again a b =
       version = v;
       spelling = s;
       spelled = a.spelled;
-      written = (spelled-alike v b.image (moved_to s uncounted) again (same_of_both b.image twice.0 (moved_to s uncounted) one back) written).is_text;
+      written = (spelled-alike v b.image (moved_to s uncounted) again
+          (same_of_both b.image twice.0 (moved_to s uncounted) one back) written).is_text;
     }
 
 pub mirrored_texts-come_back : MirroredTextsComeBack
 mirrored_texts-come_back bytes text again status told (misspelled a e m) reply = absurd (not_done e)
 mirrored_texts-come_back bytes text again status told (mirrored a e m) (misspelled b d n) =
     absurd (faulty_texts-spell-nothing a.version a.image text b.line b.fault b.first (image_spelled bytes text a))
-mirrored_texts-come_back bytes text again status told (mirrored a e m) (mirrored b d n) = (d, back_again bytes text again a b)
+mirrored_texts-come_back bytes text again status told (mirrored a e m) (mirrored b d n) =
+    (d, back_again bytes text again a b)

@@ -1,5 +1,6 @@
 -- The reply of the command `plan`, of which there is one and only one.
-use Rattle.std.specs.Prelude.{◌≡◌, ◌≢◌, ◌⊎◌, ℕ, zero, suc, ◌≤◌, true, not, List, [], ◌∷◌, Some, Result, Ok, Err, IfOk, replicate, refl}
+use Rattle.std.specs.Prelude.{◌≡◌, ◌≢◌, ◌⊎◌, ℕ, zero, suc, ◌≤◌, true, not, List, [], ◌∷◌, Some, Result, Ok, Err, IfOk}
+use Rattle.std.specs.Prelude.{replicate, refl}
 use Rattle.std.specs.List.{filter}
 use Rattle.std.proofs.Common.{inl, inr, sym, ap, subst, ◌∙◌, arith}
 use Rattle.bn_circuits.specs.Circuits.{target, same_line, inputs_of, outputs_of}
@@ -33,7 +34,8 @@ use Rattle.bn_lists.specs.declared.memory.NoMemory.{NoMemory as WantOfMemory}
 use Rattle.bn_reply.specs.declared.status.Status.{Status}
 use Rattle.bn_reply.specs.declared.status.Status.TheVariants.{Done, Text}
 use Rattle.bn_reply.proofs.SettledLemmas.{agree}
-use Rattle.bn_reply_circuits.specs.PlanReply.{plan_text, TellsPlan, Planned, PlanReplies, PlanIsSettled, misspelled, planned}
+use Rattle.bn_reply_circuits.specs.PlanReply.{plan_text, TellsPlan, Planned, PlanReplies, PlanIsSettled, misspelled}
+use Rattle.bn_reply_circuits.specs.PlanReply.{planned}
 
 -- ---- what the code replies
 
@@ -45,9 +47,12 @@ few_elements v s a =
     omega arith
 
 -- the reply to a text that is read
-pub replied : (bytes : List ℕ) (v : Version) (s : Spelling) (result : Result Reply WantOfMemory) → Spelled v s bytes → IfOk result (λ r. r.status ≡ Done)
-    → IfOk result (λ r. TellsPlan s.wires s.elements r.text.items) → IfOk result (λ r. PlanReplies bytes r.status r.text.items [])
-replied bytes v s (Ok r) spelled done tells = planned (record { version = v; spelling = s; spelled = spelled; tells = tells }) done refl
+pub replied : (bytes : List ℕ) (v : Version) (s : Spelling) (result : Result Reply WantOfMemory) → Spelled v s bytes
+    → IfOk result (λ r. r.status ≡ Done)
+    → IfOk result (λ r. TellsPlan s.wires s.elements r.text.items)
+    → IfOk result (λ r. PlanReplies bytes r.status r.text.items [])
+replied bytes v s (Ok r) spelled done tells = planned (record
+    { version = v; spelling = s; spelled = spelled; tells = tells }) done refl
 replied bytes v s (Err e) spelled done tells = tt
 
 -- ---- each circuit has a list of its wires
@@ -74,19 +79,26 @@ leads_there (w ∷ ws) v (inr h) =
 leads_back : (ws : List Wire) (v : Wire) → target ws v.from ≡ Some v.to → Has (leading ws) v
 leads_back [] v is = absurd (cc)
 leads_back (w ∷ ws) v is = elim (line_tells w.from v.from) [
-  | inl same ↦ let to : Some w.to ≡ Some v.to = rw same.0 at is in let also : v.to ≡ w.to = cc in inl (λ i. record { from = (sym same.1) i; to = also i })
-  | inr other ↦ inr (in_filter (λ (x : Wire). not (same_line w.from x.from)) (leading ws) v (leads_back ws v (rw other.0 at is)) (ap not other.0))
+  | inl same ↦ let to : Some w.to ≡ Some v.to = rw same.0 at is in let also : v.to ≡ w.to =
+      cc in inl (λ i. record { from = (sym same.1) i; to = also i })
+  | inr other ↦ inr (in_filter (λ (x : Wire). not (same_line w.from x.from)) (leading ws) v
+      (leads_back ws v (rw other.0 at is)) (ap not other.0))
 ]
 
 leading_apart : (ws : List Wire) → Pairwise (λ (v w : Wire). v.from ≢ w.from) (leading ws)
 leading_apart [] = tt
-leading_apart (w ∷ ws) = (first, pairwise_filter (λ (v x : Wire). v.from ≢ x.from) (λ (v : Wire). not (same_line w.from v.from)) (leading ws) (leading_apart ws))
+leading_apart (w ∷ ws) = (
+  first,
+  pairwise_filter (λ (v x : Wire). v.from ≢ x.from)
+      (λ (v : Wire). not (same_line w.from v.from)) (leading ws) (leading_apart ws),
+)
   where
     first : (v : Wire) → Has (filter (λ (x : Wire). not (same_line w.from x.from)) (leading ws)) v → w.from ≢ v.from
-    first v h e = let stays = filter_in (λ (x : Wire). not (same_line w.from x.from)) (leading ws) v h in elim (line_tells w.from v.from) [
-      | inl same ↦ let clash : not true ≡ true = ap not (sym same.0) ∙ stays.1 in absurd (cc)
-      | inr other ↦ absurd (other.1 e)
-    ]
+    first v h e = let stays = filter_in (λ (x : Wire). not (same_line w.from x.from)) (leading ws) v h in elim
+        (line_tells w.from v.from) [
+          | inl same ↦ let clash : not true ≡ true = ap not (sym same.0) ∙ stays.1 in absurd (cc)
+          | inr other ↦ absurd (other.1 e)
+        ]
 
 listing : (ws : List Wire) → AreWiresOf ws (leading ws)
 listing ws = record { each = λ v. (leads_there ws v, leads_back ws v); once = leading_apart ws }
@@ -99,22 +111,32 @@ four_lines zero e = (omega arith, omega arith)
 four_lines (suc n) zero = (omega arith, omega arith)
 four_lines (suc n) (suc e) = four_lines n e
 
-spelled_rotary : (v : Version) (s : Spelling) (bytes : List ℕ) (ws : List Wire) → Spelled v s bytes → AreWiresOf s.wires ws → AreRotary ws
-spelled_rotary v s bytes ws spelled listed = circuits_are_rotary (circuit_of s) ws spelled.admitted.circuit (four_lines s.elements) listed
+spelled_rotary : (v : Version) (s : Spelling) (bytes : List ℕ) (ws : List Wire) → Spelled v s bytes
+    → AreWiresOf s.wires ws → AreRotary ws
+spelled_rotary v s bytes ws spelled listed = circuits_are_rotary (circuit_of s) ws spelled.admitted.circuit
+    (four_lines s.elements) listed
 
 one_plan : (bytes text second : List ℕ) → Planned bytes text → Planned bytes second → text ≡ second
 one_plan bytes text second a b =
     let same = (spellings-agree a.version b.version a.spelling b.spelling bytes a.spelled b.spelled).1 in
     let plans : a.tells.plan ≡ b.tells.plan = floor_once a.tells.wires b.tells.wires a.tells.plan b.tells.plan
-    (spelled_rotary a.version a.spelling bytes a.tells.wires a.spelled a.tells.listed) (spelled_rotary b.version b.spelling bytes b.tells.wires b.spelled b.tells.listed)
-    (λ w. ((λ h. (b.tells.listed.each w).1 (sym (same.targets w.from) ∙ (a.tells.listed.each w).0 h)), λ h. (a.tells.listed.each w).1 (same.targets w.from ∙ (b.tells.listed.each w).0 h)))
+    (spelled_rotary a.version a.spelling bytes a.tells.wires a.spelled a.tells.listed)
+    (spelled_rotary b.version b.spelling bytes b.tells.wires b.spelled b.tells.listed)
+    (λ w. (
+      (λ h. (b.tells.listed.each w).1 (sym (same.targets w.from) ∙ (a.tells.listed.each w).0 h)),
+      λ h.
+          (a.tells.listed.each w).1 (same.targets w.from ∙ (b.tells.listed.each w).0 h),
+    ))
     a.tells.floor b.tells.floor in
-    a.tells.written ∙ ap (λ n. plan_text n a.tells.plan) same.elements ∙ ap (plan_text b.spelling.elements) plans ∙ sym b.tells.written
+    a.tells.written ∙ ap (λ n. plan_text n a.tells.plan) same.elements ∙ ap (plan_text b.spelling.elements) plans
+    ∙ sym b.tells.written
 
 planned_or_not : (bytes text second : List ℕ) → Planned bytes text → Misspelled bytes second → ⊥
-planned_or_not bytes text second a b = faulty_texts-spell-nothing a.version a.spelling bytes b.line b.fault b.first a.spelled
+planned_or_not bytes text second a b = faulty_texts-spell-nothing a.version a.spelling bytes b.line b.fault b.first
+    a.spelled
 
-by_spelling : (bytes : List ℕ) → ((v : Version) × (s : Spelling) × Spelled v s bytes) ⊎ ((line : ℕ) × (fault : Fault) × IsFirstFault bytes line fault) → HasAnswer (PlanReplies bytes)
+by_spelling : (bytes : List ℕ) → ((v : Version) × (s : Spelling) × Spelled v s bytes)
+    ⊎ ((line : ℕ) × (fault : Fault) × IsFirstFault bytes line fault) → HasAnswer (PlanReplies bytes)
 by_spelling bytes (inl (v, s, is)) =
     let floor = floor_exists (leading s.wires) in (
       Done,
@@ -124,20 +146,41 @@ by_spelling bytes (inl (v, s, is)) =
         version = v;
         spelling = s;
         spelled = is;
-        tells = record { wires = leading s.wires; listed = listing s.wires; plan = floor.0; floor = floor.1; written = refl };
+        tells = record {
+          wires = leading s.wires;
+          listed = listing s.wires;
+          plan = floor.0;
+          floor = floor.1;
+          written = refl;
+        };
       }) refl refl,
     )
-by_spelling bytes (inr h) = (Text, fault_text h.0 h.1, [], misspelled (record { line = h.0; fault = h.1; first = h.2; written = refl }) refl refl)
+by_spelling bytes (inr h) = (
+  Text,
+  fault_text h.0 h.1,
+  [],
+  misspelled
+      (record { line = h.0; fault = h.1; first = h.2; written = refl }) refl refl,
+)
 
 plan_one : (bytes : List ℕ) → IsOneAnswer (PlanReplies bytes)
-plan_one bytes status other text second told heard (planned a e m) (planned b d n) = agree Done status other text second told heard e d (one_plan bytes text second a b) m n
-plan_one bytes status other text second told heard (planned a e m) (misspelled b d n) = absurd (planned_or_not bytes text second a b)
-plan_one bytes status other text second told heard (misspelled a e m) (planned b d n) = absurd (planned_or_not bytes second text b a)
-plan_one bytes status other text second told heard (misspelled a e m) (misspelled b d n) = agree Text status other text second told heard e d (one_fault bytes text second a b) m n
+plan_one bytes status other text second told heard (planned a e m) (planned b d n) =
+    agree Done status other text second told heard e d (one_plan bytes text second a b) m n
+plan_one bytes status other text second told heard (planned a e m) (misspelled b d n) =
+    absurd (planned_or_not bytes text second a b)
+plan_one bytes status other text second told heard (misspelled a e m) (planned b d n) =
+    absurd (planned_or_not bytes second text b a)
+plan_one bytes status other text second told heard (misspelled a e m) (misspelled b d n) =
+    agree Text status other text second told heard e d (one_fault bytes text second a b) m n
 
-plan_status : (bytes : List ℕ) (status : Status) (text : List ℕ) (told : List Place) → PlanReplies bytes status text told → IsReplyStatus status
+plan_status : (bytes : List ℕ) (status : Status) (text : List ℕ) (told : List Place)
+    → PlanReplies bytes status text told → IsReplyStatus status
 plan_status bytes status text told (planned a e m) = subst IsReplyStatus (sym e) tt
 plan_status bytes status text told (misspelled a e m) = subst IsReplyStatus (sym e) tt
 
 pub plan_settled : PlanIsSettled
-plan_settled bytes = record { some = by_spelling bytes (texts-spell-or-fault bytes); one = plan_one bytes; status = plan_status bytes }
+plan_settled bytes = record {
+  some = by_spelling bytes (texts-spell-or-fault bytes);
+  one = plan_one bytes;
+  status = plan_status bytes;
+}

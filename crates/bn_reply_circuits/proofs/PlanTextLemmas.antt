@@ -18,20 +18,26 @@ at_in (x ∷ xs) zero d h = inl refl
 at_in (x ∷ xs) (suc i) d h = inr (at_in xs i d (omega (arith, h)))
 
 -- the lines of one wire more
-lines_more : (ts : List Tracked) (i : ℕ) (d : Tracked) → i < length ts → wire_lines (take (suc i) ts) ≡ wire_lines (take i ts) ++ wire_line (get_or ts i d)
+lines_more : (ts : List Tracked) (i : ℕ) (d : Tracked) → i < length ts
+    → wire_lines (take (suc i) ts) ≡ wire_lines (take i ts) ++ wire_line (get_or ts i d)
 lines_more [] i d h = absurd (omega (arith, h))
 lines_more (u ∷ us) zero d h = append-nil (wire_line u)
 lines_more (u ∷ us) (suc i) d h =
-    ap (λ rest. wire_line u ++ rest) (lines_more us i d (omega (arith, h))) ∙ sym (append_assoc (wire_line u) (wire_lines (take i us)) (wire_line (get_or us i d)))
+    ap (λ rest. wire_line u ++ rest) (lines_more us i d (omega (arith, h)))
+    ∙ sym (append_assoc (wire_line u) (wire_lines (take i us)) (wire_line (get_or us i d)))
 
 -- the text after one wire more
-pub text_more : (old before after : List ℕ) (ts : List Tracked) (i : ℕ) (d : Tracked) → before ≡ old ++ wire_lines (take i ts) → i < length ts
+pub text_more : (old before after : List ℕ) (ts : List Tracked) (i : ℕ) (d : Tracked)
+    → before ≡ old ++ wire_lines (take i ts) → i < length ts
     → after ≡ before ++ wire_line (get_or ts i d) → after ≡ old ++ wire_lines (take (i + 1) ts)
 text_more old before after ts i d so_far h is =
     let next : suc i ≡ i + 1 = omega arith in
-    is ∙ ap (λ xs. xs ++ wire_line (get_or ts i d)) so_far ∙ append_assoc old (wire_lines (take i ts)) (wire_line (get_or ts i d))
+    is ∙ ap (λ xs. xs ++ wire_line (get_or ts i d)) so_far ∙ append_assoc old (wire_lines (take i ts))
+    (wire_line (get_or ts i d))
     ∙ ap (λ xs. old ++ xs) (sym (lines_more ts i d h)) ∙ ap (λ n. old ++ wire_lines (take n ts)) next
 
 -- the wires of a floor plan lead from elements of four lines to such
-pub floor_lines : (ws : List Wire) (f : FloorPlan) → AreRotary ws → IsFloorPlan ws f → (t : Tracked) → Has f.wires t → HasFourLines (untracked t)
-floor_lines ws f r is t h = r.lines (untracked t) (moves_in (wires_of f.wires) ws (IsPermutation-sym ws (wires_of f.wires) is.plan.all) (untracked t) (in_map untracked f.wires t h))
+pub floor_lines : (ws : List Wire) (f : FloorPlan) → AreRotary ws → IsFloorPlan ws f → (t : Tracked) → Has f.wires t
+    → HasFourLines (untracked t)
+floor_lines ws f r is t h = r.lines (untracked t) (moves_in (wires_of f.wires) ws
+    (IsPermutation-sym ws (wires_of f.wires) is.plan.all) (untracked t) (in_map untracked f.wires t h))

@@ -34,39 +34,51 @@ use Rattle.bn_reply_circuits_laws.specs.CircuitReply.{Misspelled, misspelled}
 use Rattle.bn_reply_circuits_laws.specs.MigrateReply.{MigrateReplies, faulty}
 use Rattle.bn_reply_circuits.proofs.CircuitLemmas.{migrate_read, wrong}
 
-text_not_too_long : {T : Type 0} (r : NetlistRefusal) → IsErrOf {T = T} {E = FromRefusal} (Err (reading.Text r)) reading.TooLong → ⊥
+text_not_too_long : {T : Type 0} (r : NetlistRefusal) → IsErrOf {T = T} {E = FromRefusal} (Err (reading.Text r))
+    reading.TooLong → ⊥
 text_not_too_long r e = cc
 
 -- how a command ends that is refused or reads a text, where the source, the sink and the watch are at these before and
 -- after
-module _ (replies : List ℕ → Status → List ℕ → List Place → Type 0) (bytes : List ℕ) (result : Status) (left after : Option (List ℕ)) (failed fails : ℕ)
+module _ (replies : List ℕ → Status → List ℕ → List Place → Type 0) (bytes : List ℕ) (result : Status)
+    (left after : Option (List ℕ)) (failed fails : ℕ)
     (taken took : Option (List ℕ)) (before now : ℕ) (told heard : Option (List Place)) where
   abbrev EndsSo : Type 0
   EndsSo = StreamEnds replies result (outside left taken told failed before) (outside after took heard fails now)
 
   -- a text that is read to its end
-  pub stream_read : (longer : Type 0) → ReadsWithin left after MOST_INPUT_BYTES longer bytes → (longer → ⊥) → Ends left after →
+  pub stream_read : (longer : Type 0) → ReadsWithin left after MOST_INPUT_BYTES longer bytes → (longer → ⊥)
+      → Ends left after →
       AnswerEnds (replies bytes) result taken took before now told heard → failed ≤ fails → before ≤ now → EndsSo
   stream_read longer reads none all ends later_source later_sink = record {
     input = Whole bytes;
-    gives = (record { lost = reads.lost; ended = all }, gave_within left after MOST_INPUT_BYTES longer bytes reads none);
+    gives = (
+      record { lost = reads.lost; ended = all },
+      gave_within left after MOST_INPUT_BYTES longer bytes reads
+          none,
+    );
     ends = ends;
     later = record { read = later_source; write = later_sink };
   }
 
 -- nothing was read
-module _ (replies : List ℕ → Status → List ℕ → List Place → Type 0) (refuses : (bytes text : List ℕ) → Misspelled bytes text → replies bytes statuses.Text text [])
-    (bytes : List ℕ) (result : Status) (left after : Option (List ℕ)) (failed fails : ℕ) (taken took : Option (List ℕ)) (before now : ℕ)
+module _ (replies : List ℕ → Status → List ℕ → List Place → Type 0)
+    (refuses : (bytes text : List ℕ) → Misspelled bytes text → replies bytes statuses.Text text [])
+    (bytes : List ℕ) (result : Status) (left after : Option (List ℕ)) (failed fails : ℕ) (taken took : Option (List ℕ))
+    (before now : ℕ)
     (told : Option (List Place)) where
   refused_reply : (refusal : NetlistRefusal) (reply : Result Reply WantOfMemory) → IsTextRefusal bytes refusal →
-      IfOk reply (λ r. IsRefused refusal r.status r.text.items) → IfOk reply (λ r. replies bytes r.status r.text.items [])
+      IfOk reply (λ r. IsRefused refusal r.status r.text.items)
+      → IfOk reply (λ r. replies bytes r.status r.text.items [])
   refused_reply refusal (Ok r) first is =
       let both = wrong bytes refusal r.status r.text.items first is in
       subst (λ st. replies bytes st r.text.items []) (sym both.0) (refuses bytes r.text.items both.1)
   refused_reply refusal (Err e) first is = tt
 
-  pub stream_unread : {T : Type 0} (refusal : FromRefusal) → ReadsWithin left after MOST_INPUT_BYTES (IsErrOf {T = T} (Err refusal) reading.TooLong) bytes →
-      IsFromRefusal bytes refusal → (HasWhole refusal → Ends left after) → (IsErrOf {T = T} (Err refusal) reading.ReadFault → Rose failed fails) →
+  pub stream_unread : {T : Type 0} (refusal : FromRefusal) → ReadsWithin left after MOST_INPUT_BYTES
+      (IsErrOf {T = T} (Err refusal) reading.TooLong) bytes →
+      IsFromRefusal bytes refusal → (HasWhole refusal → Ends left after)
+      → (IsErrOf {T = T} (Err refusal) reading.ReadFault → Rose failed fails) →
       UnreadEnds refusal result taken took before now → failed ≤ fails → before ≤ now →
       StreamEnds replies result (outside left taken told failed before) (outside after took told fails now)
   stream_unread {T} reading.ReadFault reads first all cause ends later_source later_sink = record {
@@ -77,14 +89,17 @@ module _ (replies : List ℕ → Status → List ℕ → List Place → Type 0) 
   }
   stream_unread {T} reading.TooLong reads first all cause ends later_source later_sink = record {
     input = TooLong;
-    gives = gave_more left after MOST_INPUT_BYTES (IsErrOf {T = T} (Err reading.TooLong) reading.TooLong) bytes reads refl;
+    gives = gave_more left after MOST_INPUT_BYTES (IsErrOf {T = T} (Err reading.TooLong) reading.TooLong) bytes reads
+        refl;
     ends = (ends, hears-nothing told);
     later = record { read = later_source; write = later_sink };
   }
   stream_unread {T} (reading.Text r) reads first all cause ends later_source later_sink =
-      stream_read replies bytes result left after failed fails taken took before now told told (IsErrOf {T = T} (Err (reading.Text r)) reading.TooLong) reads
+      stream_read replies bytes result left after failed fails taken took before now told told
+      (IsErrOf {T = T} (Err (reading.Text r)) reading.TooLong) reads
       (text_not_too_long {T = T} r) (all tt)
-      (silent_ends (replies bytes) ends.0 result taken took before now told (refused_reply r ends.0 first.0 ends.1) ends.2) later_source later_sink
+      (silent_ends (replies bytes) ends.0 result taken took before now told (refused_reply r ends.0 first.0 ends.1)
+      ends.2) later_source later_sink
   stream_unread {T} reading.NoMemory reads first all cause ends later_source later_sink = record {
     input = Unread;
     gives = tt;
@@ -92,7 +107,8 @@ module _ (replies : List ℕ → Status → List ℕ → List Place → Type 0) 
     later = record { read = later_source; write = later_sink };
   }
 
-pub walk_refuses : (way : Direction) (e : ℕ) (bytes text : List ℕ) → Misspelled bytes text → WalkReplies way e bytes statuses.Text text []
+pub walk_refuses : (way : Direction) (e : ℕ) (bytes text : List ℕ) → Misspelled bytes text
+    → WalkReplies way e bytes statuses.Text text []
 walk_refuses way e bytes text is = misspelled is refl refl
 
 pub migrate_refuses : (bytes text : List ℕ) → Misspelled bytes text → MigrateReplies bytes statuses.Text text []
@@ -105,8 +121,10 @@ pub not_too_long : {T : Type 0} (c : T) → IsErrOf {T = T} {E = FromRefusal} (O
 not_too_long c e = cc
 
 -- how the answer of `migrate` to a text that was read ends
-pub migrate_ends : (v : Version) (s : Spelling) (bytes : List ℕ) (result : Status) (taken took : Option (List ℕ)) (before now : ℕ) (told : Option (List Place)) →
-    Spelled v s bytes → TextEnds (IsTextOf Two s) result taken took before now → AnswerEnds (MigrateReplies bytes) result taken took before now told told
+pub migrate_ends : (v : Version) (s : Spelling) (bytes : List ℕ) (result : Status) (taken took : Option (List ℕ))
+    (before now : ℕ) (told : Option (List Place)) →
+    Spelled v s bytes → TextEnds (IsTextOf Two s) result taken took before now
+    → AnswerEnds (MigrateReplies bytes) result taken took before now told told
 migrate_ends v s bytes result taken took before now told spelled ends =
     let text = has-text Two s (admission-rises v s spelled.admitted) in
     text_ends (MigrateReplies bytes) (IsTextOf Two s) text.0 [] result taken took before now told told text.1.is_text

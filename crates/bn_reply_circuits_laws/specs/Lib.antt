@@ -1,2 +1,3 @@
 pub mod CircuitReply
 pub mod MigrateReply
+pub mod TextSizes

@@ -4,4 +4,4 @@
 
 mod laws;
 
-pub use laws::{circuits_have_one_reply, migrate_has_one_reply, migrated_stays};
+pub use laws::{circuits_have_one_reply, migrate_has_one_reply, migrated_stays, texts_may_be_read};

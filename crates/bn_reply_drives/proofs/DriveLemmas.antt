@@ -27,7 +27,7 @@ use Rattle.bn_network.specs.Starts.{start_from}
 use Rattle.bn_board_spec.specs.Layouts.{elements_of, is_moment, moments}
 use Rattle.bn_board_laws.proofs.NetworkReadLemmas.{networks-read}
 use Rattle.bn_board.specs.Flattened.{Flattened, IsSameBoard}
-use Rattle.bn_build_laws.specs.Builds.{Build, IsStart, build_elements}
+use Rattle.bn_build_laws.specs.Builds.{Build, IsStart, build_elements, start_of}
 use Rattle.bn_build_laws.specs.Exits.{BoardLeaves}
 use Rattle.bn_build_laws.specs.Runs.{BuildRunsTo, EndsInWindow}
 use Rattle.bn_build_laws.proofs.RunLemmas.{none_low}
@@ -39,11 +39,11 @@ use Rattle.bn_reply_boards.specs.Running.{IsAnswered}
 use Rattle.bn_reply_boards.proofs.AnsweredLemmas.{answered_late, answered_told}
 use Rattle.bn_reply_builds.specs.BuildReply.{IsBuiltFor}
 use Rattle.bn_reply_builds.specs.Opened.{IsBuiltBoard}
-use Rattle.bn_reply_drives.specs.declared.outcome.Outcome.TheVariants.{Inside}
-use Rattle.bn_reply_drives.specs.Driven.{TellsDrive, TellsOutcome, drive_status, start_of}
-use Rattle.bn_reply_drives.specs.Outcomes.{outcome_by, outcome_line, outcome_status}
-use Rattle.bn_reply_drives.proofs.FitLemmas.{final_fits}
-use Rattle.bn_reply_drives.proofs.TextLemmas.{outcome_line_is}
+use Rattle.bn_reply_outcomes.specs.declared.outcome.Outcome.TheVariants.{Inside}
+use Rattle.bn_reply_drives.specs.Driven.{TellsDrive, TellsOutcome, drive_status}
+use Rattle.bn_reply_outcomes.specs.Outcomes.{outcome_by, outcome_line, outcome_status}
+use Rattle.bn_build_laws.proofs.FitLemmas.{final_fits}
+use Rattle.bn_reply_outcomes.proofs.TextLemmas.{outcome_line_is}
 
 -- ---- counts of a run that goes no further
 

@@ -1,12 +1,7 @@
-pub mod ScannedLemmas
-pub mod StopLemmas
-pub mod LineLemmas
-pub mod FitLemmas
-pub mod ExitLemmas
-pub mod ReadsLemmas
-pub mod CellLemmas
-pub mod AwaitLemmas
 pub mod TextLemmas
-pub mod OutcomeLemmas
 pub mod DriveLemmas
 pub mod SettledLemmas
+pub mod CountLemmas
+pub mod HeadlineLemmas
+pub mod CircuitLemmas
+pub mod ErasedLemmas

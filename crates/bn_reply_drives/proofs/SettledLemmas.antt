@@ -1,32 +1,25 @@
 -- `drive` has one answer to all words, windows, numbers of steps and bytes.
-use Rattle.std.specs.Prelude.{◌≡◌, ℕ, ◌+◌, ◌-◌, ◌*◌, ◌≤◌, Bool, List, ◌++◌, Option, Some, None, length, replicate, refl}
+use Rattle.std.specs.Prelude.{◌≡◌, ℕ, ◌+◌, ◌-◌, ◌*◌, ◌≤◌, Bool, List, ◌++◌, Option, Some, None, length, refl}
 use Rattle.std.proofs.Common.{zero, suc, arith, sym, ap, subst, ◌∙◌}
 use Rattle.bn_lists.specs.Runs.{Reaches}
-use Rattle.bn_element.specs.Rotary.{rotary}
 use Rattle.bn_circuits.specs.Alike.{AreAlike}
 use Rattle.bn_circuits.specs.Circuits.{Circuit, Goes, clock}
 use Rattle.bn_circuits.specs.Counting.{one_if, tally}
 use Rattle.bn_circuits.specs.Stepping.{places, run}
 use Rattle.bn_circuits.specs.declared.config.Config.{Config}
 use Rattle.bn_circuits.specs.declared.place.Place.TheVariants.{Enter}
-use Rattle.bn_circuits.proofs.AlikeLemmas.{places-alike, run-alike, sources_one}
+use Rattle.bn_circuits.proofs.AlikeLemmas.{places-alike, run-alike}
 use Rattle.bn_circuits.proofs.CountingLemmas.{tally-more, tally-zero}
 use Rattle.bn_circuits.proofs.RunLemmas.{Reaches-run, run_stops}
 use Rattle.bn_machine.specs.Outcome.{Limits}
-use Rattle.bn_quad.specs.Quadruples.{Configuration, Quadruples, QuadruplesRunTo, final_state_of}
+use Rattle.bn_quad.specs.Quadruples.{Configuration}
 use Rattle.bn_qtable.specs.Rows.{QuadTable}
-use Rattle.bn_bennett_laws.specs.Stages.{rooms_of}
-use Rattle.bn_bennett_laws.specs.Steps.{EndsAt, Exit, Finished, Stopped, Leaving}
-use Rattle.bn_network.specs.Controls.{ControlState, IsNumbering}
-use Rattle.bn_network.specs.Networks.{IsNetwork, elements_by}
+use Rattle.bn_bennett_laws.specs.Steps.{Exit, Finished, Stopped, Leaving}
+use Rattle.bn_network.specs.Networks.{elements_by}
 use Rattle.bn_network.specs.Starts.{AreInputs, start_from, words_on}
-use Rattle.bn_network.proofs.OccurringLemmas.{order_one}
-use Rattle.bn_board_spec.specs.Boards.{board_start, size}
-use Rattle.bn_board_spec.specs.Layouts.{IsLayout, is_moment, moments, spelled_tape}
-use Rattle.bn_board_laws.proofs.LayoutLemmas.{layouts-there}
-use Rattle.bn_board_laws.proofs.NetworkLemmas.{networks-there}
-use Rattle.bn_build_laws.specs.Builds.{Build, build_elements}
-use Rattle.bn_build_laws.specs.Runs.{BuildRunsTo, EndsInWindow}
+use Rattle.bn_board_spec.specs.Layouts.{is_moment, moments, spelled_tape}
+use Rattle.bn_build_laws.specs.Builds.{Build, build_elements, start_of}
+use Rattle.bn_build_laws.specs.Runs.{BuildRunsTo}
 use Rattle.bn_build_laws.proofs.ConverseLemmas.{builds-once}
 use Rattle.bn_reply.specs.Answering.{HasAnswer}
 use Rattle.bn_reply.specs.Codes.{IsReplyStatus}
@@ -35,11 +28,12 @@ use Rattle.bn_drive_laws.specs.DriveText.{drive_exit_line, drive_tape_line, driv
 use Rattle.bn_drive_laws.specs.Drives.{Drives, leaves, stays}
 use Rattle.bn_drive_laws.proofs.DriveLemmas.{drives-once}
 use Rattle.bn_reply_builds.specs.BuildReply.{IsBuiltFor}
-use Rattle.bn_reply_builds.proofs.BuiltLemmas.{build_begins, targets_alike}
+use Rattle.bn_reply_builds.proofs.AlikeLemmas.{circuits, ends_as, layouts, limits, machines, names, starts}
+use Rattle.bn_reply_builds.proofs.BuiltLemmas.{build_begins}
 use Rattle.bn_reply_builds.proofs.SettledLemmas.{AreToldOnce, built_settled}
-use Rattle.bn_reply_drives.specs.Driven.{TellsDrive, drive_status, start_of}
+use Rattle.bn_reply_drives.specs.Driven.{TellsDrive, drive_status}
 use Rattle.bn_reply_drives.specs.DriveReply.{DriveIsSettled}
-use Rattle.bn_reply_drives.proofs.OutcomeLemmas.{not_inside}
+use Rattle.bn_reply_outcomes.proofs.OutcomeLemmas.{not_inside}
 
 -- ---- counts of circuits that are alike
 
@@ -66,7 +60,7 @@ module _ (most : ℕ) (low : most ≤ 2305843009213693952) (t : QuadTable) (l : 
   room : (f : Build) → IsBuiltFor t.machine l f → most + 48 * build_elements f ≤ clock
   room f h = let few : build_elements f ≤ 4194304 = h.few in omega (arith, few)
 
-  drive_some : (f : Build) → IsBuiltFor t.machine l f → HasAnswer (TellsDrive most t c f)
+  pub drive_some : (f : Build) → IsBuiltFor t.machine l f → HasAnswer (TellsDrive most t c f)
   drive_some f h =
       let found = (drives-once t f h.build c (start_from f.machine f.limits c) (start_of f c)
       (build_begins t.machine l one two three inputs f h) most (room f h)).0 in (
@@ -77,73 +71,32 @@ module _ (most : ℕ) (low : most ≤ 2305843009213693952) (t : QuadTable) (l : 
       )
 
   module _ (f g : Build) (h : IsBuiltFor t.machine l f) (k : IsBuiltFor t.machine l g) where
-    machines : g.machine ≡ f.machine
-    machines = k.machine ∙ sym h.machine
+    abbrev alike : AreAlike f.circuit g.circuit
+    alike = circuits t.machine l f g h k
 
-    limits : g.limits ≡ f.limits
-    limits = k.limits ∙ sym h.limits
-
-    names : g.names ≡ f.names
-    names =
-        order_one f.machine g.names f.names
-        (subst (λ (q : Quadruples). IsNumbering q g.names) machines k.build.is_network.numbering)
-        h.build.is_network.numbering
-
-    networks : AreAlike f.network g.network
-    networks =
-        networks-there.1 f.machine f.limits f.names f.network g.network h.build.is_network.network
-        (subst (λ (ns : List ControlState). IsNetwork f.machine f.limits ns g.network) names
-        (subst (λ (w : Limits). IsNetwork f.machine w g.names g.network) limits
-        (subst (λ (q : Quadruples). IsNetwork q g.limits g.names g.network) machines k.build.is_network.network)))
-
-    layouts : f.layout ≡ g.layout
-    layouts =
-        layouts-there.1 f.machine f.limits f.names f.layout g.layout h.build.is_network.machine
-        h.build.is_network.uniform
-        h.build.is_network.numbering h.build.is_layout
-        (subst (λ (ns : List ControlState). IsLayout f.machine f.limits ns g.layout) names
-        (subst (λ (w : Limits). IsLayout f.machine w g.names g.layout) limits
-        (subst (λ (q : Quadruples). IsLayout q g.limits g.names g.layout) machines k.build.is_layout)))
-
-    circuits : AreAlike f.circuit g.circuit
-    circuits =
-        let a = h.build.is_board in
-        let b = k.build.is_board in
-        let targets = targets_alike f.network g.network f.circuit g.circuit networks a b in
-        record {
-          tables = a.tables ∙ ap (λ ts. replicate (size ts) rotary) networks.tables ∙ sym b.tables;
-          targets = targets;
-          sources = sources_one f.circuit.wires g.circuit.wires a.circuit.one_to_one b.circuit.one_to_one targets;
-        }
-
-    starts : start_of f c ≡ start_of g c
-    starts = λ i. board_start (networks.tables i) (start_from (sym machines i) (sym limits i) c)
+    abbrev begin : start_of f c ≡ start_of g c
+    begin = starts t.machine l f g h k c
 
     runs : run f.circuit (start_of f c) most ≡ run g.circuit (start_of g c) most
-    runs = run-alike f.circuit g.circuit circuits (start_of f c) most ∙ ap (λ x. run g.circuit x most) starts
+    runs = run-alike f.circuit g.circuit alike (start_of f c) most ∙ ap (λ x. run g.circuit x most) begin
 
     heard : places f.circuit most (start_of f c) ≡ places g.circuit most (start_of g c)
-    heard = places-alike f.circuit g.circuit circuits most (start_of f c) ∙ ap (places g.circuit most) starts
+    heard = places-alike f.circuit g.circuit alike most (start_of f c) ∙ ap (places g.circuit most) begin
+
+    abbrev laid : f.layout ≡ g.layout
+    laid = layouts t.machine l f g h k
 
     elements : build_elements f ≡ build_elements g
-    elements = λ i. elements_by (sym machines i) (sym limits i) (length (sym names i))
+    elements = λ i. elements_by (sym (machines t.machine l f g h k) i) (sym (limits t.machine l f g h k) i)
+        (length (sym (names t.machine l f g h k) i))
 
     text_as : (line other : List ℕ) → line ≡ other → (n m : ℕ) → n ≡ m → (x y : Config) → x ≡ y
         → drive_text t f line n x ≡ drive_text t g other m y
     text_as line other lines n m steps x y there =
         λ i. elements_line (elements i) ++ (lines i ++ (steps_line (there i).steps ++ (quadruple_line (steps i)
-        ++ (drive_tape_line t.names.one 1 (spelled_tape (layouts i) (there i).states 1)
-        ++ (drive_tape_line t.names.two 2 (spelled_tape (layouts i) (there i).states 2)
-        ++ drive_tape_line t.names.three 3 (spelled_tape (layouts i) (there i).states 3))))))
-
-    ends_as : (n : ℕ) (d : Configuration ℕ) (e : Exit) → EndsInWindow f c n d e → EndsInWindow g c n d e
-    ends_as n d e ends = record {
-      runs = subst (λ (q : Quadruples). Reaches (QuadruplesRunTo (rooms_of g.limits) q) n c d) (sym machines)
-          (subst (λ (w : Limits). Reaches (QuadruplesRunTo (rooms_of w) f.machine) n c d) (sym limits) ends.runs);
-      ends = subst (λ (q : Quadruples). EndsAt (rooms_of g.limits) q.rules (final_state_of q.rules) d e) (sym machines)
-          (subst (λ (w : Limits). EndsAt (rooms_of w) f.machine.rules (final_state_of f.machine.rules) d e)
-          (sym limits) ends.ends);
-    }
+        ++ (drive_tape_line t.names.one 1 (spelled_tape (laid i) (there i).states 1)
+        ++ (drive_tape_line t.names.two 2 (spelled_tape (laid i) (there i).states 2)
+        ++ drive_tape_line t.names.three 3 (spelled_tape (laid i) (there i).states 3))))))
 
     -- where the board has left within the steps it is there after all of them
     stopped : (b : Build) (n : ℕ) (d : Configuration ℕ) (e : Exit)
@@ -158,9 +111,9 @@ module _ (most : ℕ) (low : most ≤ 2305843009213693952) (t : QuadTable) (l : 
         → moments f.layout f.circuit most (start_of f c) - 1 ≡ moments g.layout g.circuit most (start_of g c) - 1
     counts x y path other =
         ap (λ r. one_if (is_moment f.layout (start_of f c)) + r - 1)
-        (tally_alike f.circuit g.circuit (is_moment f.layout) circuits most (start_of f c) x y path
-        (subst (λ z. Reaches (Goes g.circuit) most z y) (sym starts) other))
-        ∙ (λ i. one_if (is_moment (layouts i) (starts i)) + tally (is_moment (layouts i)) g.circuit most (starts i) - 1)
+        (tally_alike f.circuit g.circuit (is_moment f.layout) alike most (start_of f c) x y path
+        (subst (λ z. Reaches (Goes g.circuit) most z y) (sym begin) other))
+        ∙ (λ i. one_if (is_moment (laid i) (begin i)) + tally (is_moment (laid i)) g.circuit most (begin i) - 1)
 
     apart : (b : Build) (n : ℕ) (d : Configuration ℕ) (e : Exit)
         (by : BuildRunsTo b (start_from b.machine b.limits c) (start_of b c) n d e) → by.cost ≤ most
@@ -175,7 +128,7 @@ module _ (most : ℕ) (low : most ≤ 2305843009213693952) (t : QuadTable) (l : 
 
     drive_same : (x y : Option Exit) (a b : List ℕ) → DrivesBy f x a → DrivesBy g y b → (x ≡ y) × (a ≡ b)
     drive_same x y a b (leaves n d e ends by within why text) (leaves m v w again other near also words) =
-        let same = builds-once.0 g k.build c n m d v e w (ends_as n d e ends) again in
+        let same = builds-once.0 g k.build c n m d v e w (ends_as t.machine l f g h k c n d e ends) again in
         let there = sym (stopped f n d e by within) ∙ runs ∙ stopped g m v w other near in (
           why ∙ ap (λ z. Some z) same.2 ∙ sym also,
           text

@@ -1,18 +1,15 @@
 -- The pieces of the text of a drive, put together.
-use Rattle.std.specs.Prelude.{◌≡◌, ℕ, List, [], ◌∷◌, ◌++◌, codes, refl}
+use Rattle.std.specs.Prelude.{◌≡◌, ℕ, List, [], ◌++◌}
 use Rattle.std.proofs.Common.{sym, ap, ◌∙◌, append_assoc}
 use Rattle.bn_circuits.specs.declared.config.Config.{Config}
-use Rattle.bn_machine.specs.Tape.{scanned}
-use Rattle.bn_quad.specs.Quadruples.{Configuration}
 use Rattle.bn_qtable.specs.Rows.{QuadTable}
-use Rattle.bn_bennett_laws.specs.Steps.{Exit, Finished, Stopped, Leaving}
 use Rattle.bn_board_spec.specs.declared.spelled.Spelled.{Spelled}
 use Rattle.bn_board_spec.specs.Layouts.{spelled_by}
 use Rattle.bn_reply_boards_laws.specs.RunText.{elements_line, quadruple_line, steps_line}
 use Rattle.bn_build_laws.specs.Builds.{Build, build_elements}
-use Rattle.bn_drive_laws.specs.DriveText.{drive_exit_line, drive_text, name_in}
-use Rattle.bn_reply_drives.specs.declared.outcome.Outcome.{Outcome}
-use Rattle.bn_reply_drives.specs.Outcomes.{drive_tape_lines, outcome_by, outcome_line}
+use Rattle.bn_drive_laws.specs.DriveText.{drive_text}
+use Rattle.bn_reply_outcomes.specs.declared.outcome.Outcome.{Outcome}
+use Rattle.bn_reply_outcomes.specs.Outcomes.{drive_tape_lines, outcome_line}
 
 five_pieces : (a b c d e start one two three four five : List ℕ) → start ≡ [] → one ≡ start ++ a → two ≡ one ++ b
     → three ≡ two ++ c → four ≡ three ++ d
@@ -36,16 +33,3 @@ drive_joined t f o n d shown count start one two three four five elements spelle
     first second third fourth fifth
     ∙ (λ i. elements_line (sym elements i) ++
     (outcome_line t o ++ (steps_line d.steps ++ (quadruple_line n ++ drive_tape_lines t (spelled i)))))
-
--- the line of an outcome is that of the exit
-pub outcome_line_is : (t : QuadTable) (d : Configuration ℕ) (e : Exit)
-    → outcome_line t (outcome_by d e) ≡ drive_exit_line t d e
-outcome_line_is t d Finished = refl
-outcome_line_is t d Stopped =
-    let one = name_in t.names.one (scanned d.one) in
-    let two = name_in t.names.two (scanned d.two) in
-    let three = name_in t.names.three (scanned d.three) in
-    ap (λ x. codes "exit stuck " ++ (name_in t.names.states d.state ++ x))
-    (append_assoc (codes " " ++ one) ((codes " " ++ two) ++ (codes " " ++ three)) (10 ∷ [])
-    ∙ ap (λ x. (codes " " ++ one) ++ x) (append_assoc (codes " " ++ two) (codes " " ++ three) (10 ∷ [])))
-outcome_line_is t d (Leaving tape s) = refl

@@ -1,31 +1,25 @@
 -- What is told of a board that is driven (this project's own profile).
 use Rattle.std.specs.Prelude.{◌≡◌, ℕ, List, length, Option, Some, None}
 use Rattle.bn_circuits.specs.Stepping.{places}
-use Rattle.bn_circuits.specs.declared.config.Config.{Config}
 use Rattle.bn_circuits.specs.declared.place.Place.{Place}
 use Rattle.bn_circuits.specs.declared.place.Place.TheVariants.{Enter}
 use Rattle.bn_quad.specs.Quadruples.{Configuration}
 use Rattle.bn_qtable.specs.Rows.{QuadTable}
 use Rattle.bn_bennett_laws.specs.Steps.{Exit, Finished, Stopped, Leaving}
 use Rattle.bn_network.specs.Starts.{FitsWindow, start_from}
-use Rattle.bn_board_spec.specs.Boards.{board_start}
 use Rattle.bn_board.specs.Flattened.{Flattened}
-use Rattle.bn_build_laws.specs.Builds.{Build, IsBuild, build_elements}
+use Rattle.bn_build_laws.specs.Builds.{Build, IsBuild, build_elements, start_of}
 use Rattle.bn_build_laws.specs.Exits.{BoardLeaves}
 use Rattle.bn_drive_laws.specs.Drives.{Drives}
 use Rattle.bn_drive_laws.specs.DriveText.{drive_text}
 use Rattle.bn_reply.specs.declared.reply.Reply.{Reply}
 use Rattle.bn_reply.specs.declared.status.Status.{Status}
 use Rattle.bn_reply.specs.declared.status.Status.TheVariants as statuses
-use Rattle.bn_reply_drives.specs.declared.outcome.Outcome.{Outcome}
-use Rattle.bn_reply_drives.specs.declared.outcome.Outcome.TheVariants.{Inside}
-use Rattle.bn_reply_drives.specs.Outcomes.{outcome_by, outcome_line, outcome_status}
+use Rattle.bn_reply_outcomes.specs.declared.outcome.Outcome.{Outcome}
+use Rattle.bn_reply_outcomes.specs.declared.outcome.Outcome.TheVariants.{Inside}
+use Rattle.bn_reply_outcomes.specs.Outcomes.{outcome_by, outcome_line, outcome_status}
 
 -- ---- a run
-
--- the start of a build at c
-abbrev pub start_of : Build → Configuration ℕ → Config
-start_of f c = board_start f.network.tables (start_from f.machine f.limits c)
 
 -- the status by the exit
 abbrev pub drive_status : Option Exit → Status

@@ -1,4 +1,5 @@
-pub mod Outcomes
-pub mod Stopping
 pub mod Driven
 pub mod DriveReply
+pub mod DriveHeadline
+pub mod DriveCircuits
+pub mod ErasedDrives

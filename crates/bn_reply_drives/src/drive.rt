@@ -14,10 +14,9 @@ ghost use Rattle.bn_reply_builds.specs.BuildReply.{IsBuiltFor};
 ghost use Rattle.bn_reply_builds.specs.Opened.{IsBuiltBoard};
 ghost use Rattle.bn_reply_drives.specs.DriveReply.{DriveReplies};
 ghost use Rattle.bn_reply_drives.specs.Driven.{TellsDrive, TellsOutcome};
-ghost use Rattle.bn_reply_drives.specs.Stopping.{HasFewSymbols};
+ghost use Rattle.bn_reply_outcomes.specs.Stopping.{HasFewSymbols};
 
-use crate::drive_text::{TableNames, text_of_drive};
-use crate::outcome::outcome_of;
+use crate::drive_text::text_of_drive;
 use crate::run_for::run_for;
 use bn_assembly::Windows;
 use bn_board::{Board, NoMemory};
@@ -26,6 +25,7 @@ use bn_qtable::TapeWords;
 use bn_quad::{QuadNames, Uniform};
 use bn_reply::Reply;
 use bn_reply_builds::{OpenedBuild, open_build};
+use bn_reply_outcomes::{TableNames, outcome_of};
 use bn_words::MOST_DRIVE_STEPS;
 use std::alloc::Global;
 

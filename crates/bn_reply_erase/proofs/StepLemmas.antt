@@ -13,14 +13,17 @@ use Rattle.bn_reply_erase.specs.EraseRun.{IsRun, IsStep, Reached}
 pub none_made : (p : Quadruples) (state : ℕ) (w : Tapes) → Reached p 0 state w state w
 none_made p state w = record { same = record { one = refl; two = refl; three = refl }; run = refl }
 
-pub one_step_more : (p : Quadruples) (made state : ℕ) (w : Tapes) (at : ℕ) (v : Tapes) (quad after : ℕ) (u : Tapes) → Reached p made state w at v →
+pub one_step_more : (p : Quadruples) (made state : ℕ) (w : Tapes) (at : ℕ) (v : Tapes) (quad after : ℕ) (u : Tapes)
+    → Reached p made state w at v →
     IsQuadTurn p (turns.Moved quad) at v after u → Reached p (made + 1) state w after u
 one_step_more p made state w at v quad after u r turn = record {
   same = windows_on w v u r.same turn.1;
   run =
-      let step : GoesBy (rooms_of w) p quad (configuration at v) (configuration after u) = subst (λ (rooms : Rooms). GoesBy rooms p quad (configuration at v) (configuration after u))
+      let step : GoesBy (rooms_of w) p quad (configuration at v) (configuration after u) =
+      subst (λ (rooms : Rooms). GoesBy rooms p quad (configuration at v) (configuration after u))
       (rooms_same w v r.same) turn.0 in
-      runs_more (QuadruplesRunTo (rooms_of w) p) made (configuration state w) (configuration at v) (configuration after u) r.run (quad, step);
+      runs_more (QuadruplesRunTo (rooms_of w) p) made (configuration state w) (configuration at v)
+      (configuration after u) r.run (quad, step);
 }
 
 -- a turn that is of no quadruple is no step
@@ -31,13 +34,16 @@ no_step (turns.Moved quad) other step = other quad refl
 no_step (turns.Left tape side) other step = step
 
 -- a turn that is no step comes early
-pub early_turn : (p : Quadruples) (n made state : ℕ) (w : Tapes) (at : ℕ) (v : Tapes) (turn : QuadTurn) (after : ℕ) (u : Tapes) → made < n →
-    Reached p made state w at v → IsQuadTurn p turn at v after u → (IsStep turn → ⊥) → IsRun p n state w made turn after u
+pub early_turn : (p : Quadruples) (n made state : ℕ) (w : Tapes) (at : ℕ) (v : Tapes) (turn : QuadTurn) (after : ℕ)
+    (u : Tapes) → made < n →
+    Reached p made state w at v → IsQuadTurn p turn at v after u → (IsStep turn → ⊥)
+    → IsRun p n state w made turn after u
 early_turn p n made state w at v turn after u low r turn_is other =
     record { at = at; tapes = v; reached = r; in_time = omega arith; last = turn_is; early = λ h. other }
 
 -- the turn behind the last of the steps that were asked for
-pub last_turn : (p : Quadruples) (n made state : ℕ) (w : Tapes) (at : ℕ) (v : Tapes) (turn : QuadTurn) (after : ℕ) (u : Tapes) → made ≡ n →
+pub last_turn : (p : Quadruples) (n made state : ℕ) (w : Tapes) (at : ℕ) (v : Tapes) (turn : QuadTurn) (after : ℕ)
+    (u : Tapes) → made ≡ n →
     Reached p made state w at v → IsQuadTurn p turn at v after u → IsRun p n state w n turn after u
 last_turn p n made state w at v turn after u e r turn_is = record {
   at = at;

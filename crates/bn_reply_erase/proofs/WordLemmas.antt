@@ -33,13 +33,16 @@ no_letter w position h e = record {
 pub few_letters : (w : Windowed) (position : ℤ) (y : List ℕ) → HasLetters w position y → length y ≤ 4194304
 few_letters w position y h = few_read (from_start w) position y h.read
 
-pub next_letter : (w : Windowed) (position next : ℤ) (y : List ℕ) (symbol : ℕ) → next ≡ position +ℤ pos 1 → HasLetters w position y → IsLetterAt w position symbol →
+pub next_letter : (w : Windowed) (position next : ℤ) (y : List ℕ) (symbol : ℕ) → next ≡ position +ℤ pos 1
+    → HasLetters w position y → IsLetterAt w position symbol →
     HasLetters w next (y ++ symbol ∷ [])
 next_letter w position next y symbol e h letter = record {
   read =
-      let here : IsLetterAt (from_start w) position symbol = record { inside = letter.inside; stands = letter.stands; letter = letter.letter } in
+      let here : IsLetterAt (from_start w) position symbol = record
+      { inside = letter.inside; stands = letter.stands; letter = letter.letter } in
       one_letter_more (from_start w) position next y symbol e h.read here;
 }
 
-pub all_letters : (w : Windowed) (position : ℤ) (y : List ℕ) → HasLetters w position y → cell w.tape position ≡ 0 → IsOutput (rewound w.tape) y
+pub all_letters : (w : Windowed) (position : ℤ) (y : List ℕ) → HasLetters w position y → cell w.tape position ≡ 0
+    → IsOutput (rewound w.tape) y
 all_letters w position y h blank = all_read (from_start w) position y h.read blank

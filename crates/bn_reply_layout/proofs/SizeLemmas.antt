@@ -6,7 +6,8 @@ use Rattle.bn_network.specs.declared.limits.TheConstants.{MOST_SYMBOLS}
 
 -- a product of bounded numbers
 product_within : (x y a b : ℕ) → x ≤ a → y ≤ b → x * y ≤ a * b
-product_within x y a b first second = let one : x * y ≤ a * y = mul-le-mul_right y first in let two : a * y ≤ a * b = mul-le-mul_left a second in omega arith
+product_within x y a b first second = let one : x * y ≤ a * y = mul-le-mul_right y first in let two : a * y ≤ a * b =
+    mul-le-mul_left a second in omega arith
 
 -- a cell's elements
 pub cell_small : (z : ℕ) → z ≤ MOST_SYMBOLS → 2 * z * (2 * z + 9) ≤ 8002 * 8011

@@ -1,5 +1,5 @@
--- The text of a board's layout (this project's own profile): a text line for each module, each column of the control and
--- each of its lines, and for the columns and the lines that all cells of a tape have.
+-- The text of a board's layout (this project's own profile): a text line for each module, each column of the control
+-- and each of its lines, and for the columns and the lines that all cells of a tape have.
 use Rattle.std.specs.Prelude.{ℕ, List, ◌++◌}
 use Rattle.std.specs.List.{flat_map, range_with_len}
 use Rattle.bn_table.specs.Rows.{Named}

@@ -27,8 +27,8 @@ abbrev pub is_named : ModuleName → Option ℕ → Located
 is_named Control entered = located.Control entered
 is_named (Cell tape position) entered = located.Cell tape position entered
 
--- The text names module k so, and the board has it there: it is the k-th, its bank begins at this element, and it has as
--- many columns and lines as the module has states and lines.
+-- The text names module k so, and the board has it there: it is the k-th, its bank begins at this element, and it has
+-- as many columns and lines as the module has states and lines.
 pub record IsBankOf (f : Flat) (k : ℕ) (m : Bank) : Type 0 where
   pub number : m.number ≡ k
   pub table : Table

@@ -6,8 +6,8 @@ ghost use Rattle.bn_bennett_laws.specs.List.{symbols_of};
 ghost use Rattle.bn_network.specs.Controls.{lines_before};
 ghost use Rattle.bn_cell.specs.Sizes.{IsCellSize};
 ghost use Rattle.bn_control_names.specs.Names.{listed, state_of};
-ghost use Rattle.bn_reply_layout.specs.ControlText.{column_line, column_lines, command_text, control_line_line, names_text};
-ghost use Rattle.bn_reply_layout.specs.ControlText.{numbers_text, output_text, state_text};
+ghost use Rattle.bn_reply_layout.specs.ControlText.{column_line, column_lines, command_text, control_line_line};
+ghost use Rattle.bn_reply_layout.specs.ControlText.{names_text, numbers_text, output_text, state_text};
 ghost use Rattle.bn_reply_layout.specs.Made.{HasStateName};
 
 use crate::sizes::{history_of, letters_of};
@@ -16,7 +16,7 @@ use bn_cell::line_of;
 use bn_control_names::{StateName, Symbols};
 use bn_quad::QuadNames;
 use bn_reply::{NoMemory, push};
-use bn_reply_boards::{push_cell_line, push_control_line};
+use bn_reply_boards::{counts_of_table, push_cell_line, push_control_line};
 use bn_table::Table;
 use std::cmp::Reverse;
 
@@ -156,7 +156,7 @@ fn push_names(text: &mut Vec<u8>, table: &Table, line: u32) -> Result<(), NoMemo
     requires { line < lines_before (symbols_of table.now.machine) 3 }
     ensures { OnOk result (text.new.items ≡ text.old.items ++ names_text (symbols_of table.now.machine) line) }
 {
-    push_control_line(text, table, line)?;
+    push_control_line(text, counts_of_table(table), line)?;
     push(text, b" out ")?;
     push_output(text, table, line)?;
     push(text, b"\n")

@@ -32,10 +32,11 @@ failing_line (failing.Domain i j) = overlap_line (codes "domain") i j
 failing_line (failing.Range i j) = overlap_line (codes "range") i j
 failing_line (failing.Mask why) = uneven_line why
 
--- What is answered to a table whose machine passes the two tests, where `tells` is what is answered to one whose machine
--- is uniform: the first of the five demands that it doesn't meet, with the least numbers that show it, or that.
+-- What is answered to a table whose machine passes the two tests, where `tells` is what is answered to one whose
+-- machine is uniform: the first of the five demands that it doesn't meet, with the least numbers that show it, or that.
 pub data UniformReplies (tells : QuadTable → Status → List ℕ → List Place → Type 0) (t : QuadTable) (status : Status)
     (text : List ℕ) (told : List Place) : Type 0 where
-  not_uniform : (why : NotUniform) → IsNotUniform t.machine.rules why → text ≡ uneven_line why → status ≡ statuses.Machine
+  not_uniform : (why : NotUniform) → IsNotUniform t.machine.rules why → text ≡ uneven_line why
+      → status ≡ statuses.Machine
       → told ≡ [] → UniformReplies tells t status text told
   uniform : IsUniform t.machine.rules → tells t status text told → UniformReplies tells t status text told

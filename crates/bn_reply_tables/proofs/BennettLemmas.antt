@@ -18,7 +18,8 @@ use Rattle.bn_reply.specs.Answering.{IsDone}
 use Rattle.bn_reply.proofs.SettledLemmas.{done_settled, standard_settled}
 
 -- the printed name of a state
-state_at : (tr : Translation) (n : ℕ) → n < length tr.names → slice_index_or (map bennett_state_text tr.names) n [] ≡ bennett_state_text (name_of tr n)
+state_at : (tr : Translation) (n : ℕ) → n < length tr.names → slice_index_or (map bennett_state_text tr.names) n []
+    ≡ bennett_state_text (name_of tr n)
 state_at tr n inside = get_or-map bennett_state_text tr.names n GoRight [] inside
 
 -- quadruples whose states have names are told by those names
@@ -34,7 +35,8 @@ module _ {N : Type 0} (names : Naming) (name : ℕ → N) (text : N → List ℕ
     next = text r.to;
   })
 
-  row_named : (r : Rule ℕ) → r.from < states → r.to < states → quadruple_entry (said_of_quadruple names r) ≡ entry_by (renamed name r)
+  row_named : (r : Rule ℕ) → r.from < states → r.to < states → quadruple_entry (said_of_quadruple names r)
+      ≡ entry_by (renamed name r)
   row_named r from to =
       let first = told r.from from in
       let last = told r.to to in
@@ -46,7 +48,8 @@ module _ {N : Type 0} (names : Naming) (name : ℕ → N) (text : N → List ℕ
         next = last i;
       })
 
-  pub rows_named : (symbols : List ℕ) (rules : List (Rule ℕ)) → All (IsRuleInRange states symbols) rules → quadruple_rows_by names rules ≡ map entry_by (rename name rules)
+  pub rows_named : (symbols : List ℕ) (rules : List (Rule ℕ)) → All (IsRuleInRange states symbols) rules
+      → quadruple_rows_by names rules ≡ map entry_by (rename name rules)
   rows_named symbols [] h = refl
   rows_named symbols (r ∷ rs) h =
       let InRange : Rule ℕ → Type 0 = IsRuleInRange states symbols in
@@ -56,10 +59,13 @@ module _ {N : Type 0} (names : Naming) (name : ℕ → N) (text : N → List ℕ
       λ i. first i ∷ later i
 
 -- the text of a translation is that of Bennett's list
-pub translated_text : (t : Named) (tr : Translation) → IsTranslation t.machine tr → lines_of (quadruple_rows_by (translation_names t tr) tr.machine.rules) ≡ bennett_text t
+pub translated_text : (t : Named) (tr : Translation) → IsTranslation t.machine tr
+    → lines_of (quadruple_rows_by (translation_names t tr) tr.machine.rules) ≡ bennett_text t
 translated_text t tr h =
-    let told : (n : ℕ) → n < tr.machine.states → slice_index_or (map bennett_state_text tr.names) n [] ≡ bennett_state_text (name_of tr n) = λ n inside. state_at tr n (subst (λ m. n < m) h.states inside) in
-    ap lines_of (rows_named (translation_names t tr) (name_of tr) bennett_state_text tr.machine.states told tr.machine.symbols tr.machine.rules h.machine.in_range ∙ ap (map (printed_entry t)) h.rules)
+    let told : (n : ℕ) → n < tr.machine.states → slice_index_or (map bennett_state_text tr.names) n []
+    ≡ bennett_state_text (name_of tr n) = λ n inside. state_at tr n (subst (λ m. n < m) h.states inside) in
+    ap lines_of (rows_named (translation_names t tr) (name_of tr) bennett_state_text tr.machine.states told
+    tr.machine.symbols tr.machine.rules h.machine.in_range ∙ ap (map (printed_entry t)) h.rules)
 
 pub bennett_settled : BennettIsSettled
 bennett_settled bytes = standard_settled (λ t. IsDone (bennett_text t)) bytes (λ t reads. done_settled (bennett_text t))

@@ -6,9 +6,11 @@ use Rattle.bn_lists.proofs.ListLemmas.{nth-get_or}
 use Rattle.bn_machine.specs.declared.quint.Shift.TheVariants.{Stay}
 use Rattle.std.specs.Prelude.{Some}
 use Rattle.bn_quad.specs.Quadruples.{Deed, Rewrite, Move, Rule, deeds_of}
-use Rattle.bn_quad.specs.Overlap.{MeetsInDomain, MeetsInRange, OnEachTape, OverlapsInDomain, OverlapsInRange, QuadruplesClash, HasNoClash, IsLeastClash}
+use Rattle.bn_quad.specs.Overlap.{MeetsInDomain, MeetsInRange, OnEachTape, OverlapsInDomain, OverlapsInRange}
+use Rattle.bn_quad.specs.Overlap.{QuadruplesClash, HasNoClash, IsLeastClash}
 use Rattle.bn_quad.specs.Search.{HasNoPartner, IsLeastPartner}
-use Rattle.bn_quad.proofs.SearchLemmas.{HasNoPartnerBefore, HasNoClashBefore, least_clash, least_partner, no_clash, no_clash_before_one}
+use Rattle.bn_quad.proofs.SearchLemmas.{HasNoPartnerBefore, HasNoClashBefore, least_clash, least_partner, no_clash}
+use Rattle.bn_quad.proofs.SearchLemmas.{no_clash_before_one}
 use Rattle.bn_quad.proofs.SearchLemmas.{no_clash_more, no_partner, no_partner_at_start, no_partner_more}
 use Rattle.bn_quad.specs.declared.clash.Clash.{Clash}
 
@@ -36,7 +38,8 @@ meets_in_range (Move s) (Move t) = inl tt
 
 pub on_each_tape : (R : Deed → Deed → Type 0) → ((d e : Deed) → R d e ⊎ (R d e → ⊥)) → (r s : Rule ℕ) →
     OnEachTape R (deeds_of r) (deeds_of s) ⊎ (OnEachTape R (deeds_of r) (deeds_of s) → ⊥)
-on_each_tape R test r s = both _ _ (test r.one s.one) (both _ _ (test r.two s.two) (both _ _ (test r.three s.three) (inl tt)))
+on_each_tape R test r s = both _ _ (test r.one s.one) (both _ _ (test r.two s.two)
+    (both _ _ (test r.three s.three) (inl tt)))
 
 pub overlap_in_domain : (r s : Rule ℕ) → OverlapsInDomain r s ⊎ (OverlapsInDomain r s → ⊥)
 overlap_in_domain r s = elim (both _ _ (same r.from s.from) (on_each_tape MeetsInDomain meets_in_domain r s)) [
@@ -56,8 +59,10 @@ overlap_in_range r s = elim (both _ _ (same r.to s.to) (on_each_tape MeetsInRang
 nought : Rule ℕ
 nought = record { from = 0; one = Move Stay; two = Move Stay; three = Move Stay; to = 0 }
 
-module _ (clash : Clash) (test : (r s : Rule ℕ) → QuadruplesClash clash r s ⊎ (QuadruplesClash clash r s → ⊥)) (rs : List (Rule ℕ)) where
-  partner_from : (i : ℕ) (r : Rule ℕ) → nth rs i ≡ Some r → (fuel n : ℕ) → n + fuel ≡ length rs → i ≤ n → HasNoPartnerBefore clash rs i (suc n) →
+module _ (clash : Clash) (test : (r s : Rule ℕ) → QuadruplesClash clash r s ⊎ (QuadruplesClash clash r s → ⊥))
+    (rs : List (Rule ℕ)) where
+  partner_from : (i : ℕ) (r : Rule ℕ) → nth rs i ≡ Some r → (fuel n : ℕ) → n + fuel ≡ length rs → i ≤ n
+      → HasNoPartnerBefore clash rs i (suc n) →
       HasNoPartner clash rs i ⊎ ((j : ℕ) × IsLeastPartner clash rs i j)
   partner_from i r here zero n sum behind before = inl (no_partner clash rs i (suc n) (omega arith) before)
   partner_from i r here (suc fuel) n sum behind before =
@@ -66,16 +71,23 @@ module _ (clash : Clash) (test : (r s : Rule ℕ) → QuadruplesClash clash r s 
       let order : i < suc n = omega arith in
       let there = nth-get_or rs n nought inside in
       elim (test r (get_or rs n nought)) [
-        | inl clashes ↦ inr (suc n, least_partner clash rs i (suc n) r (get_or rs n nought) order before here there clashes)
-        | inr apart ↦ partner_from i r here fuel (suc n) next (omega arith) (no_partner_more clash rs i (suc n) r (get_or rs n nought) before here there apart)
+        | inl clashes ↦ inr (
+          suc n,
+          least_partner clash rs i (suc n) r (get_or rs n nought) order before here there
+              clashes,
+        )
+        | inr apart ↦ partner_from i r here fuel (suc n) next (omega arith)
+            (no_partner_more clash rs i (suc n) r (get_or rs n nought) before here there apart)
       ]
 
-  clash_from : (fuel n : ℕ) → n + fuel ≡ length rs → HasNoClashBefore clash rs (suc n) → HasNoClash clash rs ⊎ ((i : ℕ) × (j : ℕ) × IsLeastClash clash rs i j)
+  clash_from : (fuel n : ℕ) → n + fuel ≡ length rs → HasNoClashBefore clash rs (suc n)
+      → HasNoClash clash rs ⊎ ((i : ℕ) × (j : ℕ) × IsLeastClash clash rs i j)
   clash_from zero n sum before = inl (no_clash clash rs (suc n) (omega arith) before)
   clash_from (suc fuel) n sum before =
       let inside : n < length rs = omega arith in
       let next : suc n + fuel ≡ length rs = omega arith in
-      elim (partner_from (suc n) (get_or rs n nought) (nth-get_or rs n nought inside) fuel (suc n) next (omega arith) (no_partner_at_start clash rs (suc n))) [
+      elim (partner_from (suc n) (get_or rs n nought) (nth-get_or rs n nought inside) fuel (suc n) next (omega arith)
+      (no_partner_at_start clash rs (suc n))) [
         | inl none ↦ clash_from fuel (suc n) next (no_clash_more clash rs (suc n) before none)
         | inr some ↦ inr (suc n, some.0, least_clash clash rs (suc n) some.0 before some.1)
       ]

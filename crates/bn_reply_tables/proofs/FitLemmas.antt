@@ -1,5 +1,6 @@
 -- The states and symbols that a run comes upon are the machine's.
-use Rattle.std.proofs.Common.{◌≡◌, ℕ, ◌<◌, ◌≤◌, ◌∷◌, List, [], length, ◌⊎◌, inl, inr, sym, subst, ap, ◌∙◌, arith, suc, zero, Some, Bool, true, false, cond}
+use Rattle.std.proofs.Common.{◌≡◌, ℕ, ◌<◌, ◌≤◌, ◌∷◌, List, [], length, ◌⊎◌, inl, inr, sym, subst, ap, ◌∙◌, arith, suc}
+use Rattle.std.proofs.Common.{zero, Some, Bool, true, false, cond}
 use Rattle.std.proofs.Common.{get_or}
 use Rattle.std.specs.Prelude.{ℤ, pos, negsuc, ◌+ℤ◌, All, slice_index}
 use Rattle.std.specs.Ordering.{int_eq}
@@ -30,14 +31,20 @@ pub record Fits (p : Program) (c : Moment) : Type 0 where
 pub record AreSymbols (p : Program) (word : List ℕ) : Type 0 where
   pub each : (k : ℕ) → k < length word → slice_index word k < p.symbols
 
-quint_fits : (p : Program) → All (IsInRange p.states p.symbols) p.quints → (n : ℕ) (q : Quint) → nth p.quints n ≡ Some q → IsInRange p.states p.symbols q
+quint_fits : (p : Program) → All (IsInRange p.states p.symbols) p.quints → (n : ℕ) (q : Quint) → nth p.quints n ≡ Some q
+    → IsInRange p.states p.symbols q
 quint_fits p h zero q e = absurd (cc)
 quint_fits p h (suc i) q e =
-    subst (IsInRange p.states p.symbols) (get_or_from_slice_get p.quints i q q e) (h i q (slice_get_within p.quints i q e))
+    subst (IsInRange p.states p.symbols) (get_or_from_slice_get p.quints i q q e)
+    (h i q (slice_get_within p.quints i q e))
 
 first_fits : (f z : ℕ) (qs : List Quint) → 0 < length qs → All (IsInRange f z) qs → (start_of qs < f) × (0 < z)
 first_fits f z [] some h = absurd (omega arith)
-first_fits f z (q ∷ qs) some h = let inside = h 0 q some in (inside.state, let low : q.read < z = inside.read in omega arith)
+first_fits f z (q ∷ qs) some h = let inside = h 0 q some in (
+  inside.state,
+  let low : q.read
+      < z = inside.read in omega arith,
+)
 
 letter_fits : (p : Program) (word : List ℕ) → 0 < p.symbols → AreSymbols p word → (q : ℤ) → letter_at word q < p.symbols
 letter_fits p word blank h (pos zero) = blank
@@ -51,7 +58,11 @@ letter_fits p word blank h (pos (suc k)) = by_place (cases_lt k (length word))
 pub start_fits : (p : Program) (word : List ℕ) → IsMachine p → AreSymbols p word → Fits p (start p word)
 start_fits p word m h =
     let first = first_fits p.states p.symbols p.quints m.some m.in_range in
-    record { state = first.0; symbols = λ q. subst (λ (s : ℕ). s < p.symbols) (sym (cell-word word q)) (letter_fits p word first.1 h q) }
+    record {
+      state = first.0;
+      symbols = λ q. subst (λ (s : ℕ). s < p.symbols) (sym (cell-word word q))
+          (letter_fits p word first.1 h q);
+    }
 
 written_fits : (z : ℕ) (b : Bool) (w c : ℕ) → w < z → c < z → cond b w c < z
 written_fits z true w c h k = h
@@ -64,13 +75,16 @@ step_fits room p c d m h goes =
     record {
       state = subst (λ (s : ℕ). s < p.states) (sym by.applies.to) inside.next;
       symbols = λ q.
-          let there : cell d.tape q ≡ cond (int_eq q c.tape.head) by.quint.write (cell c.tape q) = ap (λ t. cell t q) by.applies.writes
+          let there : cell d.tape q ≡ cond (int_eq q c.tape.head) by.quint.write (cell c.tape q) =
+          ap (λ t. cell t q) by.applies.writes
           ∙ cell-write c.tape by.quint.write q in
-          subst (λ (s : ℕ). s < p.symbols) (sym there) (written_fits p.symbols (int_eq q c.tape.head) by.quint.write (cell c.tape q) inside.write
+          subst (λ (s : ℕ). s < p.symbols) (sym there) (written_fits p.symbols (int_eq q c.tape.head) by.quint.write
+          (cell c.tape q) inside.write
           (h.symbols q));
     }
 
-pub run_fits : (room : Room) (p : Program) (i : ℕ) (c d : Moment) → IsMachine p → Fits p c → Reaches (MachineRunsTo room p) i c d → Fits p d
+pub run_fits : (room : Room) (p : Program) (i : ℕ) (c d : Moment) → IsMachine p → Fits p c
+    → Reaches (MachineRunsTo room p) i c d → Fits p d
 run_fits room p zero c d m h run = subst (Fits p) run h
 run_fits room p (suc i) c d m h run = run_fits room p i run.0 d m (step_fits room p c run.0 m h run.1) run.2
 
@@ -80,22 +94,26 @@ table_machine t h = record {
   some = let rows : length (rows_of t) ≡ length t.machine.quints = simp length-map in omega (arith, h.some);
   few = let rows : length (rows_of t) ≡ length t.machine.quints = simp length-map in omega (arith, h.few);
   in_range = λ k d inside. subst (λ (f : ℕ). IsInRange f t.machine.symbols (get_or t.machine.quints k d)) (sym h.states)
-      (subst (λ (z : ℕ). IsInRange (length t.names) z (get_or t.machine.quints k d)) (sym h.symbols) (h.spelled.in_range k d inside));
+      (subst (λ (z : ℕ). IsInRange (length t.names) z (get_or t.machine.quints k d)) (sym h.symbols)
+      (h.spelled.in_range k d inside));
 }
 
-pub spelled_symbols : (t : Named) (word symbols : List ℕ) → IsTable t → IsSpelledBy t word symbols → AreSymbols t.machine symbols
+pub spelled_symbols : (t : Named) (word symbols : List ℕ) → IsTable t → IsSpelledBy t word symbols
+    → AreSymbols t.machine symbols
 spelled_symbols t word symbols h s = record {
   each = λ k inside. let known : slice_index symbols k < length t.letters = (s.symbols_known k 0 inside).known in
       let count : t.machine.symbols ≡ length t.letters = h.symbols in omega arith;
 }
 
-output_fits : (t : Named) (c : Moment) (y : List ℕ) → Fits t.machine c → free.IsOutput c.tape y → All (λ s. s < t.machine.symbols) y
+output_fits : (t : Named) (c : Moment) (y : List ℕ) → Fits t.machine c → free.IsOutput c.tape y
+    → All (λ s. s < t.machine.symbols) y
 output_fits t c y h out = λ k d inside.
     let there : get_or y k d ≡ get_or y k 0 = get_or_default y k d 0 inside in
     let here : cell c.tape (c.tape.head +ℤ pos (suc k)) ≡ get_or y k 0 = out.spelled k inside in
     subst (λ (s : ℕ). s < t.machine.symbols) (here ∙ sym there) (h.symbols (c.tape.head +ℤ pos (suc k)))
 
-end_fits : (t : Named) (n i : ℕ) (c : Moment) (e : Ending) → Fits t.machine c → EndsAt t.machine n i c (ending_of e) → FitsTable t e
+end_fits : (t : Named) (n i : ℕ) (c : Moment) (e : Ending) → Fits t.machine c → EndsAt t.machine n i c (ending_of e)
+    → FitsTable t e
 end_fits t n i c (Halted output) h (free.halts y final out same) =
     let e : y ≡ output.items = cc in
     output_fits t c output.items h (subst (free.IsOutput c.tape) e out)
@@ -104,8 +122,11 @@ end_fits t n i c (Halted output) h (free.runs d goes all same) = absurd (cc)
 end_fits t n i c (Stuck state symbol) h (free.halts y final out same) = absurd (cc)
 end_fits t n i c (Stuck state symbol) h (free.sticks stuck same) =
     let states : c.state ≡ state = cc in
-    let symbols : cell c.tape c.tape.head ≡ symbol = cc in
-    (subst (λ (s : ℕ). s < t.machine.states) states h.state, subst (λ (s : ℕ). s < t.machine.symbols) symbols (h.symbols c.tape.head))
+    let symbols : cell c.tape c.tape.head ≡ symbol = cc in (
+      subst (λ (s : ℕ). s < t.machine.states) states h.state,
+      subst (λ (s : ℕ). s < t.machine.symbols) symbols
+          (h.symbols c.tape.head),
+    )
 end_fits t n i c (Stuck state symbol) h (free.runs d goes all same) = absurd (cc)
 end_fits t n i c Running h ends = tt
 

@@ -39,16 +39,24 @@ module _ (t : Named) (n : ℕ) (symbols : List ℕ) where
   ending_answers Running = tt
 
   run_settled : IsSettled (TellsMachineRun t n symbols)
-  run_settled = record { some = run_some; one = run_one; status = λ s text told h. subst IsReplyStatus (sym h.status_is) (ending_answers h.ending) }
+  run_settled = record {
+    some = run_some;
+    one = run_one;
+    status = λ s text told h. subst IsReplyStatus (sym h.status_is)
+        (ending_answers h.ending);
+  }
 
 pub machine_settled : MachineIsSettled
 machine_settled word n bytes =
     standard_settled (λ t. WordReplies (TellsMachineRun t n) t word) bytes
-    (λ t h. word_settled (TellsMachineRun t n) t (reads_table bytes t h.reads) word (λ symbols spelled. run_settled t n symbols))
+    (λ t h. word_settled (TellsMachineRun t n) t (reads_table bytes t h.reads) word
+    (λ symbols spelled. run_settled t n symbols))
 
 -- the reply that tells an ending
-pub ended_tells : (t : Named) (n : ℕ) (symbols : List ℕ) (i : ℕ) (e : Ending) (result : Result Reply WantOfMemory) → HasEnding t.machine symbols n i e →
+pub ended_tells : (t : Named) (n : ℕ) (symbols : List ℕ) (i : ℕ) (e : Ending) (result : Result Reply WantOfMemory)
+    → HasEnding t.machine symbols n i e →
     IfOk result (λ r. r.status ≡ ending_status e) → IfOk result (λ r. r.text.items ≡ ending_text t i e) →
     IfOk result (λ r. TellsMachineRun t n symbols r.status r.text.items [])
-ended_tells t n symbols i e (Ok r) ending status text = record { steps = i; ending = e; comes_out = ending; status_is = status; text_is = text; silent = refl }
+ended_tells t n symbols i e (Ok r) ending status text = record
+    { steps = i; ending = e; comes_out = ending; status_is = status; text_is = text; silent = refl }
 ended_tells t n symbols i e (Err _) ending status text = tt

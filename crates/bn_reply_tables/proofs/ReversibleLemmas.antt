@@ -16,7 +16,8 @@ use Rattle.bn_reply.specs.Answering.{HasAnswer, IsOneAnswer}
 use Rattle.bn_reply.specs.Codes.{IsReplyStatus}
 use Rattle.bn_reply.proofs.SettledLemmas.{agree}
 use Rattle.bn_reply.proofs.TableLemmas.{first_once, read_or_told}
-use Rattle.bn_reply_tables.specs.ReversibleReply.{IsVerdict, TellsVerdicts, TellsQuadFault, ReversibleReplies, faulty, judged, ReversibleIsSettled}
+use Rattle.bn_reply_tables.specs.ReversibleReply.{IsVerdict, TellsVerdicts, TellsQuadFault, ReversibleReplies, faulty}
+use Rattle.bn_reply_tables.specs.ReversibleReply.{judged, ReversibleIsSettled}
 use Rattle.bn_reply_tables.specs.ReversibleReply.{quad_fault_line, verdict_line}
 use Rattle.bn_reply.specs.declared.status.Status.{Status}
 use Rattle.bn_reply.specs.declared.status.Status.TheVariants as statuses
@@ -33,28 +34,33 @@ neither_below i j low high = by_order (cases_lt i j) (cases_lt j i)
     by_order (inr h) (inl k) = absurd (high k)
     by_order (inr h) (inr k) = omega arith
 
-pub clash_once : (clash : Clash) (rs : List (Rule ℕ)) (i j m n : ℕ) → IsLeastClash clash rs i j → IsLeastClash clash rs m n → (i ≡ m) × (j ≡ n)
+pub clash_once : (clash : Clash) (rs : List (Rule ℕ)) (i j m n : ℕ) → IsLeastClash clash rs i j
+    → IsLeastClash clash rs m n → (i ≡ m) × (j ≡ n)
 clash_once clash rs i j m n a b =
     let first : i ≡ m = neither_below i m (λ h. b.least_first i j h a.holds) (λ h. a.least_first m n h b.holds) in
     let there : IsClash clash rs m j = subst (λ (k : ℕ). IsClash clash rs k j) first a.holds in
     let back : IsClash clash rs i n = subst (λ (k : ℕ). IsClash clash rs k n) (sym first) b.holds in
     (first, neither_below j n (λ h. b.least_second j h there) (λ h. a.least_second n h back))
 
-verdict_once : (clash : Clash) (rs : List (Rule ℕ)) (a b : Option (ℕ × ℕ)) → IsVerdict clash rs a → IsVerdict clash rs b → a ≡ b
+verdict_once : (clash : Clash) (rs : List (Rule ℕ)) (a b : Option (ℕ × ℕ)) → IsVerdict clash rs a → IsVerdict clash rs b
+    → a ≡ b
 verdict_once clash rs None None h k = refl
 verdict_once clash rs None (Some q) h k = absurd (h.none q.0 q.1 k.holds)
 verdict_once clash rs (Some p) None h k = absurd (k.none p.0 p.1 h.holds)
-verdict_once clash rs (Some p) (Some q) h k = let e = clash_once clash rs p.0 p.1 q.0 q.1 h k in λ t. Some (e.0 t, e.1 t)
+verdict_once clash rs (Some p) (Some q) h k = let e = clash_once clash rs p.0 p.1 q.0 q.1 h k in λ t. Some
+    (e.0 t, e.1 t)
 
 verdicts_once : (rs : List (Rule ℕ)) (a b : List ℕ) → TellsVerdicts rs a → TellsVerdicts rs b → a ≡ b
 verdicts_once rs a b h k =
     let domain = verdict_once Domain rs h.domain k.domain h.deterministic k.deterministic in
     let range = verdict_once Range rs h.range k.range h.reversible k.reversible in
-    h.told ∙ (λ t. verdict_line (codes "deterministic") (domain t) ++ verdict_line (codes "reversible") (range t)) ∙ sym k.told
+    h.told ∙ (λ t. verdict_line (codes "deterministic") (domain t) ++ verdict_line (codes "reversible") (range t))
+    ∙ sym k.told
 
 -- ---- an answer
 
-pub verdict_of : (clash : Clash) → ((r s : Rule ℕ) → QuadruplesClash clash r s ⊎ (QuadruplesClash clash r s → ⊥)) → (rs : List (Rule ℕ)) →
+pub verdict_of : (clash : Clash) → ((r s : Rule ℕ) → QuadruplesClash clash r s ⊎ (QuadruplesClash clash r s → ⊥))
+    → (rs : List (Rule ℕ)) →
     (found : Option (ℕ × ℕ)) × IsVerdict clash rs found
 verdict_of clash test rs = elim (clash_or_none clash test rs) [
   | inl none ↦ (None, none)
@@ -68,8 +74,10 @@ verdicts_of rs =
     (_, record { domain = domain.0; range = range.0; deterministic = domain.1; reversible = range.1; told = refl })
 
 module _ (bytes : List ℕ) where
-  reversible_some : ((t : QuadTable) × ReadsQuadruples bytes t) ⊎ ((text : List ℕ) × TellsQuadFault bytes text) → HasAnswer (ReversibleReplies bytes)
-  reversible_some (inl t) = let verdicts = verdicts_of t.0.machine.rules in (statuses.Done, verdicts.0, [], judged t.0 t.1 verdicts.1 refl refl)
+  reversible_some : ((t : QuadTable) × ReadsQuadruples bytes t) ⊎ ((text : List ℕ) × TellsQuadFault bytes text)
+      → HasAnswer (ReversibleReplies bytes)
+  reversible_some (inl t) = let verdicts = verdicts_of t.0.machine.rules in
+      (statuses.Done, verdicts.0, [], judged t.0 t.1 verdicts.1 refl refl)
   reversible_some (inr f) = (statuses.Text, f.0, [], faulty f.1 refl refl)
 
   reversible_one : IsOneAnswer (ReversibleReplies bytes)
@@ -79,15 +87,18 @@ module _ (bytes : List ℕ) where
   reversible_one s u a b x y (judged t reads h e n) (faulty k f m) = absurd (k.unread t reads)
   reversible_one s u a b x y (judged t reads h e n) (judged v also k f m) =
       let tables : v ≡ t = one_reading (entries_of bytes) v t also reads in
-      agree statuses.Done s u a b x y e f (verdicts_once t.machine.rules a b h (subst (λ (w : QuadTable). TellsVerdicts w.machine.rules b) tables k)) n m
+      agree statuses.Done s u a b x y e f (verdicts_once t.machine.rules a b h
+      (subst (λ (w : QuadTable). TellsVerdicts w.machine.rules b) tables k)) n m
 
-  reversible_status : (s : Status) (text : List ℕ) (told : List Place) → ReversibleReplies bytes s text told → IsReplyStatus s
+  reversible_status : (s : Status) (text : List ℕ) (told : List Place) → ReversibleReplies bytes s text told
+      → IsReplyStatus s
   reversible_status s text told (faulty h e n) = subst IsReplyStatus (sym e) tt
   reversible_status s text told (judged t reads h e n) = subst IsReplyStatus (sym e) tt
 
 pub reversible_settled : ReversibleIsSettled
 reversible_settled bytes = record {
-  some = reversible_some bytes (read_or_told (ReadsQuadruples bytes) (quadruple_table_fault (entries_of bytes)) quad_fault_line
+  some = reversible_some bytes (read_or_told (ReadsQuadruples bytes) (quadruple_table_fault (entries_of bytes))
+      quad_fault_line
       (λ none. reading_of (entries_of bytes) none, λ r. no_fault_of (entries_of bytes) r.0 r.1));
   one = reversible_one bytes;
   status = reversible_status bytes;

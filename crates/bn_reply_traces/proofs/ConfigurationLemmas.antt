@@ -7,7 +7,8 @@ use Rattle.bn_lists.specs.Runs.{Reaches}
 use Rattle.bn_lists.proofs.RunsLemmas.{runs_end_once}
 use Rattle.bn_machine.specs.Tape.{Tape, cell, word_tape}
 use Rattle.bn_quad.specs.Overlap.{IsDeterministic}
-use Rattle.bn_quad.specs.Quadruples.{Configuration, Deed, GoesBy, HasNoRule, Quadruples, QuadruplesRunTo, done, everywhere}
+use Rattle.bn_quad.specs.Quadruples.{Configuration, Deed, GoesBy, HasNoRule, Quadruples, QuadruplesRunTo, done}
+use Rattle.bn_quad.specs.Quadruples.{everywhere}
 use Rattle.bn_quad.specs.Quadruples.{final_state_of}
 use Rattle.bn_quad.proofs.QuadStepLemmas.{goes_by_once, goes_function, leads_goes}
 use Rattle.bn_bennett_laws.specs.Steps.{Steps}
@@ -28,7 +29,13 @@ use Rattle.bn_reply_traces.proofs.TraceLemmas.{Shown, blank_or_not, first_again,
 -- ---- each tape has a first and a last cell that is shown
 
 shown_word : (word : List ℕ) → All (λ s. s ≢ 0) word → Shown (word_tape word)
-shown_word word letters = record { first = pos 0; last = _; begins = first_of_word word; ends = last_of_word word letters }
+shown_word word letters = record {
+  first = pos 0;
+  last = _;
+  begins = first_of_word word;
+  ends = last_of_word word
+      letters;
+}
 
 shown_deed : (d : Deed) (t : Tape) → Shown t → Shown (done d t)
 shown_deed d t s =
@@ -85,7 +92,8 @@ tape_said name t s =
       },
     )
 
-pub text_some : (t : QuadTable) (i : ℕ) (c : Configuration ℕ) → AreShown c → (text : List ℕ) × IsConfigurationText t i c text
+pub text_some : (t : QuadTable) (i : ℕ) (c : Configuration ℕ) → AreShown c
+    → (text : List ℕ) × IsConfigurationText t i c text
 text_some t i c s =
     let one = tape_said (name_in t.names.one) c.one s.one in
     let two = tape_said (name_in t.names.two) c.two s.two in
@@ -114,7 +122,8 @@ pub steps_go : (p : Quadruples) (c d : Configuration ℕ) → IsDeterministic p.
 steps_go p c d apart s =
     (s.follows.number, leads_goes everywhere p s.follows.number c d apart s.going s.stays s.follows.leads)
 
-pub next_some : (p : Quadruples) (c : Configuration ℕ) → IsDeterministic p.rules → (rule : Option ℕ) × IsNextQuadruple p c rule
+pub next_some : (p : Quadruples) (c : Configuration ℕ) → IsDeterministic p.rules
+    → (rule : Option ℕ) × IsNextQuadruple p c rule
 next_some p c apart = by (next_at p c)
   where
     by : Next number_or p.rules (final_state_of p.rules) c → (rule : Option ℕ) × IsNextQuadruple p c rule
@@ -122,7 +131,8 @@ next_some p c apart = by (next_at p c)
     by (has_none going none) = (None, inr (record { going = going; none = none }))
     by (steps_on d s) = let g = steps_go p c d apart s in (Some g.0, (d, g.1))
 
-pub line_some : (t : QuadTable) (first : Configuration ℕ) (i : ℕ) (c : Configuration ℕ) → IsDeterministic t.machine.rules →
+pub line_some : (t : QuadTable) (first : Configuration ℕ) (i : ℕ) (c : Configuration ℕ)
+    → IsDeterministic t.machine.rules →
     AreShown c → Reaches (QuadruplesRunTo everywhere t.machine) i first c →
     (text : List ℕ) × IsConfigurationLineAfter t first i text
 line_some t first i c apart s run =
@@ -130,7 +140,8 @@ line_some t first i c apart s run =
     let rule = next_some t.machine c apart in
     (_, (c, run, record { shown = shown.0; shown_is = shown.1; rule = rule.0; next = rule.1; is = refl }))
 
-pub lines_some : (t : QuadTable) (first : Configuration ℕ) (i : ℕ) (c : Configuration ℕ) → IsDeterministic t.machine.rules →
+pub lines_some : (t : QuadTable) (first : Configuration ℕ) (i : ℕ) (c : Configuration ℕ)
+    → IsDeterministic t.machine.rules →
     AreShown first → Reaches (QuadruplesRunTo everywhere t.machine) i first c →
     (text : List ℕ) × AreLines (IsConfigurationLineAfter t first) (suc i) text
 lines_some t first zero c apart s run =
@@ -160,14 +171,17 @@ pub final_not_going : (p : Quadruples) (c d : Configuration ℕ) → c.state ≡
     QuadruplesRunTo everywhere p c d → ⊥
 final_not_going p c d final goes = goes.1.going final
 
-pub none_not_going : (p : Quadruples) (c d : Configuration ℕ) → HasNoRule p.rules c → QuadruplesRunTo everywhere p c d → ⊥
+pub none_not_going : (p : Quadruples) (c d : Configuration ℕ) → HasNoRule p.rules c → QuadruplesRunTo everywhere p c d
+    → ⊥
 none_not_going p c d none goes = none.none goes.0 goes.1.rule goes.1.first.stands goes.1.first.holds
 
-ends_not_going : (p : Quadruples) (c d : Configuration ℕ) (n : ℕ) → IsNextQuadruple p c None → GoesBy everywhere p n c d → ⊥
+ends_not_going : (p : Quadruples) (c d : Configuration ℕ) (n : ℕ) → IsNextQuadruple p c None → GoesBy everywhere p n c d
+    → ⊥
 ends_not_going p c d n (inl final) goes = final_not_going p c d final (n, goes)
 ends_not_going p c d n (inr stuck) goes = none_not_going p c d stuck.none (n, goes)
 
-pub one_next : (p : Quadruples) (c : Configuration ℕ) (a b : Option ℕ) → IsNextQuadruple p c a → IsNextQuadruple p c b → a ≡ b
+pub one_next : (p : Quadruples) (c : Configuration ℕ) (a b : Option ℕ) → IsNextQuadruple p c a → IsNextQuadruple p c b
+    → a ≡ b
 one_next p c None None x y = refl
 one_next p c None (Some m) x y = absurd (ends_not_going p c y.0 m x y.1)
 one_next p c (Some n) None x y = absurd (ends_not_going p c x.0 n y x.1)
@@ -178,7 +192,8 @@ pub one_line : (t : QuadTable) (first : Configuration ℕ) (i : ℕ) (a b : List
     IsConfigurationLineAfter t first i b → a ≡ b
 one_line t first i a b x y =
     let p = t.machine in
-    let same : x.0 ≡ y.0 = runs_end_once (QuadruplesRunTo everywhere p) (goes_function everywhere p) i first x.0 y.0 x.1 y.1 in
+    let same : x.0 ≡ y.0 = runs_end_once (QuadruplesRunTo everywhere p) (goes_function everywhere p) i first x.0 y.0 x.1
+    y.1 in
     let moved : IsConfigurationLine t i y.0 a = subst (λ (c : Configuration ℕ). IsConfigurationLine t i c a) same x.2 in
     let k : IsConfigurationLine t i y.0 b = y.2 in
     let shown = one_text t i y.0 moved.shown k.shown moved.shown_is k.shown_is in

@@ -1,5 +1,6 @@
 -- A trace that is given to a sink, whole or in part, is an answer or the front of one.
-use Rattle.std.specs.Prelude.{◌≡◌, ◌≢◌, ℕ, suc, ◌+◌, ◌^◌, ◌<◌, ◌≤◌, List, [], ◌++◌, All, length, Option, Some, None, refl}
+use Rattle.std.specs.Prelude.{◌≡◌, ◌≢◌, ℕ, suc, ◌+◌, ◌^◌, ◌<◌, ◌≤◌, List, [], ◌++◌, All, length, Option, Some, None}
+use Rattle.std.specs.Prelude.{refl}
 use Rattle.std.proofs.Common.{arith, inl, inr, sym, subst, ap, ◌∙◌, append_assoc, add-one}
 use Rattle.bn_circuits.specs.declared.place.Place.{Place}
 use Rattle.bn_io.specs.Told.{Grows, GrowsByFront}
@@ -37,10 +38,12 @@ word_of t bytes symbols table h few = record {
 }
 
 -- how the run comes out
-ended_as : (t : Named) (word : List ℕ) (n : ℕ) (s : Stage) (steps : ℕ) (rule : Option ℕ) → IsEndedAt t word n s steps rule →
+ended_as : (t : Named) (word : List ℕ) (n : ℕ) (s : Stage) (steps : ℕ) (rule : Option ℕ)
+    → IsEndedAt t word n s steps rule →
     (e : Ending) × HasEnding t.machine word n steps e × IsOutcome t.machine s.state (scanned s.tape.tape) rule e
 ended_as t word n s steps rule h = by rule h.next h.early
-    (next_of t.machine h.stage.whole s.state (scanned s.tape.tape) rule h.stage.state (scans t word n steps s h.stage) h.next)
+    (next_of t.machine h.stage.whole s.state (scanned s.tape.tape) rule h.stage.state (scans t word n steps s h.stage)
+    h.next)
   where
     moment : Moment
     moment = h.stage.whole
@@ -52,8 +55,12 @@ ended_as t word n s steps rule h = by rule h.next h.early
         IsNext t.machine moment rule →
         (e : Ending) × HasEnding t.machine word n steps e × IsOutcome t.machine s.state (scanned s.tape.tape) rule e
     by None is early (inl final) =
-        let out = output_exists moment.tape in
-        (Halted out.0, comes (Halted out.0) (free.halts out.0 final out.1 refl), inl (sym h.stage.state ∙ final, (out.0, refl)))
+        let out = output_exists moment.tape in (
+          Halted out.0,
+          comes (Halted out.0) (free.halts out.0 final out.1 refl),
+          inl
+              (sym h.stage.state ∙ final, (out.0, refl)),
+        )
     by None is early (inr stuck) = (
       Stuck s.state (scanned s.tape.tape),
       comes (Stuck s.state (scanned s.tape.tape)) (free.sticks stuck
@@ -125,7 +132,13 @@ trace_ends t word n s steps rule kept old now new result before middle after tol
           Grows-joins old now new are.given grows.0 are.grown grows.3,
         ))
     by (inr none) =
-        wanting none.0 (begun (in_part (are.given, last, refl, subst (λ a. Grows old a are.given) (sym none.1) are.grown)))
+        wanting none.0 (begun (in_part (
+          are.given,
+          last,
+          refl,
+          subst (λ a. Grows old a are.given) (sym none.1)
+              are.grown,
+        )))
 
 -- a front of the lines was given
 pub trace_begun : (t : Named) (word : List ℕ) (n : ℕ) (old now : Option (List ℕ)) (told : Option (List Place)) →

@@ -1,6 +1,7 @@
 -- The lines of a run's moments: what is shown of a stage is the line of its moment, and the lines that are told.
 use Rattle.std.specs.Prelude.{◌≡◌, ◌≢◌, ℕ, zero, suc, ◌+◌, ◌<◌, ◌≤◌, ◌⊎◌, ℤ, pos, negsuc, ◌+ℤ◌, ◌-ℤ◌, ◌≤ℤ◌, ◌<ℤ◌}
-use Rattle.std.specs.Prelude.{List, [], ◌∷◌, ◌++◌, length, max, nat_abs, Option, Some, None, Bool, true, false, codes, decimal, slice_index_or, refl}
+use Rattle.std.specs.Prelude.{List, [], ◌∷◌, ◌++◌, length, max, nat_abs, Option, Some, None, Bool, true, false, codes}
+use Rattle.std.specs.Prelude.{decimal, slice_index_or, refl}
 use Rattle.std.specs.Int.Signed.{pos-nat_abs}
 use Rattle.std.specs.Option.{is_some}
 use Rattle.std.proofs.Common.{not, arith, rules, inl, inr, sym, subst, ap, ◌∙◌, append_assoc, add-one}
@@ -38,10 +39,12 @@ pub whole_fits : (t : Named) (word : List ℕ) (n i : ℕ) (s : Stage) → IsTab
     (at : IsStageAfter t word n i s) → Fits t.machine at.whole
 whole_fits t word n i s table h at =
     let m = table_machine t table in
-    run_fits anywhere t.machine i (start t.machine word) at.whole m (start_fits t.machine word m (word_symbols t word h)) at.run
+    run_fits anywhere t.machine i (start t.machine word) at.whole m
+    (start_fits t.machine word m (word_symbols t word h)) at.run
 
 -- where the first and the last cell are
-pub begins_within : (w : Windowed) (word : List ℕ) (t : Tape) (p : ℤ) → IsWindowed w → StandsFor w word t → IsMarked t p →
+pub begins_within : (w : Windowed) (word : List ℕ) (t : Tape) (p : ℤ) → IsWindowed w → StandsFor w word t → IsMarked t p
+    →
     (pos 0 -ℤ pos w.left) ≤ℤ p
 begins_within w word t p windowed s (inr e) =
     let low = windowed.head.above in let h : p ≡ w.tape.head = e ∙ s.head in omega (arith, ints, low, h)
@@ -49,7 +52,8 @@ begins_within w word t p windowed s (inl h) =
     by_lt_z (pos w.right) p (λ beyond. omega (arith, ints, beyond))
     (λ inside. (windowed.outside p (λ z. h (s.near p inside ∙ z))).above)
 
-ends_on_word : (w : Windowed) (word : List ℕ) (t : Tape) (p : ℤ) → StandsFor w word t → pos w.right <ℤ p → cell t p ≢ 0 →
+ends_on_word : (w : Windowed) (word : List ℕ) (t : Tape) (p : ℤ) → StandsFor w word t → pos w.right <ℤ p → cell t p ≢ 0
+    →
     p ≤ℤ pos (length word)
 ends_on_word w word t (negsuc k) s beyond h = omega (arith, ints, beyond)
 ends_on_word w word t (pos zero) s beyond h = omega (arith, ints, beyond)
@@ -74,7 +78,8 @@ cells_below bound w word t windowed s each q =
   where
     outside : pos w.right <ℤ q → (cell w.tape q ≡ 0) ⊎ (cell w.tape q ≡ 0 → ⊥) → cell w.tape q < bound
     outside beyond (inl blank) = let some = each (pos 0) in omega (arith, blank)
-    outside beyond (inr letter) = let inside = (windowed.outside q letter).below in absurd (omega (arith, ints, beyond, inside))
+    outside beyond (inr letter) = let inside = (windowed.outside q letter).below in absurd
+        (omega (arith, ints, beyond, inside))
 
 pub showable : (t : Named) (word : List ℕ) (n i : ℕ) (s : Stage) → IsTable t → IsWordOf t word →
     IsStageAfter t word n i s → IsShowable t word s
@@ -102,15 +107,18 @@ counted first last low =
 pub scans : (t : Named) (word : List ℕ) (n i : ℕ) (s : Stage) (at : IsStageAfter t word n i s) →
     scanned at.whole.tape ≡ scanned s.tape.tape
 scans t word n i s at =
-    at.tape.near at.whole.tape.head (let high = at.windowed.head.below in let h = at.tape.head in omega (arith, ints, high, h))
+    at.tape.near at.whole.tape.head (let high = at.windowed.head.below in let h = at.tape.head in omega
+    (arith, ints, high, h))
     ∙ ap (cell s.tape.tape) at.tape.head
 
-pub next_of : (p : Program) (c : Moment) (state symbol : ℕ) (rule : Option ℕ) → c.state ≡ state → scanned c.tape ≡ symbol →
+pub next_of : (p : Program) (c : Moment) (state symbol : ℕ) (rule : Option ℕ) → c.state ≡ state
+    → scanned c.tape ≡ symbol →
     IsRule p state symbol rule → IsNext p c rule
 next_of p c state symbol None same scan (inl final) = inl (same ∙ final)
 next_of p c state symbol None same scan (inr stuck) = inr (record {
   going = λ e. stuck.0 (sym same ∙ e);
-  none = subst (λ z. HasNoMatch p.quints z (scanned c.tape)) (sym same) (subst (HasNoMatch p.quints state) (sym scan) stuck.1);
+  none = subst (λ z. HasNoMatch p.quints z (scanned c.tape)) (sym same)
+      (subst (HasNoMatch p.quints state) (sym scan) stuck.1);
 })
 next_of p c state symbol (Some n) same scan rule =
     let q : Quint = rule.1.0 in
@@ -155,7 +163,8 @@ line_of t word n i s rule count at is many = (
 
 -- ---- lines that are told
 
-pub told_none : (t : Named) (word : List ℕ) (a : Option (List ℕ)) (kept : List ℕ) → kept ≡ [] → AreTold t word a a kept 0
+pub told_none : (t : Named) (word : List ℕ) (a : Option (List ℕ)) (kept : List ℕ) → kept ≡ []
+    → AreTold t word a a kept 0
 told_none t word a kept is = record { given = []; grown = grows_none a; lines = is }
 
 pub told_more : (t : Named) (word : List ℕ) (old now new : Option (List ℕ)) (kept last rest : List ℕ) (k : ℕ) →

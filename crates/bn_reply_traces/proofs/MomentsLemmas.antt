@@ -27,7 +27,8 @@ use Rattle.bn_reply_traces.specs.MomentText.{AreLines}
 use Rattle.bn_reply_traces.specs.MomentsReply.{ComesOut, Halted, Outcome, Running, Stuck, TellsMoments}
 use Rattle.bn_reply_traces.specs.MomentsReply.{moments_outcome_line, outcome_status}
 use Rattle.bn_reply_traces.specs.Stages.{OutcomeEnds}
-use Rattle.bn_reply_traces.proofs.ConfigurationLemmas.{final_not_going, lines_some, none_not_going, number_or, one_line, steps_go}
+use Rattle.bn_reply_traces.proofs.ConfigurationLemmas.{final_not_going, lines_some, none_not_going, number_or, one_line}
+use Rattle.bn_reply_traces.proofs.ConfigurationLemmas.{steps_go}
 use Rattle.bn_reply_traces.proofs.ConfigurationLemmas.{words_shown}
 use Rattle.bn_reply_traces.proofs.LinesLemmas.{lines_front, lines_once}
 
@@ -40,7 +41,8 @@ ends_there p n i j c d Halted out few later goes = final_not_going p c d out goe
 ends_there p n i j c d Stuck out few later goes = none_not_going p c d out.none goes
 ends_there p n i j c d Running out few later goes = let all = out.0 in absurd (omega (arith, few, later, all))
 
-outcome_once : (p : Quadruples) (n i : ℕ) (c : Configuration ℕ) (o q : Outcome) → ComesOut p n i c o → ComesOut p n i c q → o ≡ q
+outcome_once : (p : Quadruples) (n i : ℕ) (c : Configuration ℕ) (o q : Outcome) → ComesOut p n i c o
+    → ComesOut p n i c q → o ≡ q
 outcome_once p n i c Halted Halted a b = refl
 outcome_once p n i c Halted Stuck a b = absurd (b.going a)
 outcome_once p n i c Halted Running a b = absurd (final_not_going p c b.1.0 a b.1.1)
@@ -87,7 +89,8 @@ module _ (t : QuadTable) (n : ℕ) (one two three : List ℕ) where
       let b = bounded number_or t.machine.rules (final_state_of t.machine.rules) n first in
       let run = runs_go t.machine apart b.made first b.last b.run in
       let out = outcome_some t.machine apart n b.made b.last b.next b.all in
-      let lines = lines_some t first b.made b.last apart (words_shown first one two three refl refl refl l1 l2 l3) run in (
+      let lines = lines_some t first b.made b.last apart (words_shown first one two three refl refl refl l1 l2 l3) run
+      in (
         outcome_status out.0,
         lines.0 ++ moments_outcome_line t b.made b.last out.0,
         [],
@@ -126,7 +129,8 @@ module _ (t : QuadTable) (n : ℕ) (one two three : List ℕ) where
       let moved : Reaches step j first c = subst (λ k. Reaches step k first c) steps run in
       let last : c ≡ d = runs_end_once step (goes_function everywhere t.machine) j first c d moved further in
       let there : ComesOut t.machine n j d o =
-      subst (λ k. ComesOut t.machine n k d o) steps (subst (λ (x : Configuration ℕ). ComesOut t.machine n i x o) last out)
+      subst (λ k. ComesOut t.machine n k d o) steps (subst (λ (x : Configuration ℕ). ComesOut t.machine n i x o) last
+      out)
       in
       (steps, last, outcome_once t.machine n j d o q there also)
 
@@ -156,12 +160,16 @@ module _ (t : QuadTable) (n : ℕ) (one two three : List ℕ) where
   -- ---- what is given
 
   -- all moments are told, and the last line was given whole, in part, or not
-  pub moments_end : (c : Configuration ℕ) (o : Outcome) (steps : ℕ) (kept given : List ℕ) (old now new : Option (List ℕ))
-      (result : Status) (before middle later : ℕ) (told : Option (List Place)) → steps ≤ n → Reaches step steps first c →
-      ComesOut t.machine n steps c o → Grows old now given → AreLines Line (steps + 1) (given ++ kept) → before ≤ middle →
+  pub moments_end : (c : Configuration ℕ) (o : Outcome) (steps : ℕ) (kept given : List ℕ)
+      (old now new : Option (List ℕ))
+      (result : Status) (before middle later : ℕ) (told : Option (List Place)) → steps ≤ n → Reaches step steps first c
+      →
+      ComesOut t.machine n steps c o → Grows old now given → AreLines Line (steps + 1) (given ++ kept) → before ≤ middle
+      →
       OutcomeEnds (outcome_status o) result now new middle later (kept ++ moments_outcome_line t steps c o) →
       AnswerEnds (TellsMoments t n one two three) result old new before later told told
-  moments_end c o steps kept given old now new result before middle later told early run out grown lines order ends = by ends
+  moments_end c o steps kept given old now new result before middle later told early run out grown lines order ends =
+      by ends
     where
       last : List ℕ
       last = kept ++ moments_outcome_line t steps c o

@@ -30,7 +30,8 @@ ended_stage r c s steps (Some m) some is none h = absurd (cc (is, none))
 
 -- ---- a line
 
-tape_shown : (z : ℕ) (word : List ℕ) (n i : ℕ) (w : Windowed) (e : Extent) (t : Tape) → IsTapeStage z word n i w e t → Shown t
+tape_shown : (z : ℕ) (word : List ℕ) (n i : ℕ) (w : Windowed) (e : Extent) (t : Tape) → IsTapeStage z word n i w e t
+    → Shown t
 tape_shown z word n i w e t h = record { first = e.first; last = e.last; begins = h.first; ends = h.last }
 
 module _ (r : QuadRun) (run : IsQuadRun r) (i : ℕ) (s : QuadStage) (c : Configuration ℕ) (at : IsStageIn r i c s) where
@@ -48,9 +49,21 @@ module _ (r : QuadRun) (run : IsQuadRun r) (i : ℕ) (s : QuadStage) (c : Config
   -- what was said of the stage, and the quadruple by which it goes on, are it
   pub line_by : (u : QuadStage) (rule : Option ℕ) (text : List ℕ) → IsConfigurationText (table_in r) i c text →
       IsSteppedTo (table_in r) r.words r.most_steps i c s rule u → IsLineIn r i (line (text ∷ rule_text rule ∷ []))
-  line_by u rule text said stepped = (c, at.run, record { shown = text; shown_is = said; rule = rule; next = next rule stepped; is = refl })
+  line_by u rule text said stepped = (
+    c,
+    at.run,
+    record {
+      shown = text;
+      shown_is = said;
+      rule = rule;
+      next = next rule
+          stepped;
+      is = refl;
+    },
+  )
     where
-      next : (rule : Option ℕ) → IsSteppedTo (table_in r) r.words r.most_steps i c s rule u → IsNextQuadruple r.machine.now c rule
+      next : (rule : Option ℕ) → IsSteppedTo (table_in r) r.words r.most_steps i c s rule u
+          → IsNextQuadruple r.machine.now c rule
       next None h = h.0
       next (Some m) h = (h.0, h.1)
 
@@ -63,7 +76,8 @@ front_none taken text = ([], text, refl, grows_none taken)
 pub quad_told_none : (r : QuadRun) (a : Option (List ℕ)) (kept : List ℕ) → kept ≡ [] → AreQuadTold r a a kept 0
 quad_told_none r a kept is = record { given = []; grown = grows_none a; lines = is }
 
-pub quad_told_more : (r : QuadRun) (old now new : Option (List ℕ)) (kept rest : List ℕ) (i : ℕ) → AreQuadTold r old now kept i →
+pub quad_told_more : (r : QuadRun) (old now new : Option (List ℕ)) (kept rest : List ℕ) (i : ℕ)
+    → AreQuadTold r old now kept i →
     ((text piece : List ℕ) × IsLineIn r i text × (kept ++ text ≡ piece ++ rest) × Grows now new piece) →
     AreQuadTold r old new rest (i + 1)
 quad_told_more r old now new kept rest i told h = record {
@@ -74,7 +88,8 @@ quad_told_more r old now new kept rest i told h = record {
     h.0,
     told.lines,
     h.2,
-    append_assoc told.given h.1 rest ∙ ap (λ (z : List ℕ). told.given ++ z) (sym h.3) ∙ sym (append_assoc told.given kept h.0),
+    append_assoc told.given h.1 rest ∙ ap (λ (z : List ℕ). told.given ++ z) (sym h.3)
+        ∙ sym (append_assoc told.given kept h.0),
   );
 }
 
@@ -90,14 +105,16 @@ quad_told_part r old now new kept i early told h = record {
       let g = h.2 in (
         told.given ++ g.0,
         g.1,
-        append_assoc told.given kept h.0 ∙ ap (λ (z : List ℕ). told.given ++ z) g.2 ∙ sym (append_assoc told.given g.0 g.1),
+        append_assoc told.given kept h.0 ∙ ap (λ (z : List ℕ). told.given ++ z) g.2
+            ∙ sym (append_assoc told.given g.0 g.1),
         Grows-joins old now new told.given g.0 told.grown g.3,
       );
 }
 
 -- ---- the loop
 
-pub some_next : (r : QuadRun) (i : ℕ) (s u : QuadStage) (rule : Option ℕ) (is_none : Bool) → is_some rule ≡ not is_none →
+pub some_next : (r : QuadRun) (i : ℕ) (s u : QuadStage) (rule : Option ℕ) (is_none : Bool) → is_some rule ≡ not is_none
+    →
     is_none ≡ false → IsSomeStage r i s →
     ((c : Configuration ℕ) → IsStageIn r i c s → IsSteppedTo (table_in r) r.words r.most_steps i c s rule u) →
     IsSomeStage r (i + 1) u
@@ -106,7 +123,8 @@ some_next r i s u None false is lettered at steps = absurd (cc)
 some_next r i s u (Some m) is_none is lettered at steps = let h = steps at.0 at.1 in (h.0, h.2)
 
 -- it ends where no quadruple applies
-pub ends_early : (r : QuadRun) (i : ℕ) (s u : QuadStage) (rule : Option ℕ) → i ≤ r.most_steps → rule ≡ None → IsSomeStage r i s →
+pub ends_early : (r : QuadRun) (i : ℕ) (s u : QuadStage) (rule : Option ℕ) → i ≤ r.most_steps → rule ≡ None
+    → IsSomeStage r i s →
     ((c : Configuration ℕ) → IsStageIn r i c s → IsSteppedTo (table_in r) r.words r.most_steps i c s rule u) →
     (c : Configuration ℕ) × IsQuadEndedAt r c u i rule
 ends_early r i s u None early none at steps =
@@ -133,7 +151,8 @@ pub ended_outcome : (r : QuadRun) (c : Configuration ℕ) (s : QuadStage) (steps
 ended_outcome r c s steps None h = by h.2
   where
     by : IsNextQuadruple r.machine.now c None → (o : Outcome) × ComesOut r.machine.now r.most_steps steps c o
-        × (steps ≤ r.most_steps) × Reaches (QuadruplesRunTo everywhere r.machine.now) steps (first_of r.machine.now r.words) c
+        × (steps ≤ r.most_steps) × Reaches (QuadruplesRunTo everywhere r.machine.now) steps
+        (first_of r.machine.now r.words) c
     by (inl final) = (Halted, final, h.0, h.1.run)
     by (inr stuck) = (Stuck, stuck, h.0, h.1.run)
 ended_outcome r c s steps (Some m) h = (Running, (h.0, (h.2.0, (m, h.2.1))), omega (arith, h.0), h.1)

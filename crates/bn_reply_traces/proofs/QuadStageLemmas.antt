@@ -12,8 +12,10 @@ use Rattle.bn_machine.specs.declared.quint.Side.{Side}
 use Rattle.bn_machine.specs.declared.quint.Side.TheVariants as sides
 use Rattle.bn_quad.specs.Calls.{AreSameWindows, DeedLeaves, IsLeaving, IsQuadTurn, LeavesAt, configuration, rooms_of}
 use Rattle.bn_quad.specs.Calls.{windows_of}
-use Rattle.bn_quad.specs.Quadruples.{AppliesTo, AreDeedsInRange, Configuration, Deed, DeedApplies, GoesBy, IsFirstRule, IsQuadMachine}
-use Rattle.bn_quad.specs.Quadruples.{IsQuadrupleStuck, IsRuleInRange, Move, Quadruples, QuadruplesRunTo, Rewrite, Rule, deeds_of}
+use Rattle.bn_quad.specs.Quadruples.{AppliesTo, AreDeedsInRange, Configuration, Deed, DeedApplies, GoesBy, IsFirstRule}
+use Rattle.bn_quad.specs.Quadruples.{IsQuadMachine}
+use Rattle.bn_quad.specs.Quadruples.{IsQuadrupleStuck, IsRuleInRange, Move, Quadruples, QuadruplesRunTo, Rewrite, Rule}
+use Rattle.bn_quad.specs.Quadruples.{deeds_of}
 use Rattle.bn_quad.specs.Quadruples.{everywhere, after, initial_of}
 use Rattle.bn_quad.specs.declared.tapes.QuadTurn.{QuadTurn}
 use Rattle.bn_quad.specs.declared.tapes.QuadTurn.TheVariants as turns
@@ -21,7 +23,8 @@ use Rattle.bn_quad.specs.declared.tapes.Tapes.{Tapes}
 use Rattle.bn_qtable.specs.Rows.{QuadTable, counts_of}
 use Rattle.bn_reply_traces.specs.ConfigurationText.{IsNextQuadruple}
 use Rattle.bn_reply_traces.specs.Extents.{IsFirst, IsLast}
-use Rattle.bn_reply_traces.specs.QuadStages.{AreClear, AreWordsOn, IsClear, IsQuadStage, IsStepped, IsSteppedTo, IsWide, first_of}
+use Rattle.bn_reply_traces.specs.QuadStages.{AreClear, AreWordsOn, IsClear, IsQuadStage, IsStepped, IsSteppedTo, IsWide}
+use Rattle.bn_reply_traces.specs.QuadStages.{first_of}
 use Rattle.bn_reply_traces.specs.Stages.{StandsFor}
 use Rattle.bn_reply_traces.specs.declared.extent.Extent.{Extent}
 use Rattle.bn_reply_traces.specs.declared.quad_stage.Extents.{Extents}
@@ -60,7 +63,8 @@ applies_alike r c d h a = record {
   three = deed_alike r.three c.three d.three h.three a.three;
 }
 
-pub first_alike : (rs : List (Rule ℕ)) (n : ℕ) (r : Rule ℕ) (c d : Configuration ℕ) → AreAlike c d → IsFirstRule rs c n r →
+pub first_alike : (rs : List (Rule ℕ)) (n : ℕ) (r : Rule ℕ) (c d : Configuration ℕ) → AreAlike c d
+    → IsFirstRule rs c n r →
     IsFirstRule rs d n r
 first_alike rs n r c d h f = record {
   stands = f.stands;
@@ -81,7 +85,8 @@ pub stage_start : (t : QuadTable) (words : StartWords) (n : ℕ) (s : QuadStage)
     IsWide words.one.now n s.tapes.one → IsWide words.two.now n s.tapes.two → IsWide words.three.now n s.tapes.three →
     IsFirst (word_tape words.one.now) s.extents.one.first → IsLast (word_tape words.one.now) s.extents.one.last →
     IsFirst (word_tape words.two.now) s.extents.two.first → IsLast (word_tape words.two.now) s.extents.two.last →
-    IsFirst (word_tape words.three.now) s.extents.three.first → IsLast (word_tape words.three.now) s.extents.three.last →
+    IsFirst (word_tape words.three.now) s.extents.three.first → IsLast (word_tape words.three.now) s.extents.three.last
+    →
     IsQuadStage t words n 0 (first_of t.machine words) s
 stage_start t words n s machine states h state wide1 wide2 wide3 first1 last1 first2 last2 first3 last3 = record {
   run = refl;
@@ -89,7 +94,8 @@ stage_start t words n s machine states h state wide1 wide2 wide3 first1 last1 fi
   known = subst (λ k. initial_of t.machine.rules < k) states (initial_known t.machine machine);
   one = tape_start t.names.one words.one.now n s.tapes.one s.extents.one h.one.some h.one wide1 first1 last1;
   two = tape_start t.names.two words.two.now n s.tapes.two s.extents.two h.two.some h.two wide2 first2 last2;
-  three = tape_start t.names.three words.three.now n s.tapes.three s.extents.three h.three.some h.three wide3 first3 last3;
+  three = tape_start t.names.three words.three.now n s.tapes.three s.extents.three h.three.some h.three wide3 first3
+      last3;
 }
   where
     initial_by : (states : ℕ) (symbols : List ℕ) (rs : List (Rule ℕ)) → 0 < length rs →
@@ -121,7 +127,8 @@ module _ (t : QuadTable) (words : StartWords) (n i : ℕ) (c : Configuration ℕ
 
 -- what following a tape tells
 pub record Follows (left : ℤ) (v : Windowed) (e f : Extent) : Type 0 where
-  pub first : (x y : Tape) (u : List ℕ) → StandsFor v u y → left ≤ℤ pos v.right → IsStepped x y left → IsFirst x e.first →
+  pub first : (x y : Tape) (u : List ℕ) → StandsFor v u y → left ≤ℤ pos v.right → IsStepped x y left → IsFirst x e.first
+      →
       IsFirst y f.first
   pub last : (x y : Tape) (u : List ℕ) → StandsFor v u y → left ≤ℤ pos v.right → IsStepped x y left → IsLast x e.last →
       IsLast y f.last
@@ -132,7 +139,8 @@ pub stage_more : (t : QuadTable) (words : StartWords) (n i : ℕ) (c : Configura
     t.machine.states ≡ length t.names.states → IsQuadStage t words n i c s →
     GoesBy (rooms_of s.tapes) t.machine quad (configuration s.state s.tapes) (configuration next v) →
     AreSameWindows s.tapes v → l1 ≡ s.tapes.one.tape.head → l2 ≡ s.tapes.two.tape.head → l3 ≡ s.tapes.three.tape.head →
-    Follows l1 v.one s.extents.one e.one → Follows l2 v.two s.extents.two e.two → Follows l3 v.three s.extents.three e.three →
+    Follows l1 v.one s.extents.one e.one → Follows l2 v.two s.extents.two e.two
+    → Follows l3 v.three s.extents.three e.three →
     IsSteppedTo t words n i c s (Some quad) (record { state = next; tapes = v; extents = e })
 stage_more t words n i c s quad next v e l1 l2 l3 machine symbols states at goes same at1 at2 at3 f1 f2 f3 = (
   d,
@@ -141,9 +149,11 @@ stage_more t words n i c s quad next v e l1 l2 l3 machine symbols states at goes
     run = runs_more (QuadruplesRunTo everywhere t.machine) i (first_of t.machine words) c d at.run (quad, step);
     state = sym (ap (λ (x : Configuration ℕ). x.state) goes.gives);
     known = subst (λ k. rule.to < k) states range.to;
-    one = tape_more (length t.names.one) words.one.now n i s.tapes.one v.one s.extents.one e.one c.one rule.one l1 at.one
+    one = tape_more (length t.names.one) words.one.now n i s.tapes.one v.one s.extents.one e.one c.one rule.one l1
+        at.one
         deeds.0 at1 same.one (ap (λ (x : Configuration ℕ). x.one) goes.gives) f1.windowed f1.first f1.last;
-    two = tape_more (length t.names.two) words.two.now n i s.tapes.two v.two s.extents.two e.two c.two rule.two l2 at.two
+    two = tape_more (length t.names.two) words.two.now n i s.tapes.two v.two s.extents.two e.two c.two rule.two l2
+        at.two
         deeds.1.0 at2 same.two (ap (λ (x : Configuration ℕ). x.two) goes.gives) f2.windowed f2.first f2.last;
     three = tape_more (length t.names.three) words.three.now n i s.tapes.three v.three s.extents.three e.three c.three
         rule.three l3 at.three deeds.1.1.0 at3 same.three (ap (λ (x : Configuration ℕ). x.three) goes.gives) f3.windowed
@@ -158,10 +168,12 @@ stage_more t words n i c s quad next v e l1 l2 l3 machine symbols states at goes
     d = after rule c
 
     first : IsFirstRule t.machine.rules c quad rule
-    first = first_alike t.machine.rules quad rule (configuration s.state s.tapes) c (stage_alike t words n i c s at) goes.first
+    first = first_alike t.machine.rules quad rule (configuration s.state s.tapes) c (stage_alike t words n i c s at)
+        goes.first
 
     range : IsRuleInRange t.machine.states (counts_of t.names) rule
-    range = subst (λ (z : List ℕ). IsRuleInRange t.machine.states z rule) symbols (rule_in_range t.machine machine quad rule first.stands)
+    range = subst (λ (z : List ℕ). IsRuleInRange t.machine.states z rule) symbols
+        (rule_in_range t.machine machine quad rule first.stands)
 
     deeds : AreDeedsInRange (counts_of t.names) (deeds_of rule)
     deeds = range.deeds

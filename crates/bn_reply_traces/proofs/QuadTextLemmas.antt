@@ -7,7 +7,8 @@ use Rattle.bn_quad.specs.Quadruples.{Configuration, Quadruples, final_state_of}
 use Rattle.bn_qtable.specs.Rows.{QuadTable}
 use Rattle.bn_reply_traces.specs.ConfigurationText.{IsConfigurationText, IsNextQuadruple, name_in}
 use Rattle.bn_reply_traces.specs.MomentText.{IsTapeText}
-use Rattle.bn_reply_traces.specs.MomentsReply.{ComesOut, Halted, Outcome, Running, Stuck, moments_outcome_line, outcome_status}
+use Rattle.bn_reply_traces.specs.MomentsReply.{ComesOut, Halted, Outcome, Running, Stuck, moments_outcome_line}
+use Rattle.bn_reply_traces.specs.MomentsReply.{outcome_status}
 use Rattle.bn_reply_traces.specs.QuadStages.{IsTapeStage}
 use Rattle.bn_reply_traces.specs.declared.extent.Extent.{Extent}
 use Rattle.bn_reply_traces.proofs.ConfigurationLemmas.{final_not_going, none_not_going}
@@ -16,7 +17,8 @@ use Rattle.bn_reply_traces.proofs.TapeStageLemmas.{scans_alike}
 -- ---- a tape
 
 -- the names by which a tape is told are the tape's
-pub stage_named : (names result : List (List ℕ)) → result ≡ names → (word : List ℕ) (n i : ℕ) (w : Windowed) (e : Extent)
+pub stage_named : (names result : List (List ℕ)) → result ≡ names
+    → (word : List ℕ) (n i : ℕ) (w : Windowed) (e : Extent)
     (x : Tape) → IsTapeStage (length names) word n i w e x → IsTapeStage (length result) word n i w e x
 stage_named names result is word n i w e x h =
     subst (λ (ns : List (List ℕ)). IsTapeStage (length ns) word n i w e x) (sym is) h
@@ -62,7 +64,8 @@ configuration_pushed t i c name old o1 o2 o3 o4 o5 o6 is h1 h2 h3 one two three 
       ∙ ap (λ (z : List ℕ). z ++ (codes " tape 2" ++ two.0)) (one.2
       ∙ ap (λ (z : List ℕ). z ++ (codes " tape 1" ++ one.0)) (h3
       ∙ (λ k. h2 k ++ is k) ∙ ap (λ (z : List ℕ). (z ++ codes " ") ++ name_in t.names.states c.state) h1)))
-      ∙ joined old (decimal i) (codes " ") (name_in t.names.states c.state) (codes " tape 1") one.0 (codes " tape 2") two.0
+      ∙ joined old (decimal i) (codes " ") (name_in t.names.states c.state) (codes " tape 1") one.0 (codes " tape 2")
+      two.0
       (codes " tape 3") three.0,
 )
 
@@ -103,7 +106,8 @@ halts_there p n i c Halted final out = refl
 halts_there p n i c Stuck final out = absurd (out.going final)
 halts_there p n i c Running final out = absurd (final_not_going p c out.1.0 final out.1.1)
 
-pub sticks_there : (p : Quadruples) (n i : ℕ) (c : Configuration ℕ) (o : Outcome) → (c.state ≡ final_state_of p.rules → ⊥) →
+pub sticks_there : (p : Quadruples) (n i : ℕ) (c : Configuration ℕ) (o : Outcome)
+    → (c.state ≡ final_state_of p.rules → ⊥) →
     IsNextQuadruple p c None → ComesOut p n i c o → Stuck ≡ o
 sticks_there p n i c o going (inl final) out = absurd (going final)
 sticks_there p n i c Halted going (inr stuck) out = absurd (going out)

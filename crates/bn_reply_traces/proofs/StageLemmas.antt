@@ -163,7 +163,8 @@ pub stage_more : (t : Named) (word : List ℕ) (n i : ℕ) (s : Stage) (after : 
     ((x y : Tape) → IsMoved x y left is_blank head → IsFirst x s.extent.first → IsFirst y e.first) →
     ((x y : Tape) → IsMoved x y left is_blank head → IsLast x s.extent.last → IsLast y e.last) →
     IsStageAfter t word n (i + 1) (record { state = after; tape = v; extent = e })
-stage_more t word n i s after v e left head found is_blank few early at turn left_is head_is none found_is windowed first last =
+stage_more t word n i s after v e left head found is_blank few early at turn left_is head_is none found_is windowed
+    first last =
     let p = t.machine in
     let r = one_step_more p i (start_of p.quints) (window word n) s.state s.tape after v at.reached turn in
     let h = whole_at t word n (i + 1) after v few (omega arith) r in

@@ -1,5 +1,6 @@
 -- A tape of a stage, and the tape without ends that it stands for.
-use Rattle.std.specs.Prelude.{◌≡◌, ◌≢◌, ◌↔◌, ℕ, ◌+◌, ◌-◌, ◌<◌, ◌≤◌, ◌⊎◌, ℤ, pos, ◌+ℤ◌, ◌-ℤ◌, ◌≤ℤ◌, List, length, take, min, max}
+use Rattle.std.specs.Prelude.{◌≡◌, ◌≢◌, ◌↔◌, ℕ, ◌+◌, ◌-◌, ◌<◌, ◌≤◌, ◌⊎◌, ℤ, pos, ◌+ℤ◌, ◌-ℤ◌, ◌≤ℤ◌, List, length, take}
+use Rattle.std.specs.Prelude.{min, max}
 use Rattle.std.specs.Prelude.{All, Bool, true, zero, suc, negsuc, refl}
 use Rattle.std.proofs.Common.{arith, get_or, inl, inr, sym, subst, ap, ◌∙◌}
 use Rattle.std.proofs.lemmas.Int.{ints}
@@ -141,7 +142,8 @@ deed_stands (Rewrite read written) w word t inside h = record {
 }
 deed_stands (Move s) w word t inside h = record { head = ap (λ (p : ℤ). moved p s) h.head; near = h.near; far = h.far }
 
-deed_below : (d : Deed) (t : Tape) (z : ℕ) → IsDeedInRange z d → ((q : ℤ) → cell t q < z) → (q : ℤ) → cell (done d t) q < z
+deed_below : (d : Deed) (t : Tape) (z : ℕ) → IsDeedInRange z d → ((q : ℤ) → cell t q < z) → (q : ℤ)
+    → cell (done d t) q < z
 deed_below (Rewrite read written) t z range below q = elim (same_or_not q t.head) [
   | inl here ↦
       subst (λ s. s < z) (sym (ap (cell (write t written)) here ∙ at_set_cell t.cells t.head written)) range.1
@@ -152,8 +154,10 @@ deed_below (Move s) t z range below q = below q
 pub tape_more : (z : ℕ) (word : List ℕ) (n i : ℕ) (w v : Windowed) (e f : Extent) (t : Tape) (d : Deed) (left : ℤ) →
     IsTapeStage z word n i w e t → IsDeedInRange z d → left ≡ w.tape.head → v ≡ with_tape w v.tape →
     v.tape ≡ done d w.tape → IsWindowed v →
-    ((x y : Tape) (u : List ℕ) → StandsFor v u y → left ≤ℤ pos v.right → IsStepped x y left → IsFirst x e.first → IsFirst y f.first) →
-    ((x y : Tape) (u : List ℕ) → StandsFor v u y → left ≤ℤ pos v.right → IsStepped x y left → IsLast x e.last → IsLast y f.last) →
+    ((x y : Tape) (u : List ℕ) → StandsFor v u y → left ≤ℤ pos v.right → IsStepped x y left → IsFirst x e.first
+    → IsFirst y f.first) →
+    ((x y : Tape) (u : List ℕ) → StandsFor v u y → left ≤ℤ pos v.right → IsStepped x y left → IsLast x e.last
+    → IsLast y f.last) →
     IsTapeStage z word n (i + 1) v f (done d t)
 tape_more z word n i w v e f t d left h range at same is windowed first last =
     let inside : w.tape.head ≤ℤ pos w.right = h.windowed.head.below in
@@ -197,7 +201,8 @@ steps_move t u left head is_blank h to blank = record {
 
 -- ---- what stands there
 
-pub scans_alike : (z : ℕ) (word : List ℕ) (n i : ℕ) (w : Windowed) (e : Extent) (t : Tape) → IsTapeStage z word n i w e t →
+pub scans_alike : (z : ℕ) (word : List ℕ) (n i : ℕ) (w : Windowed) (e : Extent) (t : Tape)
+    → IsTapeStage z word n i w e t →
     scanned t ≡ scanned w.tape
 scans_alike z word n i w e t h =
     h.tape.near t.head (let high = h.windowed.head.below in let at = h.tape.head in omega (arith, ints, high, at))

@@ -18,7 +18,8 @@ use Rattle.bn_reply_traces.specs.TraceReply.{outcome_line}
 
 -- one cell more
 pub one_cell_more : (name : ℕ → List ℕ) (f : ℤ → ℕ) (p : ℤ) (k : ℕ) →
-    names_text name (symbols_from f p (suc k)) ≡ names_text name (symbols_from f p k) ++ (codes " " ++ name (f (p +ℤ pos k)))
+    names_text name (symbols_from f p (suc k)) ≡ names_text name (symbols_from f p k)
+    ++ (codes " " ++ name (f (p +ℤ pos k)))
 one_cell_more name f p zero =
     let here : p +ℤ pos 0 ≡ p = omega (arith, ints) in
     rw here (ap (λ (z : List ℕ). codes " " ++ z) (append-nil (name (f p))))
@@ -26,7 +27,8 @@ one_cell_more name f p (suc k) =
     let there : (p +ℤ pos 1) +ℤ pos k ≡ p +ℤ pos (suc k) = omega (arith, ints) in
     ap (λ (z : List ℕ). codes " " ++ (name (f p) ++ z)) (one_cell_more name f (p +ℤ pos 1) k
     ∙ ap (λ (q : ℤ). names_text name (symbols_from f (p +ℤ pos 1) k) ++ (codes " " ++ name (f q))) there)
-    ∙ ap (λ (z : List ℕ). codes " " ++ z) (sym (append_assoc (name (f p)) (names_text name (symbols_from f (p +ℤ pos 1) k)) _))
+    ∙ ap (λ (z : List ℕ). codes " " ++ z) (sym (append_assoc (name (f p))
+    (names_text name (symbols_from f (p +ℤ pos 1) k)) _))
 
 -- the text with one cell more
 pub cell_pushed : (name : ℕ → List ℕ) (f : ℤ → ℕ) (p q : ℤ) (k symbol : ℕ) (old now first second : List ℕ) →

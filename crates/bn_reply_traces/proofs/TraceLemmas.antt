@@ -24,7 +24,8 @@ use Rattle.bn_reply.proofs.SettledLemmas.{standard_settled, word_settled}
 use Rattle.bn_reply.proofs.TableLemmas.{reads_table}
 use Rattle.bn_reply_tables.specs.MachineReply.{ending_status}
 use Rattle.bn_reply_traces.specs.Extents.{IsFirst, IsLast, symbols_from}
-use Rattle.bn_reply_traces.specs.MomentText.{AreLines, IsLineAfter, IsMomentLine, IsNext, IsTapeText, letter_text, rule_text, tape_text}
+use Rattle.bn_reply_traces.specs.MomentText.{AreLines, IsLineAfter, IsMomentLine, IsNext, IsTapeText, letter_text}
+use Rattle.bn_reply_traces.specs.MomentText.{rule_text, tape_text}
 use Rattle.bn_reply_traces.specs.Stages.{IsMoved}
 use Rattle.bn_reply_traces.specs.TraceReply.{TellsTrace, TraceIsSettled, outcome_line}
 use Rattle.bn_reply_traces.proofs.ExtentLemmas.{first_before, first_left, first_of_word, first_stays}
@@ -40,7 +41,8 @@ pub record Shown (t : Tape) : Type 0 where
   pub begins : IsFirst t first
   pub ends : IsLast t last
 
-pub first_again : (t u : Tape) (first left head : ℤ) (is_blank : Bool) → IsMoved t u left is_blank head → IsFirst t first →
+pub first_again : (t u : Tape) (first left head : ℤ) (is_blank : Bool) → IsMoved t u left is_blank head
+    → IsFirst t first →
     (f : ℤ) × IsFirst u f
 first_again t u first left head true m f = by (same_or_not first left)
   where
@@ -78,11 +80,13 @@ shown_more p c d goes s =
     let l = last_again c.tape d.tape s.last c.tape.head d.tape.head b.0 m s.ends in
     record { first = f.0; last = l.0; begins = f.1; ends = l.1 }
 
-shown_run : (p : Program) (i : ℕ) (c d : Moment) → Reaches (MachineRunsTo anywhere p) i c d → Shown c.tape → Shown d.tape
+shown_run : (p : Program) (i : ℕ) (c d : Moment) → Reaches (MachineRunsTo anywhere p) i c d → Shown c.tape
+    → Shown d.tape
 shown_run p zero c d run s = subst (λ (m : Moment). Shown m.tape) run s
 shown_run p (suc i) c d run s = shown_run p i run.0 d run.2 (shown_more p c run.0 run.1 s)
 
-shown_after : (p : Program) (word : List ℕ) (i : ℕ) (c : Moment) → All (λ s. s ≢ 0) word → After p word i c → Shown c.tape
+shown_after : (p : Program) (word : List ℕ) (i : ℕ) (c : Moment) → All (λ s. s ≢ 0) word → After p word i c
+    → Shown c.tape
 shown_after p word i c letters run = shown_run p i (start p word) c run (record {
   first = pos 0;
   last = _;
@@ -95,7 +99,8 @@ shown_after p word i c letters run = shown_run p i (start p word) c run (record 
 next_some : (p : Program) (c : Moment) → (rule : Option ℕ) × IsNext p c rule
 next_some p c = by (final_stuck_or_goes p c)
   where
-    by : IsFinal p c ⊎ (IsMachineStuck p c ⊎ ((d : Moment) × MachineRunsTo anywhere p c d)) → (rule : Option ℕ) × IsNext p c rule
+    by : IsFinal p c ⊎ (IsMachineStuck p c ⊎ ((d : Moment) × MachineRunsTo anywhere p c d))
+        → (rule : Option ℕ) × IsNext p c rule
     by (inl final) = (None, inl final)
     by (inr (inl stuck)) = (None, inr stuck)
     by (inr (inr goes)) = (Some goes.1.0, (goes.0, goes.1.1))
@@ -184,7 +189,8 @@ one_next p c (Some n) (Some m) x y =
 one_line : (t : Named) (word : List ℕ) (i : ℕ) (a b : List ℕ) → IsLineAfter t word i a → IsLineAfter t word i b → a ≡ b
 one_line t word i a b x y =
     let p = t.machine in
-    let same : x.0 ≡ y.0 = runs_end_once (MachineRunsTo anywhere p) (steps_are_functions anywhere p) i (start p word) x.0 y.0 x.1 y.1 in
+    let same : x.0 ≡ y.0 = runs_end_once (MachineRunsTo anywhere p) (steps_are_functions anywhere p) i (start p word)
+    x.0 y.0 x.1 y.1 in
     let moved : IsMomentLine t i y.0 a = subst (λ (c : Moment). IsMomentLine t i c a) same x.2 in
     let k : IsMomentLine t i y.0 b = y.2 in
     let tape = one_tape_text (letter_text t) y.0.tape moved.tape k.tape moved.tape_is k.tape_is in
@@ -235,7 +241,8 @@ lines_few t word n i (suc j) e text ending few lines = by (cases_lt i j)
     by (inr h) = omega (arith, h)
     by (inl later) =
         let p = t.machine in
-        let goes = run_goes_on (MachineRunsTo anywhere p) (steps_are_functions anywhere p) i j (start p word) ending.moment lines.3.0
+        let goes = run_goes_on (MachineRunsTo anywhere p) (steps_are_functions anywhere p) i j (start p word)
+        ending.moment lines.3.0
         later ending.run lines.3.1
         in
         absurd (ends_there p n i j ending.moment goes.0 e ending.ends (omega (arith, few)) later goes.1)

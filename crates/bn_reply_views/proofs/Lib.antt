@@ -1,4 +1,5 @@
 pub mod AlikeLemmas
+pub mod ScriptLemmas
 pub mod SessionSettledLemmas
 pub mod SessionClosedLemmas
 pub mod ShowingLemmas

@@ -24,8 +24,10 @@ use Rattle.bn_reply_views.specs.Showing.{IsTableBoard, TellsLayers}
 use Rattle.bn_reply_views.specs.ViewReply.{TellsView}
 use Rattle.bn_reply_views.proofs.ViewSettledLemmas.{has_name}
 
-module _ (t : Named) (l : Limits) (symbols : List ℕ) (f : Flat) (m : Translation) (a b : Flattened) (made : IsMade t.machine l symbols f m a)
-    (accepted : IsAccepted t.machine symbols l f) (same : IsSameBoard a b) (steps : ℕ) (ran : b.config ≡ run (rotary_circuit a.net) a.config steps) where
+module _ (t : Named) (l : Limits) (symbols : List ℕ) (f : Flat) (m : Translation) (a b : Flattened)
+    (made : IsMade t.machine l symbols f m a)
+    (accepted : IsAccepted t.machine symbols l f) (same : IsSameBoard a b) (steps : ℕ)
+    (ran : b.config ≡ run (rotary_circuit a.net) a.config steps) where
   start_is : origin a ≡ flat_start f
   start_is = ap (origin_by (rotary_circuit a.net)) made.config ∙ back-zero (rotary_circuit a.net) (flat_start f)
 
@@ -50,12 +52,15 @@ module _ (t : Named) (l : Limits) (symbols : List ℕ) (f : Flat) (m : Translati
     limits = l;
     flat = f;
     is_for = made_for;
-    names = λ e is. subst (λ x. HasNames t x e) made.translation (exit_names t symbols l f made.comes.flat accepted ones boards steps e
-        (subst (λ (c : Config). IsExit f.layout c.place e) config_is (subst (λ (x : Layout). IsExit x b.config.place e) (same.layout ∙ sym made.layout) is)));
+    names = λ e is. subst (λ x. HasNames t x e) made.translation
+        (exit_names t symbols l f made.comes.flat accepted ones boards steps e
+        (subst (λ (c : Config). IsExit f.layout c.place e) config_is
+        (subst (λ (x : Layout). IsExit x b.config.place e) (same.layout ∙ sym made.layout) is)));
   }
 
   -- the text of its view is what is told
-  pub view_tells : ExitsAreNamed → (text : List ℕ) → TellsLayers t f b.config text → TellsView steps t f statuses.Done text []
+  pub view_tells : ExitsAreNamed → (text : List ℕ) → TellsLayers t f b.config text
+      → TellsView steps t f statuses.Done text []
   view_tells exits text tells =
       let there = exits t.machine symbols l f made.comes.flat accepted steps in
       let view : IsViewOf f (board_after f steps) tells.0 = subst (λ c. IsViewOf f c tells.0) config_is tells.1 in

@@ -53,17 +53,25 @@ use Rattle.bn_session.specs.declared.command.Command.{Command}
 use Rattle.bn_session.specs.declared.command.Command.TheVariants as commands
 use Rattle.bn_session.proofs.OneReading.{scripts-one}
 use Rattle.bn_reply_views.specs.Showing.{TellsLayers}
-use Rattle.bn_reply_views.specs.SessionReply.{SessionReplies, TellsSession, cut, faulty, played, state_names_of, uncut}
+use Rattle.bn_reply_views.specs.ScriptReply.{cut, faulty, played, uncut}
+use Rattle.bn_reply_views.specs.SessionReply.{SessionReplies, TellsSession, state_names_of}
 use Rattle.bn_reply_views.specs.PlaceLaws.{PlacesAreOneInAll, SessionsShowViews}
 
 -- ---- the script of one step
 
 -- its text asks for one step
-one_step : (names : List (List ℕ)) (script : List ℕ) (steps : ℕ) → script ≡ script_text (Step steps ∷ []) → steps ≤ greatest → IsScript names script (commands.Step steps ∷ [])
-one_step names script steps is low = record { sentences = Step steps ∷ []; spelled = is; asked = (commands.Step steps, [], refl, low, refl, refl) }
+one_step : (names : List (List ℕ)) (script : List ℕ) (steps : ℕ) → script ≡ script_text (Step steps ∷ [])
+    → steps ≤ greatest → IsScript names script (commands.Step steps ∷ [])
+one_step names script steps is low = record {
+  sentences = Step steps
+      ∷ [];
+  spelled = is;
+  asked = (commands.Step steps, [], refl, low, refl, refl);
+}
 
 -- likewise of one step and a view
-step_and_view : (names : List (List ℕ)) (script : List ℕ) (steps : ℕ) → script ≡ script_text (Step steps ∷ View ∷ []) → steps ≤ greatest → IsScript names script (commands.Step steps ∷ commands.View ∷ [])
+step_and_view : (names : List (List ℕ)) (script : List ℕ) (steps : ℕ) → script ≡ script_text (Step steps ∷ View ∷ [])
+    → steps ≤ greatest → IsScript names script (commands.Step steps ∷ commands.View ∷ [])
 step_and_view names script steps is low = record {
   sentences = Step steps ∷ View ∷ [];
   spelled = is;
@@ -71,25 +79,35 @@ step_and_view names script steps is low = record {
 }
 
 -- the first is answered by one place
-one_place : (t : Named) (f : Flat) (steps : ℕ) (xs : List Command) (end : Session) (text : List ℕ) → xs ≡ commands.Step steps ∷ []
-    → Plays f.circuit (moment_at f.layout) (TellsLayers t f) xs (session (flat_start f) []) end text → text ≡ place_line (board_after f steps) None
+one_place : (t : Named) (f : Flat) (steps : ℕ) (xs : List Command) (end : Session) (text : List ℕ)
+    → xs ≡ commands.Step steps ∷ []
+    → Plays f.circuit (moment_at f.layout) (TellsLayers t f) xs (session (flat_start f) []) end text
+    → text ≡ place_line (board_after f steps) None
 one_place t f steps xs end text same plays =
-    let one : Plays f.circuit (moment_at f.layout) (TellsLayers t f) (commands.Step steps ∷ []) (session (flat_start f) []) end text = subst (λ ys. Plays f.circuit (moment_at f.layout) (TellsLayers t f) ys (session (flat_start f) []) end text) same plays in
-    one.5 ∙ (λ i. one.3.1 i ++ one.4.1 i) ∙ append-nil (place_line one.0.config None) ∙ ap (λ (z : Session). place_line z.config None) one.3.0
+    let one : Plays f.circuit (moment_at f.layout) (TellsLayers t f) (commands.Step steps ∷ [])
+    (session (flat_start f) []) end text = subst (λ ys. Plays f.circuit (moment_at f.layout) (TellsLayers t f) ys
+    (session (flat_start f) []) end text) same plays in
+    one.5 ∙ (λ i. one.3.1 i ++ one.4.1 i) ∙ append-nil (place_line one.0.config None)
+    ∙ ap (λ (z : Session). place_line z.config None) one.3.0
 
 -- the second by a place and the layers there
-place_and_layers : (t : Named) (f : Flat) (steps : ℕ) (xs : List Command) (end : Session) (text : List ℕ) → xs ≡ commands.Step steps ∷ commands.View ∷ []
+place_and_layers : (t : Named) (f : Flat) (steps : ℕ) (xs : List Command) (end : Session) (text : List ℕ)
+    → xs ≡ commands.Step steps ∷ commands.View ∷ []
     → Plays f.circuit (moment_at f.layout) (TellsLayers t f) xs (session (flat_start f) []) end text
-    → (shown : List ℕ) × TellsLayers t f (board_after f steps) shown × (text ≡ place_line (board_after f steps) None ++ shown)
+    → (shown : List ℕ) × TellsLayers t f (board_after f steps) shown
+    × (text ≡ place_line (board_after f steps) None ++ shown)
 place_and_layers t f steps xs end text same plays =
-    let two : Plays f.circuit (moment_at f.layout) (TellsLayers t f) (commands.Step steps ∷ commands.View ∷ []) (session (flat_start f) []) end text = subst (λ ys. Plays f.circuit (moment_at f.layout) (TellsLayers t f) ys (session (flat_start f) []) end text) same plays in
+    let two : Plays f.circuit (moment_at f.layout) (TellsLayers t f) (commands.Step steps ∷ commands.View ∷ [])
+    (session (flat_start f) []) end text = subst (λ ys. Plays f.circuit (moment_at f.layout) (TellsLayers t f) ys
+    (session (flat_start f) []) end text) same plays in
     let at : two.0.config ≡ board_after f steps = ap (λ (z : Session). z.config) two.3.0 in
     let first : two.1 ≡ place_line (board_after f steps) None = two.3.1 ∙ ap (λ (z : Config). place_line z None) at in
     let shown = two.4.1 in
     let rest : two.2 ≡ shown = two.4.5 ∙ (λ i. shown ++ two.4.4.1 i) ∙ append-nil shown in
     (shown, subst (λ c. TellsLayers t f c shown) at two.4.3.1, two.5 ∙ (λ i. first i ++ rest i))
 
-module _ (table script word : List ℕ) (l : Limits) (steps : ℕ) (text stepped : List ℕ) (status : Status) (told heard : List Place) (low : steps ≤ greatest)
+module _ (table script word : List ℕ) (l : Limits) (steps : ℕ) (text stepped : List ℕ) (status : Status)
+    (told heard : List Place) (low : steps ≤ greatest)
     (compiles : CompileReplies word l table Done text told) (step : StepReplies steps text status stepped heard) where
   abbrev h : IsCompiled table word l text
   h = compiled table word l text told compiles
@@ -107,15 +125,19 @@ module _ (table script word : List ℕ) (l : Limits) (steps : ℕ) (text stepped
   there =
       let made = run_makes (circuit_of s) s.config steps in
       let admitted = h.is_text.admitted in
-      let moved = has-text Two (moved_to s c) (spellings-move Two s c admitted (Reaches-IsConfig (circuit_of s) admitted.circuit made.made s.config c admitted.config made.reaches)) in
-      let same : stepped ≡ moved.0 = ((circuits_settled steps text).0.one status Done stepped moved.0 heard (places (circuit_of s) steps s.config) step
-      (walked (record { version = Two; spelling = s; spelled = h.is_text; written = moved.1.is_text; places = refl }) refl)).texts in
+      let moved = has-text Two (moved_to s c) (spellings-move Two s c admitted
+      (Reaches-IsConfig (circuit_of s) admitted.circuit made.made s.config c admitted.config made.reaches)) in
+      let same : stepped ≡ moved.0 = ((circuits_settled steps text).0.one status Done stepped moved.0 heard
+      (places (circuit_of s) steps s.config) step
+      (walked (record { version = Two; spelling = s; spelled = h.is_text; written = moved.1.is_text; places = refl })
+      refl)).texts in
       subst (Spelled Two (moved_to s c)) (sym same) moved.1
 
   -- a board of the table is where the compiled text comes to
   same_place : (g : Flat) → ComesTo t.machine l h.symbols g → c ≡ board_after g steps
   same_place g comes =
-      let same = flats_one t.machine h.symbols l h.flat g (standard_machine tables_machines table t h.reads).0 h.comes.flat comes.flat in
+      let same = flats_one t.machine h.symbols l h.flat g (standard_machine tables_machines table t h.reads).0
+      h.comes.flat comes.flat in
       runs_as t.machine h.symbols l h.flat h.comes.flat s h.board_is h.is_text.admitted.circuit steps
       ∙ after_same h.flat g same (h.comes.flat.limits_are ∙ sym comes.flat.limits_are) steps
 
@@ -130,8 +152,10 @@ module _ (table script word : List ℕ) (l : Limits) (steps : ℕ) (text stepped
 
   viewed : (seen : List ℕ) (none : List Place) → ViewReplies steps word l table Done seen none → Viewed seen
   viewed seen none views =
-      by (word_tells (BoardReplies (TellsView steps t) t.machine l) t (reads_table table t h.reads.reads) word h.symbols Done seen none h.spells
-      (standard_tells (λ u. WordReplies (BoardReplies (TellsView steps u) u.machine l) u word) table t Done seen none h.reads views))
+      by (word_tells (BoardReplies (TellsView steps t) t.machine l) t (reads_table table t h.reads.reads) word h.symbols
+      Done seen none h.spells
+      (standard_tells (λ u. WordReplies (BoardReplies (TellsView steps u) u.machine l) u word) table t Done seen none
+      h.reads views))
     where
       by : BoardReplies (TellsView steps t) t.machine l h.symbols Done seen none → Viewed seen
       by (long far k e n) = absurd (cc)
@@ -142,21 +166,27 @@ module _ (table script word : List ℕ) (l : Limits) (steps : ℕ) (text stepped
   begins : (seen : List ℕ) → Viewed seen → (rest : List ℕ) × (seen ≡ element_line c.place c.steps ++ rest)
   begins seen v =
       let config = same_place v.flat v.comes in
-      let place = v.tells.is_view.place ∙ ap (λ (x : Config). x.place) (sym config) in
-      let made = v.tells.is_view.steps ∙ ap (λ (x : Config). x.steps) (sym config) in
-      (rest_of t v.flat v.tells.view, v.tells.text_is ∙ (λ i. element_line (place i) (made i) ++ rest_of t v.flat v.tells.view))
+      let place = v.tells.is_view.board.place ∙ ap (λ (x : Config). x.place) (sym config) in
+      let made = v.tells.is_view.board.steps ∙ ap (λ (x : Config). x.steps) (sym config) in (
+        rest_of t v.flat v.tells.view,
+        v.tells.text_is ∙ (λ i. element_line (place i) (made i)
+            ++ rest_of t v.flat v.tells.view),
+      )
 
   -- the layers of any board of the table are what the view shows
-  same_text : AreSmall l → (g : Flat) → ComesTo t.machine l h.symbols g → (shown seen : List ℕ) → TellsLayers t g (board_after g steps) shown → Viewed seen → shown ≡ seen
+  same_text : AreSmall l → (g : Flat) → ComesTo t.machine l h.symbols g → (shown seen : List ℕ)
+      → TellsLayers t g (board_after g steps) shown → Viewed seen → shown ≡ seen
   same_text small g comes shown seen layers v =
       let f = v.flat in
-      let same = flats_one t.machine h.symbols l g f (standard_machine tables_machines table t h.reads).0 comes.flat v.comes.flat in
+      let same = flats_one t.machine h.symbols l g f (standard_machine tables_machines table t h.reads).0 comes.flat
+      v.comes.flat in
       let limits : g.limits ≡ f.limits = comes.flat.limits_are ∙ sym v.comes.flat.limits_are in
       let given : IsGiven table word l t h.symbols = record { reads = h.reads; spelled = h.spells; small = small } in
       let accepted = given_accepted tables_machines table word l t h.symbols f given v.comes in
       let made = run_makes f.circuit (flat_start f) steps in
       let moved = view_there g f same limits (turned g f same limits) steps layers.0 layers.1 in
-      let views = one t.machine h.symbols l f v.comes.flat accepted made.made (board_after f steps) made.reaches layers.0 v.tells.view moved v.tells.is_view in
+      let views = one t.machine h.symbols l f v.comes.flat accepted made.made (board_after f steps) made.reaches
+      layers.0 v.tells.view moved v.tells.is_view in
       layers.2 ∙ text_same g f same limits t layers.0 ∙ ap (view_text t f) views ∙ sym v.tells.text_is
 
   -- ---- the session
@@ -167,54 +197,70 @@ module _ (table script word : List ℕ) (l : Limits) (steps : ℕ) (text stepped
     comes : ComesTo t.machine l h.symbols flat
     tells : TellsSession script t flat Done answered silent
 
-  played_by : (bytes answered : List ℕ) (silent : List Place) → IsCut bytes table script → SessionReplies word l bytes Done answered silent → Played answered silent
+  played_by : (bytes answered : List ℕ) (silent : List Place) → IsCut bytes table script
+      → SessionReplies word l bytes Done answered silent → Played answered silent
   played_by bytes answered silent is_cut (uncut uncut_is k e n) = absurd (cc)
   played_by bytes answered silent is_cut (cut front rest also replies) =
       let same = cuts-one bytes table script front rest is_cut also in
       let first = subst (λ z. WindowReplies (TellsSession rest) word l z Done answered silent) (sym same.0) replies in
       let second = subst (λ z. WindowReplies (TellsSession z) word l table Done answered silent) (sym same.1) first in
-      by (word_tells (BoardReplies (TellsSession script t) t.machine l) t (reads_table table t h.reads.reads) word h.symbols Done answered silent h.spells
-      (standard_tells (λ u. WordReplies (BoardReplies (TellsSession script u) u.machine l) u word) table t Done answered silent h.reads second))
+      by (word_tells (BoardReplies (TellsSession script t) t.machine l) t (reads_table table t h.reads.reads) word
+      h.symbols Done answered silent h.spells
+      (standard_tells (λ u. WordReplies (BoardReplies (TellsSession script u) u.machine l) u word) table t Done answered
+      silent h.reads second))
     where
       by : BoardReplies (TellsSession script t) t.machine l h.symbols Done answered silent → Played answered silent
       by (long far k e n) = absurd (cc)
       by (large fits count counts great k e n) = absurd (cc)
       by (board g comes tells) = record { flat = g; comes = comes; tells = tells }
 
-  by_step : (answered : List ℕ) (silent : List Place) → script ≡ script_text (Step steps ∷ []) → (g : Flat) → ComesTo t.machine l h.symbols g → TellsSession script t g Done answered silent
+  by_step : (answered : List ℕ) (silent : List Place) → script ≡ script_text (Step steps ∷ []) → (g : Flat)
+      → ComesTo t.machine l h.symbols g → TellsSession script t g Done answered silent
       → answered ≡ place_line c None
   by_step answered silent is_script g comes (faulty n e is k status_is quiet) = absurd (cc)
-  by_step answered silent is_script g comes (played xs end is plays status_is quiet) =
-      let same = scripts-one (state_names_of t g) script xs (commands.Step steps ∷ []) (states_apart tables_machines table t h.symbols l g h.reads comes) is (one_step (state_names_of t g) script steps is_script low) in
-      one_place t g steps xs end answered same plays ∙ ap (λ (x : Config). place_line x None) (sym (same_place g comes))
+  by_step answered silent is_script g comes (played xs is plays status_is quiet) =
+      let same = scripts-one (state_names_of t g) script xs (commands.Step steps ∷ [])
+      (states_apart tables_machines table t h.symbols l g h.reads comes) is
+      (one_step (state_names_of t g) script steps is_script low) in
+      one_place t g steps xs plays.0 answered same plays.1 ∙ ap (λ (x : Config). place_line x None)
+      (sym (same_place g comes))
 
-  by_step_and_view : (answered seen : List ℕ) (silent : List Place) → AreSmall l → script ≡ script_text (Step steps ∷ View ∷ []) → Viewed seen → (g : Flat) → ComesTo t.machine l h.symbols g
+  by_step_and_view : (answered seen : List ℕ) (silent : List Place) → AreSmall l
+      → script ≡ script_text (Step steps ∷ View ∷ []) → Viewed seen → (g : Flat) → ComesTo t.machine l h.symbols g
       → TellsSession script t g Done answered silent → answered ≡ place_line c None ++ seen
   by_step_and_view answered seen silent small is_script v g comes (faulty n e is k status_is quiet) = absurd (cc)
-  by_step_and_view answered seen silent small is_script v g comes (played xs end is plays status_is quiet) =
-      let same = scripts-one (state_names_of t g) script xs (commands.Step steps ∷ commands.View ∷ []) (states_apart tables_machines table t h.symbols l g h.reads comes) is (step_and_view (state_names_of t g) script steps is_script low) in
-      let both = place_and_layers t g steps xs end answered same plays in
+  by_step_and_view answered seen silent small is_script v g comes (played xs is plays status_is quiet) =
+      let same = scripts-one (state_names_of t g) script xs (commands.Step steps ∷ commands.View ∷ [])
+      (states_apart tables_machines table t h.symbols l g h.reads comes) is
+      (step_and_view (state_names_of t g) script steps is_script low) in
+      let both = place_and_layers t g steps xs plays.0 answered same plays.1 in
       let shown = same_text small g comes both.0 seen both.1 v in
       both.2 ∙ (λ i. place_line (sym (same_place g comes) i) None ++ shown i)
 
 pub places-one : PlacesAreOneInAll
-places-one bytes table script word l steps text stepped seen answered status told heard none silent is_cut is_script low compiles step views sessions =
+places-one bytes table script word l steps text stepped seen answered status told heard none silent is_cut is_script low
+    compiles step views sessions =
     let h = compiled table word l text told compiles in
     let v = viewed table script word l steps text stepped status told heard low compiles step seen none views in
-    let p = played_by table script word l steps text stepped status told heard low compiles step bytes answered silent is_cut sessions in (
+    let p = played_by table script word l steps text stepped status told heard low compiles step bytes answered silent
+    is_cut sessions in (
       moved_to h.tells (run (circuit_of h.tells) h.tells.config steps),
       there table script word l steps text stepped status told heard low compiles step,
       begins table script word l steps text stepped status told heard low compiles step seen v,
-      by_step table script word l steps text stepped status told heard low compiles step answered silent is_script p.flat p.comes p.tells,
+      by_step table script word l steps text stepped status told heard low compiles step answered silent is_script
+          p.flat p.comes p.tells,
     )
 
 pub sessions-show : SessionsShowViews
-sessions-show bytes table script word l steps text stepped seen answered status told heard none silent small is_cut is_script low compiles step views sessions =
+sessions-show bytes table script word l steps text stepped seen answered status told heard none silent small is_cut
+    is_script low compiles step views sessions =
     let h = compiled table word l text told compiles in
     let v = viewed table script word l steps text stepped status told heard low compiles step seen none views in
-    let p = played_by table script word l steps text stepped status told heard low compiles step bytes answered silent is_cut sessions in (
+    let p = played_by table script word l steps text stepped status told heard low compiles step bytes answered silent
+    is_cut sessions in (
       moved_to h.tells (run (circuit_of h.tells) h.tells.config steps),
       there table script word l steps text stepped status told heard low compiles step,
       begins table script word l steps text stepped status told heard low compiles step seen v,
-      by_step_and_view table script word l steps text stepped status told heard low compiles step answered seen silent small is_script v p.flat p.comes p.tells,
+      by_step_and_view table script word l steps text stepped status told heard low compiles step answered seen silent
+          small is_script v p.flat p.comes p.tells,
     )

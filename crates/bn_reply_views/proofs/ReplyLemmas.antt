@@ -14,14 +14,14 @@ use Rattle.bn_reply.specs.declared.status.Status.TheVariants as statuses
 use Rattle.bn_reply_boards_laws.specs.Windows.{WindowReplies}
 use Rattle.bn_reply_boards.specs.Opened.{IsBoardAsked}
 use Rattle.bn_reply_boards.proofs.AskedLemmas.{board_accepted, board_replies}
-use Rattle.bn_base.specs.Cuts.{IsCut}
-use Rattle.bn_session.specs.Scripts.{ScriptFault, IsFirstScriptFault, IsRefusalOf, IsScript, malformed, no_break, no_state, same_break}
+use Rattle.bn_session.specs.Scripts.{IsFirstScriptFault, IsRefusalOf, IsScript}
 use Rattle.bn_session.specs.declared.command.Command.{Command}
 use Rattle.bn_session.specs.declared.refusal.ScriptRefusal.{ScriptRefusal}
-use Rattle.bn_session.specs.declared.refusal.ScriptRefusal.TheVariants as refusals
 use Rattle.bn_view.specs.Viewed.{IsBoardFor}
-use Rattle.bn_reply_views.specs.SessionReply.{SessionReplies, TellsSession, cut, script_fault_line, faulty, played, state_names_of}
-use Rattle.bn_reply_views.specs.Viewing.{IsAnswerTo, IsScriptRefused}
+use Rattle.bn_reply_views.specs.ScriptReply.{played}
+use Rattle.bn_reply_views.specs.SessionReply.{IsAnswerTo, TellsSession, state_names_of}
+use Rattle.bn_reply_views.specs.Viewing.{IsScriptRefused}
+use Rattle.bn_reply_views.proofs.ScriptLemmas.{script_refused}
 use Rattle.bn_reply_views.proofs.ShowingLemmas.{made_for}
 
 -- what is answered of a board at its start
@@ -31,46 +31,40 @@ Answers t m b script r =
     → TellsSession script t f r.status r.text.items []
 
 -- the names of the states of a board's machine
-states_are : (t : Named) (m : Translation) (names : Naming) → names ≡ translation_names t m → (f : Flat) → f.translation ≡ m → names.states ≡ state_names_of t f
+states_are : (t : Named) (m : Translation) (names : Naming) → names ≡ translation_names t m → (f : Flat)
+    → f.translation ≡ m → names.states ≡ state_names_of t f
 states_are t m names is f same = ap (λ (n : Naming). n.states) (is ∙ ap (translation_names t) (sym same))
 
-module _ (t : Named) (m : Translation) (b : Flattened) (script : List ℕ) (names : Naming) (is : names ≡ translation_names t m) where
+module _ (t : Named) (m : Translation) (b : Flattened) (script : List ℕ) (names : Naming)
+    (is : names ≡ translation_names t m) where
   -- a script that was played
-  pub played_replies : (commands : List Command) → IsScript names.states script commands → (result : Result Reply WantOfMemory) → IfOk result (λ r. r.status ≡ statuses.Done)
-      → IfOk result (λ r. (word : List ℕ) (l : Limits) (f : Flat) → IsBoardFor t.machine word l f m b → b.config ≡ flat_start f → IsAnswerTo t f commands r.text.items)
+  pub played_replies : (commands : List Command) → IsScript names.states script commands
+      → (result : Result Reply WantOfMemory) → IfOk result (λ r. r.status ≡ statuses.Done)
+      → IfOk result (λ r. (word : List ℕ) (l : Limits) (f : Flat) → IsBoardFor t.machine word l f m b
+      → b.config ≡ flat_start f → IsAnswerTo t f commands r.text.items)
       → IfOk result (Answers t m b script)
   played_replies commands read (Err e) status text = tt
   played_replies commands read (Ok r) status text = λ word l f for start.
-      let told = text word l f for start in
-      played commands told.0 (subst (λ xs. IsScript xs script commands) (states_are t m names is f for.translation) read) told.1 status refl
-
-  told : (number : ℕ) (fault : ScriptFault) → IsFirstScriptFault names.states script number fault → (r : Reply) → r.status ≡ statuses.Text → r.text.items ≡ script_fault_line number fault → Answers t m b script r
-  told number fault first r status text word l f for start =
-      faulty number fault (subst (λ xs. IsFirstScriptFault xs script number fault) (states_are t m names is f for.translation) first) text status refl
+      played commands (subst (λ xs. IsScript xs script commands) (states_are t m names is f for.translation) read)
+      (text word l f for start) status refl
 
   -- a script that was refused
-  refused : (refusal : ScriptRefusal) → IsRefusalOf (IsFirstScriptFault names.states script) refusal → (r : Reply) → IsScriptRefused refusal r.status r.text.items → Answers t m b script r
-  refused (refusals.Form n) first r h = told n malformed first r h.0 h.1
-  refused (refusals.NoState n) first r h = told n no_state first r h.0 h.1
-  refused (refusals.SameBreak n) first r h = told n same_break first r h.0 h.1
-  refused (refusals.NoBreak n) first r h = told n no_break first r h.0 h.1
-  refused refusals.NoMemory first r h = absurd h
-
-  pub refused_replies : (refusal : ScriptRefusal) → IsRefusalOf (IsFirstScriptFault names.states script) refusal → (result : Result Reply WantOfMemory) → IfOk result (λ r. IsScriptRefused refusal r.status r.text.items)
+  pub refused_replies : (refusal : ScriptRefusal) → IsRefusalOf (IsFirstScriptFault names.states script) refusal
+      → (result : Result Reply WantOfMemory) → IfOk result (λ r. IsScriptRefused refusal r.status r.text.items)
       → IfOk result (Answers t m b script)
   refused_replies refusal first (Err e) h = tt
-  refused_replies refusal first (Ok r) h = refused refusal first r h
+  refused_replies refusal first (Ok r) h = λ word l f for start.
+      script_refused (state_names_of t f) (IsAnswerTo t f) script refusal
+      (subst (λ xs. IsRefusalOf (IsFirstScriptFault xs script) refusal) (states_are t m names is f for.translation)
+      first) r h
 
 -- what is answered of the board of a table, a word and limits
-pub session_replies : (bytes word : List ℕ) (l : Limits) (t : Named) (m : Translation) (b : Flattened) → IsBoardAsked bytes word l t m b → (script : List ℕ)
-    → (result : Result Reply WantOfMemory) → IfOk result (Answers t m b script) → IfOk result (λ r. WindowReplies (TellsSession script) word l bytes r.status r.text.items [])
+pub session_replies : (bytes word : List ℕ) (l : Limits) (t : Named) (m : Translation) (b : Flattened)
+    → IsBoardAsked bytes word l t m b → (script : List ℕ)
+    → (result : Result Reply WantOfMemory) → IfOk result (Answers t m b script)
+    → IfOk result (λ r. WindowReplies (TellsSession script) word l bytes r.status r.text.items [])
 session_replies bytes word l t m b asked script (Err e) h = tt
 session_replies bytes word l t m b asked script (Ok r) h =
     let for = made_for t l asked.symbols asked.flat m b asked.made (board_accepted bytes word l t m b asked) in
-    board_replies (TellsSession script) bytes word l t m b asked r.status r.text.items [] (h asked.symbols l asked.flat for asked.made.config)
-
--- what is answered to an input that was cut
-pub cut_replies : (word : List ℕ) (l : Limits) (bytes table script : List ℕ) → IsCut bytes table script → (result : Result Reply WantOfMemory)
-    → IfOk result (λ r. WindowReplies (TellsSession script) word l table r.status r.text.items []) → IfOk result (λ r. SessionReplies word l bytes r.status r.text.items [])
-cut_replies word l bytes table script is (Err e) h = tt
-cut_replies word l bytes table script is (Ok r) h = cut table script is h
+    board_replies (TellsSession script) bytes word l t m b asked r.status r.text.items []
+    (h asked.symbols l asked.flat for asked.made.config)

@@ -27,21 +27,26 @@ use Rattle.bn_view.specs.declared.layers.Layers.{Layers}
 use Rattle.bn_reply_views.specs.Showing.{CanBeWritten, IsNamedState, IsTableBoard}
 
 -- five pieces one behind the other
-pub five_pieces : (first a b d e g one two three four five : List ℕ) → first ≡ [] → one ≡ first ++ a → two ≡ one ++ b → three ≡ two ++ d → four ≡ three ++ e → five ≡ four ++ g
+pub five_pieces : (first a b d e g one two three four five : List ℕ) → first ≡ [] → one ≡ first ++ a → two ≡ one ++ b
+    → three ≡ two ++ d → four ≡ three ++ e → five ≡ four ++ g
     → five ≡ a ++ (b ++ (d ++ (e ++ g)))
 five_pieces first a b d e g one two three four five none h1 h2 h3 h4 h5 =
-    h5 ∙ ap (λ x. x ++ g) (h4 ∙ ap (λ x. x ++ e) (h3 ∙ ap (λ x. x ++ d) (h2 ∙ ap (λ x. x ++ b) (h1 ∙ ap (λ x. x ++ a) none))))
+    h5 ∙ ap (λ x. x ++ g) (h4 ∙ ap (λ x. x ++ e) (h3 ∙ ap (λ x. x ++ d)
+    (h2 ∙ ap (λ x. x ++ b) (h1 ∙ ap (λ x. x ++ a) none))))
     ∙ append_assoc ((a ++ b) ++ d) e g ∙ append_assoc (a ++ b) d (e ++ g) ∙ append_assoc a b (d ++ (e ++ g))
 
 -- ---- the name of a state
 
-pub state_known : (t : Named) (m : Translation) (names : Naming) → names ≡ translation_names t m → IsTranslation t.machine m → (a : ℕ) → a < m.machine.states → a < length names.states
+pub state_known : (t : Named) (m : Translation) (names : Naming) → names ≡ translation_names t m
+    → IsTranslation t.machine m → (a : ℕ) → a < m.machine.states → a < length names.states
 state_known t m names is translation a low =
-    let count : length names.states ≡ length m.names = ap (λ (n : Naming). length n.states) is ∙ length-map m.names bennett_state_text in
+    let count : length names.states ≡ length m.names = ap (λ (n : Naming). length n.states) is
+    ∙ length-map m.names bennett_state_text in
     let states = translation.states in
     omega arith
 
-pub state_name : (t : Named) (m : Translation) (names : Naming) → names ≡ translation_names t m → IsTranslation t.machine m → (a : ℕ) → a < m.machine.states
+pub state_name : (t : Named) (m : Translation) (names : Naming) → names ≡ translation_names t m
+    → IsTranslation t.machine m → (a : ℕ) → a < m.machine.states
     → slice_get names.states a ≡ Some (bennett_state_text (name_of m a))
 state_name t m names is translation a low =
     let states = translation.states in
@@ -54,18 +59,34 @@ word_symbols : (p : Program) (word : List ℕ) (l : Limits) (f : Flat) → IsAcc
 word_symbols p word l f accepted = record { each = λ k low. accepted.letters k 0 low }
 
 -- a state that the machine comes to has a name
-named_state : (t : Named) (word : List ℕ) (l : Limits) (f : Flat) → IsAccepted t.machine word l f → (i : ℕ) (s : MachineState) → MachineIsAt t.machine word i s → IsNamedState t s
+named_state : (t : Named) (word : List ℕ) (l : Limits) (f : Flat) → IsAccepted t.machine word l f
+    → (i : ℕ) (s : MachineState) → MachineIsAt t.machine word i s → IsNamedState t s
 named_state t word l f accepted i (Within m) h = tt
 named_state t word l f accepted i (AtState j) h =
     let machine = accepted.standard.machine in
-    let fits = run_fits anywhere t.machine i (start t.machine word) h.0 machine (start_fits t.machine word machine (word_symbols t.machine word l f accepted)) h.1 in
+    let fits = run_fits anywhere t.machine i (start t.machine word) h.0 machine
+    (start_fits t.machine word machine (word_symbols t.machine word l f accepted)) h.1 in
     subst (λ s. s < t.machine.states) h.2 fits.state
 
-letters_one : (p : Program) (word : List ℕ) (l : Limits) (f : Flat) → IsFlatOf p word l f → symbol_count_at f.layout 1 ≡ p.symbols
-letters_one p word l f flat = ap (λ zs. symbol_count_at (record { limits = f.layout.limits; symbols = zs; states = f.layout.states; firsts = f.layout.firsts; awaited = f.layout.awaited }) 1) (symbols_are p word l f flat)
+letters_one : (p : Program) (word : List ℕ) (l : Limits) (f : Flat) → IsFlatOf p word l f
+    → symbol_count_at f.layout 1 ≡ p.symbols
+letters_one p word l f flat = ap (λ zs. symbol_count_at (record {
+  limits = f.layout.limits;
+  symbols = zs;
+  states = f.layout.states;
+  firsts = f.layout.firsts;
+  awaited = f.layout.awaited;
+}) 1) (symbols_are p word l f flat)
 
-letters_three : (p : Program) (word : List ℕ) (l : Limits) (f : Flat) → IsFlatOf p word l f → symbol_count_at f.layout 3 ≡ p.symbols
-letters_three p word l f flat = ap (λ zs. symbol_count_at (record { limits = f.layout.limits; symbols = zs; states = f.layout.states; firsts = f.layout.firsts; awaited = f.layout.awaited }) 3) (symbols_are p word l f flat)
+letters_three : (p : Program) (word : List ℕ) (l : Limits) (f : Flat) → IsFlatOf p word l f
+    → symbol_count_at f.layout 3 ≡ p.symbols
+letters_three p word l f flat = ap (λ zs. symbol_count_at (record {
+  limits = f.layout.limits;
+  symbols = zs;
+  states = f.layout.states;
+  firsts = f.layout.firsts;
+  awaited = f.layout.awaited;
+}) 3) (symbols_are p word l f flat)
 
 module _ (t : Named) (m : Translation) (b : Flattened) (is : IsTableBoard t m b) (kept : IsBoardKept b) where
   pub can_be_written : (v : Layers) → v.place ≡ b.config.place → v.state < m.machine.states
@@ -82,6 +103,8 @@ module _ (t : Named) (m : Translation) (b : Flattened) (is : IsTableBoard t m b)
         exit = is.names v.exit (subst (λ x. IsExit x b.config.place v.exit) for_it.layout view.exit);
         state = low;
         machine = named_state t is.word is.limits f for_it.accepted v.machine_step v.machine machine.at;
-        one = subst (λ (s : Spelled). HaveLetters t 1 s.one.cells) (sym view.tapes) (shown_letters t 1 f.layout _ (λ _. letters_one t.machine is.word is.limits f for_it.flat));
-        three = subst (λ (s : Spelled). HaveLetters t 3 s.three.cells) (sym view.tapes) (shown_letters t 3 f.layout _ (λ _. letters_three t.machine is.word is.limits f for_it.flat));
+        one = subst (λ (s : Spelled). HaveLetters t 1 s.one.cells) (sym view.board.tapes)
+            (shown_letters t 1 f.layout _ (λ _. letters_one t.machine is.word is.limits f for_it.flat));
+        three = subst (λ (s : Spelled). HaveLetters t 3 s.three.cells) (sym view.board.tapes)
+            (shown_letters t 3 f.layout _ (λ _. letters_three t.machine is.word is.limits f for_it.flat));
       }

@@ -1,3 +1,4 @@
+pub mod ScriptReply
 pub mod SessionReply
 pub mod Viewing
 pub mod Kept

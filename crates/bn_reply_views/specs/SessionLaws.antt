@@ -1,14 +1,13 @@
 -- Where a script comes to on the board of a machine: what the laws of playing say where every layer is shown.
 use Rattle.std.specs.Prelude.{◌≡◌, ℕ, List, Option}
 use Rattle.bn_circuits.specs.Stepping.{run}
-use Rattle.bn_circuits.specs.declared.config.Config.{Config}
 use Rattle.bn_machine.specs.Machine.{Program}
 use Rattle.bn_machine.specs.Outcome.{Limits}
 use Rattle.bn_table.specs.Rows.{Named}
 use Rattle.bn_board_spec.specs.Layouts.{moment_at}
 use Rattle.bn_board_spec.specs.Flats.{Flat, IsFlatOf, flat_start}
 use Rattle.bn_session.specs.Laws.{IsLeastHit, IsOnRun}
-use Rattle.bn_session.specs.Plays.{Plays, PlaysOne, Session, place_line, session, stops}
+use Rattle.bn_session.specs.Plays.{Plays, PlaysOne, Session, place_line, stops}
 use Rattle.bn_session.specs.declared.command.Command.{Command}
 use Rattle.bn_session.specs.declared.command.Command.TheVariants.{Step, Back, Go, Rev}
 use Rattle.bn_reply_views.specs.Showing.{TellsLayers}

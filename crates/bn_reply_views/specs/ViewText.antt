@@ -12,7 +12,6 @@ use Rattle.bn_bennett.specs.declared.translated.Stage.{Stage}
 use Rattle.bn_bennett.specs.declared.translated.Stage.TheVariants as stages
 use Rattle.bn_bennett.specs.declared.translated.MachineState.{MachineState}
 use Rattle.bn_bennett.specs.declared.translated.MachineState.TheVariants.{AtState, Within}
-use Rattle.bn_board_spec.specs.declared.exit.Exit.{Exit}
 use Rattle.bn_board_spec.specs.Flats.{Flat}
 use Rattle.bn_reply.specs.Lines.{line, position_text}
 use Rattle.bn_reply_boards.specs.LineNames.{cell_line_text, control_line_text}
@@ -32,16 +31,15 @@ abbrev pub cell_text : ℕ → ℤ → List ℕ
 cell_text tape position =
     codes "module tape " ++ (decimal tape ++ (codes " cell " ++ position_text position))
 
--- the module, with the input line that is entered, or that it is inside; and of a signal that has left its exit
-abbrev pub module_line : Named → Flat → Place → Exit → ModuleAt → List ℕ
-module_line t f p e (ControlLine i) =
-    line (codes "module control line " ∷ control_line_text (symbols_of t.machine) i ∷ [])
-module_line t f p e ControlInside = line (codes "module control inside" ∷ [])
-module_line t f p e (AtCellLine tape position entered) =
+-- the module, of a machine whose tapes have so many symbols, with the input line that is entered, or that it is inside;
+-- and of a signal that has left this line, its exit's
+abbrev pub module_line : List ℕ → List ℕ → ModuleAt → List ℕ
+module_line zs exit (ControlLine i) = line (codes "module control line " ∷ control_line_text zs i ∷ [])
+module_line zs exit ControlInside = line (codes "module control inside" ∷ [])
+module_line zs exit (AtCellLine tape position entered) =
     line (cell_text tape position ∷ codes " line " ∷ cell_line_text entered ∷ [])
-module_line t f p e (CellInside tape position) =
-    line (cell_text tape position ∷ codes " inside" ∷ [])
-module_line t f p e Outside = exit_line t f p e
+module_line zs exit (CellInside tape position) = line (cell_text tape position ∷ codes " inside" ∷ [])
+module_line zs exit Outside = exit
 
 abbrev pub state_line : Name → List ℕ
 state_line name = line (codes "quadruple " ∷ printed.bennett_state_text name ∷ [])
@@ -63,6 +61,6 @@ machine_line t stage state step =
 -- the seven lines
 abbrev pub view_text : Named → Flat → Layers → List ℕ
 view_text t f v =
-    element_line v.place v.steps ++ (module_line t f v.place v.exit v.module
+    element_line v.place v.steps ++ (module_line (symbols_of t.machine) (exit_line t f v.place v.exit) v.module
     ++ (state_line (name_of f.translation v.state) ++ (tape_lines t v.tapes.one v.tapes.two v.tapes.three
     ++ machine_line t v.stage v.machine v.machine_step)))

@@ -8,21 +8,19 @@ use Rattle.bn_machine.specs.Outcome.{Limits}
 use Rattle.bn_table.specs.Rows.{Named}
 use Rattle.bn_bennett.specs.Translation.{Translation, IsTranslation}
 use Rattle.bn_board_spec.specs.declared.exit.Exit.{Exit}
-use Rattle.bn_board_spec.specs.Layouts.{IsExit, moment_at}
-use Rattle.bn_board_spec.specs.Flats.{Flat, flat_start}
+use Rattle.bn_board_spec.specs.Layouts.{IsExit}
+use Rattle.bn_board_spec.specs.Flats.{Flat}
 use Rattle.bn_board.specs.Flattened.{Flattened, origin}
 use Rattle.bn_reply.specs.Lines.{line}
 use Rattle.bn_reply.specs.declared.status.Status.{Status}
 use Rattle.bn_reply.specs.declared.status.Status.TheVariants as statuses
 use Rattle.bn_reply_boards.specs.Shown.{HasNames}
-use Rattle.bn_session.specs.Plays.{Plays, Session, session}
 use Rattle.bn_session.specs.Scripts.{malformed, no_break, no_state, same_break}
-use Rattle.bn_session.specs.declared.command.Command.{Command}
 use Rattle.bn_session.specs.declared.refusal.ScriptRefusal.{ScriptRefusal}
 use Rattle.bn_session.specs.declared.refusal.ScriptRefusal.TheVariants as refusals
 use Rattle.bn_view.specs.Viewed.{IsBoardFor}
 use Rattle.bn_reply_views.specs.Showing.{TellsLayers}
-use Rattle.bn_reply_views.specs.SessionReply.{script_fault_line}
+use Rattle.bn_reply_views.specs.ScriptReply.{script_fault_line}
 
 -- The board is that of a table's machine and of this translation, and the table has names for whatever exit its layout
 -- finds on its run.
@@ -39,12 +37,6 @@ pub record MayShow (t : Named) (m : Translation) (b : Flattened) : Type 0 where
 abbrev pub ShowsLayers : Named → Translation → Flattened → List ℕ → Type 0
 ShowsLayers t m b text =
     (word : List ℕ) (l : Limits) (f : Flat) → IsBoardFor t.machine word l f m b → TellsLayers t f b.config text
-
--- the text is the answer to these commands, played on the board of f from its start
-abbrev pub IsAnswerTo : Named → Flat → List Command → List ℕ → Type 0
-IsAnswerTo t f commands text =
-    (end : Session)
-    × Plays f.circuit (moment_at f.layout) (TellsLayers t f) commands (session (flat_start f) []) end text
 
 -- the line that says this of a script's line, counted from 1
 abbrev pub what_line : ℕ → List ℕ → List ℕ

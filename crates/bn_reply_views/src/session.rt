@@ -7,9 +7,10 @@ ghost use Rattle.bn_machine.specs.Outcome.{Limits};
 ghost use Rattle.bn_board_spec.specs.Flats.{Flat, flat_start};
 ghost use Rattle.bn_reply_boards_laws.specs.Windows.{WindowReplies};
 ghost use Rattle.bn_view.specs.Viewed.{IsBoardFor};
-ghost use Rattle.bn_reply_views.specs.SessionReply.{SessionReplies, TellsSession};
-ghost use Rattle.bn_reply_views.specs.Viewing.{IsAnswerTo, IsScriptRefused, MayShow, what_line};
+ghost use Rattle.bn_reply_views.specs.SessionReply.{IsAnswerTo, SessionReplies, TellsSession};
+ghost use Rattle.bn_reply_views.specs.Viewing.{MayShow};
 
+use crate::script_text::{refuse_script, without_script};
 use crate::viewer::Viewer;
 use bn_assembly::Windows;
 use bn_base::cut_input;
@@ -17,7 +18,7 @@ use bn_bennett::{Translated, names};
 use bn_board::Board;
 use bn_reply::{NoMemory, Reply, Status};
 use bn_reply_boards::{OpenedInput, open_input};
-use bn_session::{Script, ScriptRefusal, play, read_script};
+use bn_session::{Script, play, read_script};
 use bn_table::Table;
 use std::alloc::Global;
 
@@ -35,10 +36,7 @@ pub fn reply_session(
 {
     match cut_input(bytes) {
         Some((table, script)) => session_input(alloc, word, windows, table, script),
-        None => Ok(Reply {
-            text: String::from_str(alloc, "text: no script\n")?.into_bytes(),
-            status: Status::Text,
-        }),
+        None => without_script(alloc),
     }
 }
 
@@ -78,7 +76,7 @@ fn session_board(
     let names = names(alloc, table, translated)?;
     match read_script(alloc, script, &names) {
         Ok(script) => play_script(alloc, table, translated, board, &script),
-        Err(refusal) => refuse(alloc, refusal),
+        Err(refusal) => refuse_script(alloc, refusal),
     }
 }
 
@@ -105,26 +103,4 @@ fn play_script(
         text,
         status: Status::Done,
     })
-}
-
-// The answer to a script with a fault.
-fn refuse(alloc: Global, refusal: ScriptRefusal) -> Result<Reply, NoMemory>
-    ensures { IfOk result (λ r. IsScriptRefused refusal r.status r.text.items) }
-{
-    match refusal {
-        ScriptRefusal::Form { line } => refuse_line(alloc, line, "form"),
-        ScriptRefusal::NoState { line } => refuse_line(alloc, line, "no state"),
-        ScriptRefusal::SameBreak { line } => refuse_line(alloc, line, "same break"),
-        ScriptRefusal::NoBreak { line } => refuse_line(alloc, line, "no break"),
-        ScriptRefusal::NoMemory => Err(NoMemory),
-    }
-}
-
-// The answer to a script with a fault in one of its lines, counted from 1.
-fn refuse_line(alloc: Global, line: u64, what: &str) -> Result<Reply, NoMemory>
-    ensures status { IfOk result (λ r. r.status ≡ Status.Text) }
-    ensures text { IfOk result (λ r. r.text.items ≡ what_line line what.now) }
-{
-    let told = format!(in alloc; "text: script line {line} {what}\n")?;
-    Ok(Reply::of_fault(told.into_bytes()))
 }

@@ -2,10 +2,13 @@
 
 ghost use Rattle.std.specs.Prelude.{◌≡◌, ℕ, ◌<◌, ◌++◌, ◌∷◌, [], List, codes, length, Some, IfOk, OnOk, slice_get};
 ghost use Rattle.bn_netlist_laws.specs.Sentences.{line_of_place};
+ghost use Rattle.bn_bennett_laws.specs.List.{symbols_of};
 ghost use Rattle.bn_bennett.specs.Translation.{IsTranslation};
 ghost use Rattle.bn_board_spec.specs.Flats.{Flat};
 ghost use Rattle.bn_reply.specs.Lines.{line};
+ghost use Rattle.bn_reply_boards.specs.LineNames.{AreFew, counts_in};
 ghost use Rattle.bn_reply_boards.specs.Shown.{HasNames};
+ghost use Rattle.bn_reply_boards_laws.specs.RunText.{exit_line};
 ghost use Rattle.bn_reply_views.specs.ViewText.{cell_text, element_line, machine_line, machine_text, module_line};
 ghost use Rattle.bn_reply_views.specs.ViewText.{stage_text, view_text};
 ghost use Rattle.bn_reply_views.specs.Showing.{CanBeWritten, IsNamedState};
@@ -16,7 +19,9 @@ use bn_bennett::{MachineState, Stage, Translated, names};
 use bn_net::Place;
 use bn_quad::QuadNames;
 use bn_reply::{NoMemory, push, push_position};
-use bn_reply_boards::{push_cell_line, push_control_line, push_exit, push_tapes};
+use bn_reply_boards::{
+    SymbolCounts, counts_of_table, push_cell_line, push_control_line, push_exit, push_tapes,
+};
 use bn_table::Table;
 use bn_view::{Layers, ModuleAt};
 use std::alloc::Global;
@@ -36,15 +41,15 @@ pub(crate) fn view_text(
     let names = names(alloc, table, translated)?;
     let mut text = Vec::new(alloc);
     push_element(&mut text, layers.place, layers.steps)?;
-    push_module(&mut text, table, translated, layers)?;
+    push_where(&mut text, table, translated, layers)?;
     push_state(&mut text, &names, layers.state)?;
     push_tapes(&mut text, table, &layers.tapes)?;
     push_machine(&mut text, table, layers)?;
     Ok(text)
 }
 
-// Appends the line that says where the signal is, and after how many steps.
-fn push_element(text: &mut Vec<u8>, place: Place, steps: u64) -> Result<(), NoMemory>
+/// Appends the line that says where the signal is, and after how many steps.
+pub fn push_element(text: &mut Vec<u8>, place: Place, steps: u64) -> Result<(), NoMemory>
     requires { (line_of_place place).line < 4 }
     ensures { OnOk result (text.new.items ≡ text.old.items ++ element_line place steps) }
 {
@@ -56,7 +61,7 @@ fn push_element(text: &mut Vec<u8>, place: Place, steps: u64) -> Result<(), NoMe
 }
 
 // Appends the line of the module in which the signal is, or by which exit it has left.
-fn push_module(
+fn push_where(
     text: &mut Vec<u8>,
     table: &Table,
     translated: &Translated,
@@ -65,12 +70,29 @@ fn push_module(
     requires line { (line_of_place layers.now.place).line < 4 }
     requires names { HasNames table.now translated.now layers.now.exit }
     ensures { OnOk result ((f : Flat) → f.translation ≡ translated.now → text.new.items
-        ≡ text.old.items ++ module_line table.now f layers.now.place layers.now.exit layers.now.module) }
+        ≡ text.old.items ++ module_line (symbols_of table.now.machine)
+        (exit_line table.now f layers.now.place layers.now.exit) layers.now.module) }
 {
     match layers.module {
+        ModuleAt::Outside => push_exit(text, table, translated, layers.place, layers.exit),
+        inside => push_module(text, counts_of_table(table), inside),
+    }
+}
+
+/// Appends the line of the module in which the signal is, of a board of a machine whose tapes have so many symbols;
+/// none where the signal has left.
+pub fn push_module(
+    text: &mut Vec<u8>,
+    counts: SymbolCounts,
+    signal: ModuleAt,
+) -> Result<(), NoMemory>
+    requires { AreFew counts }
+    ensures { OnOk result (text.new.items ≡ text.old.items ++ module_line (counts_in counts) [] signal) }
+{
+    match signal {
         ModuleAt::ControlLine(line) => {
             push(text, b"module control line ")?;
-            push_control_line(text, table, line)?;
+            push_control_line(text, counts, line)?;
             push(text, b"\n")
         }
         ModuleAt::ControlInside => push(text, b"module control inside\n"),
@@ -88,7 +110,7 @@ fn push_module(
             push_cell(text, tape, position)?;
             push(text, b" inside\n")
         }
-        ModuleAt::Outside => push_exit(text, table, translated, layers.place, layers.exit),
+        ModuleAt::Outside => Ok(()),
     }
 }
 

@@ -29,14 +29,14 @@ impl<'a> Shows for Viewer<'a> {
         // (for the prover: the contract of this call tells what the type keeps.)
         let _elements = board.len();
         let text = layers_text(alloc, self.table, self.translated, board)?;
-        push(out, text.as_slice())
+        push_bytes(out, text.as_slice())
     }
 
     ghost keeps = { λ v b c same may. may_show_same v.table.now v.translated.now b c same may };
 }
 
-// Appends some bytes. After `NoMemory` nothing was appended.
-fn push(text: &mut Vec<u8>, bytes: &[u8]) -> Result<(), NoMemory>
+/// Appends some bytes. After `NoMemory` nothing was appended.
+pub fn push_bytes(text: &mut Vec<u8>, bytes: &[u8]) -> Result<(), NoMemory>
     ensures ok { OnOk result (text.new.items ≡ text.old.items ++ bytes.now) }
     ensures err { OnErr result (text.new.items ≡ text.old.items) }
 {

@@ -10,7 +10,8 @@ use Rattle.bn_reply_boards_laws.proofs.RunLemmas.{exits-named, moments-counted}
 use Rattle.bn_windows_laws.specs.AutoReply.{AutoIsSettled}
 use Rattle.bn_windows_laws.specs.AutoLaws.{AnswersTellFoundWindow, AutosEndInside, AutosTellFindings, AutosTellPlaces}
 use Rattle.bn_windows_laws.proofs.AutoLemmas.{Answers, auto-settled, rounds-begin}
-use Rattle.bn_windows_laws.proofs.FoundLemmas.{answers-tell_found, autos-end_inside, autos-tell_findings, autos-tell_places}
+use Rattle.bn_windows_laws.proofs.FoundLemmas.{answers-tell_found, autos-end_inside, autos-tell_findings}
+use Rattle.bn_windows_laws.proofs.FoundLemmas.{autos-tell_places}
 use Rattle.bn_windows_laws.proofs.RoundLemmas.{Boards}
 use Rattle.bn_windows_laws.proofs.SearchLemmas.{search-ends}
 use Rattle.bn_reply_windows.specs.Laws.{RoundsBeginSearches, RoundsGoOn}
@@ -23,10 +24,23 @@ pub moments : MomentsAreCounted
 moments = moments-counted run_to_exit have_moments
 
 boards : Boards
-boards = record { machines = tables_machines; flats = flats_there; ones = flats_one; counted = counted; exits_one = exits-one; runs = run_to_exit }
+boards = record {
+  machines = tables_machines;
+  flats = flats_there;
+  ones = flats_one;
+  counted = counted;
+  exits_one = exits-one;
+  runs = run_to_exit;
+}
 
 answers : Answers
-answers = record { boards = boards; settled = run_settled; tells = runs-tell_outcomes tables_machines exits-one run_to_exit moments; ends = search-ends flats_there counted }
+answers = record {
+  boards = boards;
+  settled = run_settled;
+  tells = runs-tell_outcomes tables_machines exits-one
+      run_to_exit moments;
+  ends = search-ends flats_there counted;
+}
 
 -- the search goes on from round to round, and its rounds begin an answer
 pub go_on : RoundsGoOn

@@ -25,32 +25,42 @@ use Rattle.bn_reply_windows.specs.Laws.{GoesOn, MayWiden, RoundsBeginSearches, R
 
 -- the number of each end of a whole window is 1 at least
 number_some : (w : Limits) (tape : ℕ) (side : Side) → IsWhole w → IsEnd tape side → 1 ≤ number_at w tape side
-number_some w tape side whole end = by_end (λ t s. 1 ≤ number_at w t s) whole.left whole.right whole.steps whole.output tape side end
+number_some w tape side whole end = by_end (λ t s. 1 ≤ number_at w t s) whole.left whole.right whole.steps whole.output
+    tape side end
 
-module _ (laws : Boards) (bytes letters : List ℕ) (t : Named) (symbols : List ℕ) (given : IsWordGiven bytes letters t symbols) (n : ℕ) (w : Limits)
+module _ (laws : Boards) (bytes letters : List ℕ) (t : Named) (symbols : List ℕ)
+    (given : IsWordGiven bytes letters t symbols) (n : ℕ) (w : Limits)
     (told : List Place) (made : MakeRounds t.machine symbols n (first_window symbols) w told) where
   way : Reaches (Widens t.machine symbols) n (first_window symbols) w
-  way = rounds_search laws bytes letters t symbols given n (first_window symbols) w told (first_on_way t.machine symbols) made
+  way = rounds_search laws bytes letters t symbols given n (first_window symbols) w told
+      (first_on_way t.machine symbols) made
 
   on : IsOnTheWay symbols w
-  on = stays_on_way t.machine symbols (standard laws bytes letters t symbols given) n (first_window symbols) w (first_on_way t.machine symbols) way
+  on = stays_on_way t.machine symbols (standard laws bytes letters t symbols given) n (first_window symbols) w
+      (first_on_way t.machine symbols) way
 
   few_rounds : n ≤ MOST_ELEMENTS + 1
   few_rounds =
       let start = first_window symbols in
-      let flat = laws.flats t.machine symbols start (standard laws bytes letters t symbols given) (fits_table laws bytes letters t symbols given) in
-      rounds_short t.machine symbols (standard laws bytes letters t symbols given) start (size flat.0.network.tables) (laws.counted.1 t.machine symbols start flat.0 flat.1)
+      let flat = laws.flats t.machine symbols start (standard laws bytes letters t symbols given)
+      (fits_table laws bytes letters t symbols given) in
+      rounds_short t.machine symbols (standard laws bytes letters t symbols given) start (size flat.0.network.tables)
+      (laws.counted.1 t.machine symbols start flat.0 flat.1)
       laws.counted n w way
 
-  wider : (tape : ℕ) (side : Side) (places : List Place) → LeavesBy t.machine symbols w tape side places → MayWiden w tape side
+  wider : (tape : ℕ) (side : Side) (places : List Place) → LeavesBy t.machine symbols w tape side places
+      → MayWiden w tape side
   wider tape side places leaves =
       let some = outcome_exists t.machine symbols w in
-      let is = leaves_outside laws bytes letters t symbols given w on leaves.flat leaves.comes tape side leaves.leaves some.0 some.1 some.2 in
-      let end = ends-four t.machine symbols w some.0 tape side (subst (HasOutcome t.machine symbols w some.0) is some.2) in
+      let is = leaves_outside laws bytes letters t symbols given w on leaves.flat leaves.comes tape side leaves.leaves
+      some.0 some.1 some.2 in
+      let end = ends-four t.machine symbols w some.0 tape side (subst (HasOutcome t.machine symbols w some.0) is some.2)
+      in
       record {
         end = end;
         some = number_some w tape side on.whole end;
-        low = numbers-stay_low t.machine w tape side (standard laws bytes letters t symbols given) (has_board laws bytes letters t symbols given w on leaves.flat leaves.comes);
+        low = numbers-stay_low t.machine w tape side (standard laws bytes letters t symbols given)
+            (has_board laws bytes letters t symbols given w on leaves.flat leaves.comes);
       }
 
   pub goes_on : GoesOn t.machine symbols n w

@@ -19,20 +19,38 @@ use Rattle.bn_reply_windows.specs.Rounds.{HasCome, LeavesBy}
 use Rattle.bn_reply_windows.specs.Laws.{BeginsSearch}
 
 -- one round more
-rounds_more : (p : Program) (symbols : List ℕ) (n : ℕ) (w v u : Limits) (told more : List Place) → MakeRounds p symbols n w v told → IsRound p symbols v u more
+rounds_more : (p : Program) (symbols : List ℕ) (n : ℕ) (w v u : Limits) (told more : List Place)
+    → MakeRounds p symbols n w v told → IsRound p symbols v u more
     → MakeRounds p symbols (suc n) w u (told ++ more)
-rounds_more p symbols zero w v u told more made round =
-    (u, more, [], subst (λ x. IsRound p symbols x u more) (sym made.0) round, (refl, refl), ap (λ ps. ps ++ more) made.1 ∙ sym (append-nil more))
-rounds_more p symbols (suc n) w v u told more made round =
-    (made.0, made.1, made.2 ++ more, made.3, rounds_more p symbols n made.0 v u made.2 more made.4 round, ap (λ ps. ps ++ more) made.5 ∙ append_assoc made.1 made.2 more)
+rounds_more p symbols zero w v u told more made round = (
+  u,
+  more,
+  [],
+  subst (λ x. IsRound p symbols x u more) (sym made.0) round,
+  (refl, refl),
+  ap (λ ps. ps ++ more) made.1
+      ∙ sym (append-nil more),
+)
+rounds_more p symbols (suc n) w v u told more made round = (
+  made.0,
+  made.1,
+  made.2 ++ more,
+  made.3,
+  rounds_more p symbols n made.0 v u made.2 more made.4 round,
+  ap
+      (λ ps. ps ++ more) made.5 ∙ append_assoc made.1 made.2 more,
+)
 
 -- before the first round
-pub none_made : (p : Program) (symbols : List ℕ) (w : Limits) (told : Option (List Place)) → w ≡ first_window symbols → HasCome p symbols 0 w told told
+pub none_made : (p : Program) (symbols : List ℕ) (w : Limits) (told : Option (List Place)) → w ≡ first_window symbols
+    → HasCome p symbols 0 w told told
 none_made p symbols w told is = record { before = []; made = (sym is, refl); hears = hears-nothing told }
 
-module _ (t : Named) (symbols : List ℕ) (n : ℕ) (w : Limits) (told mid : Option (List Place)) (come : HasCome t.machine symbols n w told mid) where
+module _ (t : Named) (symbols : List ℕ) (n : ℕ) (w : Limits) (told mid : Option (List Place))
+    (come : HasCome t.machine symbols n w told mid) where
   -- after one round more
-  pub come_on : (tape : ℕ) (side : Side) (heard : Option (List Place)) → (round : (places : List Place) × LeavesBy t.machine symbols w tape side places × Hears mid places heard)
+  pub come_on : (tape : ℕ) (side : Side) (heard : Option (List Place))
+      → (round : (places : List Place) × LeavesBy t.machine symbols w tape side places × Hears mid places heard)
       → (v : Limits) → v ≡ widened w tape side → HasCome t.machine symbols (n + 1) v told heard
   come_on tape side heard round v is =
       let one : IsRound t.machine symbols w v round.0 = record {
@@ -53,10 +71,20 @@ module _ (t : Named) (symbols : List ℕ) (n : ℕ) (w : Limits) (told mid : Opt
       }
 
   -- what is answered in the window to which they lead is an answer to the search
-  ends_search : (s : Status) (text : List ℕ) (places : List Place) → EndReplies t symbols w s text places → SearchReplies t symbols s text (come.before ++ places)
-  ends_search s text places h = record { rounds = n; last = w; before = come.before; behind = places; made = come.made; ends = h; told_is = refl }
+  ends_search : (s : Status) (text : List ℕ) (places : List Place) → EndReplies t symbols w s text places
+      → SearchReplies t symbols s text (come.before ++ places)
+  ends_search s text places h = record {
+    rounds = n;
+    last = w;
+    before = come.before;
+    behind = places;
+    made = come.made;
+    ends = h;
+    told_is = refl;
+  }
 
-  pub come_ends : (r : Reply) (heard : Option (List Place)) → IsReplied (EndReplies t symbols w) r mid heard → IsAnswered (SearchReplies t symbols) (Ok r) told heard
+  pub come_ends : (r : Reply) (heard : Option (List Place)) → IsReplied (EndReplies t symbols w) r mid heard
+      → IsAnswered (SearchReplies t symbols) (Ok r) told heard
   come_ends r heard h = record {
     replied = record {
       places = come.before ++ h.places;
@@ -67,14 +95,18 @@ module _ (t : Named) (symbols : List ℕ) (n : ℕ) (w : Limits) (told mid : Opt
   }
 
   -- and where memory is wanting in it, what was heard begins one
-  unfinished : (heard : Option (List Place)) → BeginsSearch t symbols come.before → IsUnfinished (EndReplies t symbols w) mid heard → IsUnfinished (SearchReplies t symbols) told heard
+  unfinished : (heard : Option (List Place)) → BeginsSearch t symbols come.before
+      → IsUnfinished (EndReplies t symbols w) mid heard → IsUnfinished (SearchReplies t symbols) told heard
   unfinished heard begins (untold h) =
       told_some begins.status begins.text begins.told (come.before ++ []) begins.rest begins.replies
-      (begins.begins ∙ ap (λ ps. ps ++ begins.rest) (sym (append-nil come.before))) (hears-joins told mid heard come.before [] come.hears h)
+      (begins.begins ∙ ap (λ ps. ps ++ begins.rest) (sym (append-nil come.before)))
+      (hears-joins told mid heard come.before [] come.hears h)
   unfinished heard begins (told_some s text places front rest h cut hears) =
       told_some s text (come.before ++ places) (come.before ++ front) rest (ends_search s text places h)
-      (ap (λ ps. come.before ++ ps) cut ∙ sym (append_assoc come.before front rest)) (hears-joins told mid heard come.before front come.hears hears)
+      (ap (λ ps. come.before ++ ps) cut ∙ sym (append_assoc come.before front rest))
+      (hears-joins told mid heard come.before front come.hears hears)
 
-  pub come_wanting : (e : NoMemory) (heard : Option (List Place)) → BeginsSearch t symbols come.before → IsUnfinished (EndReplies t symbols w) mid heard
+  pub come_wanting : (e : NoMemory) (heard : Option (List Place)) → BeginsSearch t symbols come.before
+      → IsUnfinished (EndReplies t symbols w) mid heard
       → IsAnswered (SearchReplies t symbols) (Err e) told heard
   come_wanting e heard begins h = record { replied = tt; interrupted = unfinished heard begins h }

@@ -10,18 +10,22 @@ use Rattle.bn_windows_laws.specs.AutoLaws.{AutosEndInside, AutosTellFindings, Au
 use Rattle.bn_reply_windows.specs.Told.{HearsSearch, TellsSearch}
 
 module _ (bytes letters : List ℕ) (told heard : Option (List Place)) where
-  pub found_of : AutosTellFindings → (result : Result Reply NoMemory) → IfOk result (λ r. IsReplied (AutoReplies letters bytes) r told heard)
+  pub found_of : AutosTellFindings → (result : Result Reply NoMemory)
+      → IfOk result (λ r. IsReplied (AutoReplies letters bytes) r told heard)
       → IfOk result (λ r. TellsSearch bytes letters r.status r.text.items)
-  found_of law (Ok r) h = λ t symbols given n a finding. law bytes letters t symbols r.status r.text.items h.places given h.right n a finding
+  found_of law (Ok r) h = λ t symbols given n a finding. law bytes letters t symbols r.status r.text.items h.places
+      given h.right n a finding
   found_of law (Err e) h = tt
 
-  pub told_of : AutosTellPlaces → (result : Result Reply NoMemory) → IfOk result (λ r. IsReplied (AutoReplies letters bytes) r told heard)
+  pub told_of : AutosTellPlaces → (result : Result Reply NoMemory)
+      → IfOk result (λ r. IsReplied (AutoReplies letters bytes) r told heard)
       → IfOk result (λ r. HearsSearch bytes letters told heard)
   told_of law (Ok r) h = λ t symbols given n a finding.
       (h.places, law bytes letters t symbols r.status r.text.items h.places given h.right n a finding, h.hears)
   told_of law (Err e) h = tt
 
-  pub inside_of : AutosEndInside → (result : Result Reply NoMemory) → IfOk result (λ r. IsReplied (AutoReplies letters bytes) r told heard)
+  pub inside_of : AutosEndInside → (result : Result Reply NoMemory)
+      → IfOk result (λ r. IsReplied (AutoReplies letters bytes) r told heard)
       → IfOk result (λ r. (r.status ≢ statuses.Window) × (r.status ≢ statuses.Inside))
   inside_of law (Ok r) h = law bytes letters r.status r.text.items h.places h.right
   inside_of law (Err e) h = tt

@@ -36,8 +36,7 @@ pub record RanBy (f : Flat) (tape : ℕ) (side : Side) (told : List Place) : Typ
   pub told_is : told ≡ places f.circuit (budget f None) (flat_start f)
 
 -- the text is the line of this window and that of the run of f, by what its layout finds; the signal leaves by no end
--- of
--- a tape
+-- of a tape
 pub record TellsEnd (t : Named) (f : Flat) (w : Limits) (status : Status) (text : List ℕ)
     (told : List Place) : Type 0 where
   pub ran : List ℕ

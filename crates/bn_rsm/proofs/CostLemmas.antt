@@ -5,7 +5,8 @@ use Rattle.bn_rsm.specs.Costs.{pass_cost, move_cost, loose_cost}
 use Rattle.bn_rsm.specs.Laws.{CostsAreBounded}
 
 -- some of m columns are passed at p each, and some of them at s each
-in_all : (m k a b p s : ℕ) → a ≤ m → b ≤ m → p ≤ 2 * k + 2 → s ≤ 2 * k + 2 → a * p + 2 * (k + 2) + b * s ≤ 4 * ((m + 1) * (k + 1))
+in_all : (m k a b p s : ℕ) → a ≤ m → b ≤ m → p ≤ 2 * k + 2 → s ≤ 2 * k + 2
+    → a * p + 2 * (k + 2) + b * s ≤ 4 * ((m + 1) * (k + 1))
 in_all m k a b p s before after first second =
     let left : a * p ≤ m * (2 * k + 2) = mul-le-mul before first in
     let right : b * s ≤ m * (2 * k + 2) = mul-le-mul after second in
@@ -26,6 +27,7 @@ costs-bounded n k q i r o state line next out =
     let second : pass_cost k o ≤ 2 * k + 2 = omega arith in
     let before : q ≤ n - 1 = omega arith in
     let after : n - (r + 1) ≤ n - 1 = omega arith in (
-      subst (λ x. move_cost n k q i r o ≤ 4 * (x * (k + 1))) one_more (in_all (n - 1) k q (n - (r + 1)) (pass_cost k i) (pass_cost k o) before after first second),
+      subst (λ x. move_cost n k q i r o ≤ 4 * (x * (k + 1))) one_more
+          (in_all (n - 1) k q (n - (r + 1)) (pass_cost k i) (pass_cost k o) before after first second),
       subst (λ x. loose_cost k q i ≤ 4 * (x * (k + 1))) one_more (to_loose (n - 1) k q (pass_cost k i) before first),
     )

@@ -1,5 +1,6 @@
 -- The numbers of the moves that leave and lead to a pair, and what the table of the moves has there.
-use Rattle.std.proofs.Common.{◌≡◌, ℕ, suc, ◌+◌, ◌-◌, ◌≤◌, Bool, true, false, cond, List, [], ◌∷◌, ◌++◌, length, map, Option, Some, None, slice_get, refl, sym, ◌∙◌, arith}
+use Rattle.std.proofs.Common.{◌≡◌, ℕ, suc, ◌+◌, ◌-◌, ◌≤◌, Bool, true, false, cond, List, [], ◌∷◌, ◌++◌, length, map}
+use Rattle.std.proofs.Common.{Option, Some, None, slice_get, refl, sym, ◌∙◌, arith}
 use Rattle.std.specs.List.{position_from}
 use Rattle.std.specs.HashMap.{get}
 use Rattle.bn_element.specs.Tables.{go_by, back_by}
@@ -13,11 +14,15 @@ abbrev pub pushed : Option ℕ → Bool → ℕ → Option ℕ
 pushed (Some n) b k = Some n
 pushed None b k = cond b (Some k) None
 
-push_by : {X : Type 0} (t : X → Bool) (a k : ℕ) (b : Bool) (xs : List X) (y : X) → position_from t (a + 1) (xs ++ y ∷ []) ≡ pushed (position_from t (a + 1) xs) (t y) k → cond b (Some a) (position_from t (a + 1) (xs ++ y ∷ [])) ≡ pushed (cond b (Some a) (position_from t (a + 1) xs)) (t y) k
+push_by : {X : Type 0} (t : X → Bool) (a k : ℕ) (b : Bool) (xs : List X) (y : X)
+    → position_from t (a + 1) (xs ++ y ∷ []) ≡ pushed (position_from t (a + 1) xs) (t y) k
+    → cond b (Some a) (position_from t (a + 1) (xs ++ y ∷ []))
+    ≡ pushed (cond b (Some a) (position_from t (a + 1) xs)) (t y) k
 push_by t a k true xs y rest = refl
 push_by t a k false xs y rest = rest
 
-pub position_from-push : {X : Type 0} (t : X → Bool) (a k : ℕ) (xs : List X) (y : X) → k ≡ a + length xs → position_from t a (xs ++ y ∷ []) ≡ pushed (position_from t a xs) (t y) k
+pub position_from-push : {X : Type 0} (t : X → Bool) (a k : ℕ) (xs : List X) (y : X) → k ≡ a + length xs
+    → position_from t a (xs ++ y ∷ []) ≡ pushed (position_from t a xs) (t y) k
 position_from-push t a k [] y sum = let e : k ≡ a = omega arith in rw e refl
 position_from-push t a k (x ∷ xs) y sum = push_by t a k (t x) xs y (position_from-push t (a + 1) k xs y (omega arith))
 
@@ -34,7 +39,9 @@ pub record IsMoveTo (ms : List RsmMove) (a r o n : ℕ) : Type 0 where
   pub stands : slice_get ms (n - a) ≡ Some found
   pub comes : back_by (map move_of ms) r o ≡ Some (found.state, found.line)
 
-from_by : (m : RsmMove) (ms : List RsmMove) (a q i n : ℕ) (b : Bool) → leaves q i m ≡ b → (position_from (leaves q i) (a + 1) ms ≡ Some n → IsMoveFrom ms (a + 1) q i n) → cond b (Some a) (position_from (leaves q i) (a + 1) ms) ≡ Some n → IsMoveFrom (m ∷ ms) a q i n
+from_by : (m : RsmMove) (ms : List RsmMove) (a q i n : ℕ) (b : Bool) → leaves q i m ≡ b
+    → (position_from (leaves q i) (a + 1) ms ≡ Some n → IsMoveFrom ms (a + 1) q i n)
+    → cond b (Some a) (position_from (leaves q i) (a + 1) ms) ≡ Some n → IsMoveFrom (m ∷ ms) a q i n
 from_by m ms a q i n true is later h =
     let e : a ≡ n = cc in
     let first : n - a ≡ 0 = omega arith in
@@ -49,7 +56,9 @@ number-go_by : (ms : List RsmMove) (a q i n : ℕ) → position_from (leaves q i
 number-go_by [] a q i n h = absurd (cc)
 number-go_by (m ∷ ms) a q i n h = from_by m ms a q i n (leaves q i m) refl (number-go_by ms (a + 1) q i n) h
 
-to_by : (m : RsmMove) (ms : List RsmMove) (a r o n : ℕ) (b : Bool) → leads r o m ≡ b → (position_from (leads r o) (a + 1) ms ≡ Some n → IsMoveTo ms (a + 1) r o n) → cond b (Some a) (position_from (leads r o) (a + 1) ms) ≡ Some n → IsMoveTo (m ∷ ms) a r o n
+to_by : (m : RsmMove) (ms : List RsmMove) (a r o n : ℕ) (b : Bool) → leads r o m ≡ b
+    → (position_from (leads r o) (a + 1) ms ≡ Some n → IsMoveTo ms (a + 1) r o n)
+    → cond b (Some a) (position_from (leads r o) (a + 1) ms) ≡ Some n → IsMoveTo (m ∷ ms) a r o n
 to_by m ms a r o n true is later h =
     let e : a ≡ n = cc in
     let first : n - a ≡ 0 = omega arith in
@@ -64,19 +73,25 @@ number-back_by : (ms : List RsmMove) (a r o n : ℕ) → position_from (leads r 
 number-back_by [] a r o n h = absurd (cc)
 number-back_by (m ∷ ms) a r o n h = to_by m ms a r o n (leads r o m) refl (number-back_by ms (a + 1) r o n) h
 
-none_from : (m : RsmMove) (ms : List RsmMove) (a q i : ℕ) (b : Bool) → leaves q i m ≡ b → (position_from (leaves q i) (a + 1) ms ≡ None → go_by (map move_of ms) q i ≡ None) → cond b (Some a) (position_from (leaves q i) (a + 1) ms) ≡ None → go_by (map move_of (m ∷ ms)) q i ≡ None
+none_from : (m : RsmMove) (ms : List RsmMove) (a q i : ℕ) (b : Bool) → leaves q i m ≡ b
+    → (position_from (leaves q i) (a + 1) ms ≡ None → go_by (map move_of ms) q i ≡ None)
+    → cond b (Some a) (position_from (leaves q i) (a + 1) ms) ≡ None → go_by (map move_of (m ∷ ms)) q i ≡ None
 none_from m ms a q i true is later h = absurd (cc)
 none_from m ms a q i false is later h = rw is (later h)
 
-pub no_number-go_by : (ms : List RsmMove) (a q i : ℕ) → position_from (leaves q i) a ms ≡ None → go_by (map move_of ms) q i ≡ None
+pub no_number-go_by : (ms : List RsmMove) (a q i : ℕ) → position_from (leaves q i) a ms ≡ None
+    → go_by (map move_of ms) q i ≡ None
 no_number-go_by [] a q i h = refl
 no_number-go_by (m ∷ ms) a q i h = none_from m ms a q i (leaves q i m) refl (no_number-go_by ms (a + 1) q i) h
 
-none_to : (m : RsmMove) (ms : List RsmMove) (a r o : ℕ) (b : Bool) → leads r o m ≡ b → (position_from (leads r o) (a + 1) ms ≡ None → back_by (map move_of ms) r o ≡ None) → cond b (Some a) (position_from (leads r o) (a + 1) ms) ≡ None → back_by (map move_of (m ∷ ms)) r o ≡ None
+none_to : (m : RsmMove) (ms : List RsmMove) (a r o : ℕ) (b : Bool) → leads r o m ≡ b
+    → (position_from (leads r o) (a + 1) ms ≡ None → back_by (map move_of ms) r o ≡ None)
+    → cond b (Some a) (position_from (leads r o) (a + 1) ms) ≡ None → back_by (map move_of (m ∷ ms)) r o ≡ None
 none_to m ms a r o true is later h = absurd (cc)
 none_to m ms a r o false is later h = rw is (later h)
 
-pub no_number-back_by : (ms : List RsmMove) (a r o : ℕ) → position_from (leads r o) a ms ≡ None → back_by (map move_of ms) r o ≡ None
+pub no_number-back_by : (ms : List RsmMove) (a r o : ℕ) → position_from (leads r o) a ms ≡ None
+    → back_by (map move_of ms) r o ≡ None
 no_number-back_by [] a r o h = refl
 no_number-back_by (m ∷ ms) a r o h = none_to m ms a r o (leads r o m) refl (no_number-back_by ms (a + 1) r o) h
 

@@ -29,7 +29,8 @@ module _ (k : Circuit) where
       by_turn (Some t) = omega arith
 
   -- the cost of m steps and then of n
-  pub cost-joins : (m n : ℕ) (s t : Situation) → Reaches (Turns k) m s t → run_cost k (m + n) s ≡ run_cost k m s + run_cost k n t
+  pub cost-joins : (m n : ℕ) (s t : Situation) → Reaches (Turns k) m s t
+      → run_cost k (m + n) s ≡ run_cost k m s + run_cost k n t
   cost-joins zero n s t path =
       let none = cost-none s in
       let count : zero + n ≡ n = omega arith in
@@ -55,20 +56,24 @@ module _ (k : Circuit) where
       by_move None = omega arith
       by_move (Some m) = omega arith
 
-  has_table : (ts : List Table) (e q i : ℕ) (m : ℕ × ℕ) → go_of ts e q i ≡ Some m → (t : Table) × (slice_get ts e ≡ Some t)
+  has_table : (ts : List Table) (e q i : ℕ) (m : ℕ × ℕ) → go_of ts e q i ≡ Some m
+      → (t : Table) × (slice_get ts e ≡ Some t)
   has_table ts e q i m h = by_option (slice_get ts e) refl h
     where
-      by_option : (o : Option Table) → slice_get ts e ≡ o → option_and_then (λ (t : Table). t.go q i) o ≡ Some m → (t : Table) × (slice_get ts e ≡ Some t)
+      by_option : (o : Option Table) → slice_get ts e ≡ o → option_and_then (λ (t : Table). t.go q i) o ≡ Some m
+          → (t : Table) × (slice_get ts e ≡ Some t)
       by_option None is h = absurd (cc)
       by_option (Some t) is h = (t, is)
 
   pub step_some : (s t : Situation) → Turns k s t → 0 < step_cost k s
   step_some s t g =
       let found = has_table k.tables g.element g.before g.input (g.after, g.output) g.moves in
-      let cost : step_cost k s ≡ table_cost found.0 g.before g.input = ap (entry_cost k s.states) g.enters ∙ rw (g.has_state, found.1) refl in
+      let cost : step_cost k s ≡ table_cost found.0 g.before g.input =
+      ap (entry_cost k s.states) g.enters ∙ rw (g.has_state, found.1) refl in
       rw cost (some_cost found.0 g.before g.input)
 
   -- so does a run of some moves
   pub cost_some : (m : ℕ) (s t : Situation) → 0 < m → Reaches (Turns k) m s t → 0 < run_cost k m s
   cost_some zero s t some path = absurd (omega arith)
-  cost_some (suc m) s t some path = let here = step_some s path.0 path.1 in let more = cost-more m s path.0 path.1 in omega arith
+  cost_some (suc m) s t some path = let here = step_some s path.0 path.1 in let more =
+      cost-more m s path.0 path.1 in omega arith

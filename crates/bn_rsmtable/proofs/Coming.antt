@@ -1,5 +1,6 @@
 -- What a draft with all entries of some bytes comes to.
-use Rattle.std.proofs.Common.{◌≡◌, ◌≢◌, ◌<◌, ◌≤◌, ◌∷◌, ◌∙◌, ℕ, List, [], length, refl, sym, ap, subst, arith, Result, Ok, Err}
+use Rattle.std.proofs.Common.{◌≡◌, ◌≢◌, ◌<◌, ◌≤◌, ◌∷◌, ◌∙◌, ℕ, List, [], length, refl, sym, ap, subst, arith, Result}
+use Rattle.std.proofs.Common.{Ok, Err}
 use Rattle.std.specs.Prelude.{IfOk, OnOk}
 use Rattle.bn_rsm.specs.Machines.{Machine}
 use Rattle.std.proofs.lemmas.List.{length-map}
@@ -19,7 +20,8 @@ use Rattle.bn_rsmtable.specs.declared.refusal.RsmTableRefusal.{RsmTableRefusal}
 use Rattle.bn_rsmtable.specs.declared.refusal.RsmTableRefusal.TheVariants as refusal
 
 -- all entries are read as the draft's moves
-pub come-reads : (entries : List (List (List ℕ))) (d : Draft) → IsDraft d → drafted d ≡ entries → length (drafted d) ≤ MOST_ENTRIES → d.moves.items ≢ [] → AreReadAs entries d.moves.items
+pub come-reads : (entries : List (List (List ℕ))) (d : Draft) → IsDraft d → drafted d ≡ entries
+    → length (drafted d) ≤ MOST_ENTRIES → d.moves.items ≢ [] → AreReadAs entries d.moves.items
 come-reads entries d h all few some =
     let long : length (drafted d) ≡ length d.moves.items = length-map d.moves.items move_entry in
     let has : 0 < length d.moves.items = not-none d.moves.items some in
@@ -30,16 +32,19 @@ come-reads entries d h all few some =
     not-none (m ∷ ms) some = omega arith
 
 -- what is told of the draft's moves is a refusal of the bytes
-pub come-refused : (bytes : List ℕ) (d : Draft) (e : RsmTableRefusal) → IsDraft d → drafted d ≡ entries_of bytes → length (drafted d) ≤ MOST_ENTRIES → IsTold d.moves.items e → IsMoveTableRefusal bytes e
+pub come-refused : (bytes : List ℕ) (d : Draft) (e : RsmTableRefusal) → IsDraft d → drafted d ≡ entries_of bytes
+    → length (drafted d) ≤ MOST_ENTRIES → IsTold d.moves.items e → IsMoveTableRefusal bytes e
 come-refused bytes d (refusal.SameDomain i j) h all few told =
     record { found = d.moves.items; reads = come-reads (entries_of bytes) d h all few (there told); clash = told }
   where
-    there : moves.IsMoveRefusal (states_named d.moves.items) (lines_named d.moves.items) d.moves.items (clash.SameDomain i j) → d.moves.items ≢ []
+    there : moves.IsMoveRefusal (states_named d.moves.items) (lines_named d.moves.items) d.moves.items
+        (clash.SameDomain i j) → d.moves.items ≢ []
     there is empty = let stands = is.stands in let gone = rw empty at stands in cc
 come-refused bytes d (refusal.SameRange i j) h all few told =
     record { found = d.moves.items; reads = come-reads (entries_of bytes) d h all few (there told); clash = told }
   where
-    there : moves.IsMoveRefusal (states_named d.moves.items) (lines_named d.moves.items) d.moves.items (clash.SameRange i j) → d.moves.items ≢ []
+    there : moves.IsMoveRefusal (states_named d.moves.items) (lines_named d.moves.items) d.moves.items
+        (clash.SameRange i j) → d.moves.items ≢ []
     there is empty = let stands = is.stands in let gone = rw empty at stands in cc
 come-refused bytes d refusal.NoMemory h all few told = tt
 come-refused bytes d refusal.Empty h all few told =
@@ -49,8 +54,10 @@ come-refused bytes d (refusal.Number i j) h all few told = absurd told
 come-refused bytes d (refusal.TooMany i) h all few told = absurd told
 
 -- a machine with the draft's moves is the bytes' machine
-pub come-machine : (bytes : List ℕ) (d : Draft) (r : Result Machine RsmTableRefusal) → IsDraft d → drafted d ≡ entries_of bytes → length (drafted d) ≤ MOST_ENTRIES
-    → IfOk r (λ m. m.moves ≡ d.moves.items) → IfOk r (λ m. m.states ≡ states_named d.moves.items) → IfOk r (λ m. m.lines ≡ lines_named d.moves.items) → OnOk r (d.moves.items ≢ []) → IfOk r (ReadsMoves bytes)
+pub come-machine : (bytes : List ℕ) (d : Draft) (r : Result Machine RsmTableRefusal) → IsDraft d
+    → drafted d ≡ entries_of bytes → length (drafted d) ≤ MOST_ENTRIES
+    → IfOk r (λ m. m.moves ≡ d.moves.items) → IfOk r (λ m. m.states ≡ states_named d.moves.items)
+    → IfOk r (λ m. m.lines ≡ lines_named d.moves.items) → OnOk r (d.moves.items ≢ []) → IfOk r (ReadsMoves bytes)
 come-machine bytes d (Ok m) h all few moves states lines some =
     record {
       moves = subst (AreReadAs (entries_of bytes)) (sym moves) (come-reads (entries_of bytes) d h all few some);

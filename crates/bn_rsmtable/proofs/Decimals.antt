@@ -1,5 +1,6 @@
 -- The decimal texts of the numbers of an entry.
-use Rattle.std.specs.Prelude.{◌≡◌, ℕ, ◌+◌, ◌^◌, ◌<◌, ◌≤◌, true, List, [], ◌∷◌, ◌++◌, length, decimal, Result, Ok, Err, refl}
+use Rattle.std.specs.Prelude.{◌≡◌, ℕ, ◌+◌, ◌^◌, ◌<◌, ◌≤◌, true, List, [], ◌∷◌, ◌++◌, length, decimal, Result, Ok, Err}
+use Rattle.std.specs.Prelude.{refl}
 use Rattle.std.specs.List.{list_all}
 use Rattle.std.specs.Str.Parse.{digits_value}
 use Rattle.std.proofs.Common.{zero, suc, sym, ap, ◌∙◌, arith, append-nil}
@@ -22,7 +23,8 @@ plain_digit d low high = grind (arith, nat_tests)
 
 plain_digits : (ds : List ℕ) → AreDigits ds → list_all is_plain_byte ds ≡ true
 plain_digits [] h = refl
-plain_digits (d ∷ ds) h = let first = h 0 (omega arith) in rw (plain_digit d (omega (arith, first)) (omega (arith, first))) (plain_digits ds (λ k l. h (suc k) (omega arith)))
+plain_digits (d ∷ ds) h = let first = h 0 (omega arith) in rw
+    (plain_digit d (omega (arith, first)) (omega (arith, first))) (plain_digits ds (λ k l. h (suc k) (omega arith)))
 
 plain_run : (ds : List ℕ) → 0 < length ds → AreDigits ds → is_plain ds ≡ true
 plain_run [] some h = absurd (omega arith)
@@ -43,7 +45,8 @@ counted e n some few = grind (arith, nat_tests)
 
 -- it is a number of an entry
 pub number_decimal : (n : ℕ) → n < MOST_COUNT → is_number (decimal (n + 1)) ≡ true
-number_decimal n h = ap (is_count (length (decimal (n + 1)))) (read_whole (n + 1) (omega arith)) ∙ counted (length (decimal (n + 1))) (n + 1) (omega arith) (omega arith)
+number_decimal n h = ap (is_count (length (decimal (n + 1)))) (read_whole (n + 1) (omega arith))
+    ∙ counted (length (decimal (n + 1))) (n + 1) (omega arith) (omega arith)
 
 -- what the test of a reading says
 record IsCounted (field : List ℕ) (r : Result (ℕ × ℕ) Digits) : Type 0 where
@@ -71,12 +74,14 @@ pub numbered : (field : List ℕ) → is_number field ≡ true → Numbered fiel
 numbered field h =
     let c = count_is field (read_number field 0) h in
     let takes = read_number-takes field 0 c.number (length field) c.is in
-    let whole : field ≡ decimal c.number = takes.2 ∙ ap (λ rest. decimal c.number ++ rest) (drop_all (length field) field (omega arith)) ∙ append-nil (decimal c.number) in
+    let whole : field ≡ decimal c.number = takes.2 ∙ ap (λ rest. decimal c.number ++ rest)
+    (drop_all (length field) field (omega arith)) ∙ append-nil (decimal c.number) in
     less_one c.number c.some c.few whole
   where
     less_one : (n : ℕ) → 0 < n → n ≤ MOST_COUNT → field ≡ decimal n → Numbered field
     less_one zero some few whole = absurd (omega arith)
-    less_one (suc k) some few whole = let one : suc k ≡ k + 1 = omega arith in record { number = k; spelled = whole ∙ ap decimal one; few = omega arith }
+    less_one (suc k) some few whole = let one : suc k ≡ k + 1 =
+        omega arith in record { number = k; spelled = whole ∙ ap decimal one; few = omega arith }
 
 -- two numbers with one text are one
 pub same_number : (m n : ℕ) → m < MOST_COUNT → n < MOST_COUNT → decimal (m + 1) ≡ decimal (n + 1) → m ≡ n

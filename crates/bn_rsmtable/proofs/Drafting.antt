@@ -1,5 +1,6 @@
 -- Moves as they are gathered: one more, and why none is out of range.
-use Rattle.std.specs.Prelude.{◌≡◌, ℕ, ◌+◌, ◌-◌, ◌<◌, ◌≤◌, max, true, List, [], ◌∷◌, ◌++◌, Some, None, slice_get, All, refl}
+use Rattle.std.specs.Prelude.{◌≡◌, ℕ, ◌+◌, ◌-◌, ◌<◌, ◌≤◌, max, true, List, [], ◌∷◌, ◌++◌, Some, None, slice_get, All}
+use Rattle.std.specs.Prelude.{refl}
 use Rattle.std.proofs.Common.{zero, suc, sym, ap, subst, ◌∙◌, arith}
 use Rattle.std.proofs.lemmas.List.Elements.{All-append, All-cons}
 use Rattle.std.proofs.lemmas.Bool.Decides.{nat_tests}
@@ -13,11 +14,13 @@ use Rattle.bn_rsmtable.specs.Entry.{IsMove, states_named, lines_named}
 use Rattle.bn_rsmtable.specs.declared.draft.Draft.{Draft}
 
 -- one move more
-pub states-push : (ms : List RsmMove) (m : RsmMove) → states_named (ms ++ m ∷ []) ≡ max (max (states_named ms) (m.state + 1)) (m.next + 1)
+pub states-push : (ms : List RsmMove) (m : RsmMove) → states_named (ms ++ m ∷ [])
+    ≡ max (max (states_named ms) (m.state + 1)) (m.next + 1)
 states-push [] m = omega arith
 states-push (x ∷ ms) m = let rest = states-push ms m in omega arith
 
-pub lines-push : (ms : List RsmMove) (m : RsmMove) → lines_named (ms ++ m ∷ []) ≡ max (max (lines_named ms) (m.line + 1)) (m.out + 1)
+pub lines-push : (ms : List RsmMove) (m : RsmMove) → lines_named (ms ++ m ∷ [])
+    ≡ max (max (lines_named ms) (m.line + 1)) (m.out + 1)
 lines-push [] m = omega arith
 lines-push (x ∷ ms) m = let rest = lines-push ms m in omega arith
 
@@ -28,14 +31,20 @@ record IsNamed (s k : ℕ) (m : RsmMove) : Type 0 where
   next : m.next < s
   out : m.out < k
 
-named_at : (ms : List RsmMove) (n : ℕ) (m : RsmMove) → slice_get ms n ≡ Some m → IsNamed (states_named ms) (lines_named ms) m
+named_at : (ms : List RsmMove) (n : ℕ) (m : RsmMove) → slice_get ms n ≡ Some m
+    → IsNamed (states_named ms) (lines_named ms) m
 named_at [] n m e = cc e
 named_at (x ∷ ms) zero m e =
     let same : x ≡ m = cc in
     rw (← same) (record { state = omega arith; line = omega arith; next = omega arith; out = omega arith })
 named_at (x ∷ ms) (suc n) m e =
     let rest = named_at ms n m e in
-    record { state = omega (arith, rest.state); line = omega (arith, rest.line); next = omega (arith, rest.next); out = omega (arith, rest.out) }
+    record {
+      state = omega (arith, rest.state);
+      line = omega (arith, rest.line);
+      next = omega (arith, rest.next);
+      out = omega (arith, rest.out);
+    }
 
 is_within_by : (s k : ℕ) (m : RsmMove) → IsNamed s k m → is_within s k m ≡ true
 is_within_by s k m h = test h.state h.line h.next h.out
@@ -49,7 +58,8 @@ no_clash_there None (Some i) e = cc
 no_clash_there None None e = cc
 
 -- no move is out of the range of what all name
-pub never_outside : (ms : List RsmMove) (j : ℕ) → moves.IsMoveRefusal (states_named ms) (lines_named ms) ms (refused.Range j) → ⊥
+pub never_outside : (ms : List RsmMove) (j : ℕ) → moves.IsMoveRefusal (states_named ms) (lines_named ms) ms
+    (refused.Range j) → ⊥
 never_outside ms j h =
     let named = is_within_by (states_named ms) (lines_named ms) h.faulty (named_at ms (j - 1) h.faulty h.stands) in
     no_clash_there _ _ (rw named at h.here)
@@ -63,7 +73,8 @@ all_moves (m ∷ ms) s k =
 
 -- a draft with one move more
 pub draft-push : (d e : Draft) (m : RsmMove) → IsDraft d → IsMove m → e.moves.items ≡ d.moves.items ++ m ∷ []
-    → e.states ≡ max (max d.states (m.state + 1)) (m.next + 1) → e.lines ≡ max (max d.lines (m.line + 1)) (m.out + 1) → IsDraft e
+    → e.states ≡ max (max d.states (m.state + 1)) (m.next + 1) → e.lines ≡ max (max d.lines (m.line + 1)) (m.out + 1)
+    → IsDraft e
 draft-push d e m h within items states lines =
     let one : All IsMove (m ∷ []) = All-cons IsMove m [] within (λ i x l. absurd (omega arith)) in
     let old_states = h.states in

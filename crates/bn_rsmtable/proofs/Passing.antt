@@ -47,10 +47,17 @@ step_of n fields none = form_step n fields (in_number MOST_ENTRIES refusal.TooMa
 pub no_fault : (n : ℕ) (m : RsmMove) → n ≤ MOST_ENTRIES → IsMove m → move_entry_fault n (move_entry m) ≡ None
 no_fault n m few h =
     within_number MOST_ENTRIES refusal.TooMany move_form_fault n (move_entry m) few
-    ∙ rw (number_decimal m.state h.state, number_decimal m.line h.line, number_decimal m.next h.next, number_decimal m.out h.out) refl
+    ∙ rw (
+      number_decimal m.state h.state,
+      number_decimal m.line h.line,
+      number_decimal m.next h.next,
+      number_decimal
+          m.out h.out,
+    ) refl
 
 -- two moves with one entry are one
-same_fields : (a b c d a2 b2 c2 d2 : List ℕ) → a ∷ b ∷ c ∷ d ∷ [] ≡ a2 ∷ b2 ∷ c2 ∷ d2 ∷ [] → (a ≡ a2) × (b ≡ b2) × (c ≡ c2) × (d ≡ d2)
+same_fields : (a b c d a2 b2 c2 d2 : List ℕ) → a ∷ b ∷ c ∷ d ∷ [] ≡ a2 ∷ b2 ∷ c2 ∷ d2 ∷ []
+    → (a ≡ a2) × (b ≡ b2) × (c ≡ c2) × (d ≡ d2)
 same_fields a b c d a2 b2 c2 d2 e = (cc, cc, cc, cc)
 
 pub same_step : (m n : RsmMove) → IsMove m → IsMove n → move_entry m ≡ move_entry n → m ≡ n

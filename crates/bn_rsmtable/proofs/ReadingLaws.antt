@@ -1,5 +1,6 @@
 -- What bytes are read as: one list of moves, one machine, or one refusal.
-use Rattle.std.specs.Prelude.{◌≡◌, ◌≢◌, ℕ, ◌+◌, ◌≤◌, nat_lt, not, if◌then◌else◌, Bool, true, false, List, [], ◌∷◌, length, Option, Some, None, All, ◌⊎◌, refl}
+use Rattle.std.specs.Prelude.{◌≡◌, ◌≢◌, ℕ, ◌+◌, ◌≤◌, nat_lt, not, if◌then◌else◌, Bool, true, false, List, [], ◌∷◌}
+use Rattle.std.specs.Prelude.{length, Option, Some, None, All, ◌⊎◌, refl}
 use Rattle.std.proofs.Common.{◌++◌, length-append, sym, ap, subst, ◌∙◌, arith, inl, inr}
 use Rattle.std.proofs.lemmas.List.{length-map, map-append}
 use Rattle.std.proofs.lemmas.List.Elements.{All-head, All-nil, All-push, All-tail}
@@ -39,13 +40,16 @@ same_steps (m ∷ ms) (n ∷ ns) h k e =
     let later : ms ≡ ns = same_steps ms ns (All-tail IsMove m ms h) (All-tail IsMove n ns k) rest in
     λ i. here i ∷ later i
 
-pub one_reading : (entries : List (List (List ℕ))) (ms ns : List RsmMove) → AreReadAs entries ms → AreReadAs entries ns → ms ≡ ns
+pub one_reading : (entries : List (List (List ℕ))) (ms ns : List RsmMove) → AreReadAs entries ms → AreReadAs entries ns
+    → ms ≡ ns
 one_reading entries ms ns h k = same_steps ms ns h.within k.within (h.rows ∙ sym k.rows)
 
 -- ---- moves, or a fault
 
-pub no_fault_of : (entries : List (List (List ℕ))) (ms : List RsmMove) → AreReadAs entries ms → move_table_fault entries ≡ None
-no_fault_of entries ms h = none_faulty refusal.Empty move_entry_fault move_entry IsMove MOST_ENTRIES no_fault entries ms h.rows h.some h.few h.within
+pub no_fault_of : (entries : List (List (List ℕ))) (ms : List RsmMove) → AreReadAs entries ms
+    → move_table_fault entries ≡ None
+no_fault_of entries ms h = none_faulty refusal.Empty move_entry_fault move_entry IsMove MOST_ENTRIES no_fault entries ms
+    h.rows h.some h.few h.within
 
 -- the moves of entries without a fault
 record Steps (entries : List (List (List ℕ))) : Type 0 where
@@ -57,7 +61,8 @@ record Steps (entries : List (List (List ℕ))) : Type 0 where
 no_steps : Steps []
 no_steps = record { found = []; rows = refl; within = All-nil IsMove; few = omega arith }
 
-next_step : (done : List (List (List ℕ))) (fields : List (List ℕ)) → Steps done → move_entry_fault (length done + 1) fields ≡ None → Steps (done ++ fields ∷ [])
+next_step : (done : List (List (List ℕ))) (fields : List (List ℕ)) → Steps done
+    → move_entry_fault (length done + 1) fields ≡ None → Steps (done ++ fields ∷ [])
 next_step done fields so none =
     let here = step_of (length done + 1) fields none in
     let bound = (in_number MOST_ENTRIES refusal.TooMany move_form_fault (length done + 1) fields none).0 in
@@ -68,19 +73,41 @@ next_step done fields so none =
       few = omega (arith, bound, length-append done (fields ∷ []));
     }
 
-pub reading_of : (entries : List (List (List ℕ))) → move_table_fault entries ≡ None → (ms : List RsmMove) × AreReadAs entries ms
+pub reading_of : (entries : List (List (List ℕ))) → move_table_fault entries ≡ None
+    → (ms : List RsmMove) × AreReadAs entries ms
 reading_of entries e =
     let (some, steps) = kept_to_last refusal.Empty move_entry_fault Steps no_steps next_step entries e in
     (steps.found, record { rows = steps.rows; within = steps.within; some = some; few = steps.few })
 
 -- ---- a machine, or a refusal
 
-machine_of : (bytes : List ℕ) (ms : List RsmMove) → AreReadAs (entries_of bytes) ms → AreSound (states_named ms) (lines_named ms) ms → (m : Machine) × ReadsMoves bytes m
-machine_of bytes ms reads sound = (record { states = states_named ms; lines = lines_named ms; moves = ms; sound = sound }, record { moves = reads; states = refl; lines = refl })
+machine_of : (bytes : List ℕ) (ms : List RsmMove) → AreReadAs (entries_of bytes) ms
+    → AreSound (states_named ms) (lines_named ms) ms → (m : Machine) × ReadsMoves bytes m
+machine_of bytes ms reads sound = (
+  record {
+    states = states_named ms;
+    lines = lines_named ms;
+    moves = ms;
+    sound = sound;
+  },
+  record { moves = reads; states = refl; lines = refl },
+)
 
-clash_of : (bytes : List ℕ) (ms : List RsmMove) (said : RsmRefusal) → AreReadAs (entries_of bytes) ms → said ≢ clash.NoMemory → moves.IsMoveRefusal (states_named ms) (lines_named ms) ms said → (e : RsmTableRefusal) × (e ≢ refusal.NoMemory) × IsMoveTableRefusal bytes e
-clash_of bytes ms (clash.SameDomain i j) reads some said = (refusal.SameDomain i j, (λ e. cc), record { found = ms; reads = reads; clash = said })
-clash_of bytes ms (clash.SameRange i j) reads some said = (refusal.SameRange i j, (λ e. cc), record { found = ms; reads = reads; clash = said })
+clash_of : (bytes : List ℕ) (ms : List RsmMove) (said : RsmRefusal) → AreReadAs (entries_of bytes) ms
+    → said ≢ clash.NoMemory → moves.IsMoveRefusal (states_named ms) (lines_named ms) ms said
+    → (e : RsmTableRefusal) × (e ≢ refusal.NoMemory) × IsMoveTableRefusal bytes e
+clash_of bytes ms (clash.SameDomain i j) reads some said = (
+  refusal.SameDomain i j,
+  (λ e. cc),
+  record
+      { found = ms; reads = reads; clash = said },
+)
+clash_of bytes ms (clash.SameRange i j) reads some said = (
+  refusal.SameRange i j,
+  (λ e. cc),
+  record
+      { found = ms; reads = reads; clash = said },
+)
 clash_of bytes ms (clash.Range j) reads some said = absurd (never_outside ms j said)
 clash_of bytes ms clash.NoMemory reads some said = absurd (some refl)
 
@@ -98,24 +125,28 @@ abbrev AreOfEntries : Option RsmTableRefusal → Type 0
 AreOfEntries None = Unit {0}
 AreOfEntries (Some e) = IsOfEntries e
 
-number_fault : (b : Bool) (n k : ℕ) (rest : Option RsmTableRefusal) → AreOfEntries rest → AreOfEntries (if not b then Some (refusal.Number n k) else rest)
+number_fault : (b : Bool) (n k : ℕ) (rest : Option RsmTableRefusal) → AreOfEntries rest
+    → AreOfEntries (if not b then Some (refusal.Number n k) else rest)
 number_fault true n k rest h = h
 number_fault false n k rest h = tt
 
 form_faults : (n : ℕ) (fields : List (List ℕ)) → AreOfEntries (move_form_fault n fields)
 form_faults n (a ∷ b ∷ c ∷ d ∷ []) =
-    number_fault (is_number a) n 1 _ (number_fault (is_number b) n 2 _ (number_fault (is_number c) n 3 _ (number_fault (is_number d) n 4 None tt)))
+    number_fault (is_number a) n 1 _ (number_fault (is_number b) n 2 _
+    (number_fault (is_number c) n 3 _ (number_fault (is_number d) n 4 None tt)))
 form_faults n [] = tt
 form_faults n (a ∷ []) = tt
 form_faults n (a ∷ b ∷ []) = tt
 form_faults n (a ∷ b ∷ c ∷ []) = tt
 form_faults n (a ∷ b ∷ c ∷ d ∷ e ∷ es) = tt
 
-count_fault : (b : Bool) (n : ℕ) (rest : Option RsmTableRefusal) → AreOfEntries rest → AreOfEntries (if b then Some (refusal.TooMany n) else rest)
+count_fault : (b : Bool) (n : ℕ) (rest : Option RsmTableRefusal) → AreOfEntries rest
+    → AreOfEntries (if b then Some (refusal.TooMany n) else rest)
 count_fault true n rest h = tt
 count_fault false n rest h = h
 
-first_of : (first later : Option RsmTableRefusal) → AreOfEntries first → AreOfEntries later → AreOfEntries (else_fault first later)
+first_of : (first later : Option RsmTableRefusal) → AreOfEntries first → AreOfEntries later
+    → AreOfEntries (else_fault first later)
 first_of None later h k = k
 first_of (Some e) later h k = h
 
@@ -131,7 +162,8 @@ unfolding first_fault
 faults_of [] = tt
 faults_of (fields ∷ rest) = faults_from 1 (fields ∷ rest)
 
-by_entries : (bytes : List ℕ) (e : RsmTableRefusal) → IsOfEntries e → move_table_fault (entries_of bytes) ≡ Some e → (e ≢ refusal.NoMemory) × IsMoveTableRefusal bytes e
+by_entries : (bytes : List ℕ) (e : RsmTableRefusal) → IsOfEntries e → move_table_fault (entries_of bytes) ≡ Some e
+    → (e ≢ refusal.NoMemory) × IsMoveTableRefusal bytes e
 by_entries bytes (refusal.FieldCount i) h is = ((λ e. cc), is)
 by_entries bytes (refusal.Number i j) h is = ((λ e. cc), is)
 by_entries bytes (refusal.TooMany i) h is = ((λ e. cc), is)
@@ -141,11 +173,13 @@ by_entries bytes (refusal.SameRange i j) h is = absurd h
 by_entries bytes refusal.NoMemory h is = absurd h
 
 -- the first fault of the entries is a refusal of the bytes
-pub fault_refuses : (bytes : List ℕ) (e : RsmTableRefusal) → move_table_fault (entries_of bytes) ≡ Some e → (e ≢ refusal.NoMemory) × IsMoveTableRefusal bytes e
+pub fault_refuses : (bytes : List ℕ) (e : RsmTableRefusal) → move_table_fault (entries_of bytes) ≡ Some e
+    → (e ≢ refusal.NoMemory) × IsMoveTableRefusal bytes e
 fault_refuses bytes e is = by_entries bytes e (subst AreOfEntries is (faults_of (entries_of bytes))) is
 
 -- what is the first fault of the entries, unless it is want of memory, is a refusal of the bytes
-pub refused_unless : (bytes : List ℕ) (e : RsmTableRefusal) → (e ≢ refusal.NoMemory → move_table_fault (entries_of bytes) ≡ Some e) → IsMoveTableRefusal bytes e
+pub refused_unless : (bytes : List ℕ) (e : RsmTableRefusal) → (e ≢ refusal.NoMemory
+    → move_table_fault (entries_of bytes) ≡ Some e) → IsMoveTableRefusal bytes e
 refused_unless bytes (refusal.FieldCount i) h = h (λ e. cc)
 refused_unless bytes (refusal.Number i j) h = h (λ e. cc)
 refused_unless bytes (refusal.TooMany i) h = h (λ e. cc)
@@ -154,15 +188,24 @@ refused_unless bytes (refusal.SameDomain i j) h = (fault_refuses bytes (refusal.
 refused_unless bytes (refusal.SameRange i j) h = (fault_refuses bytes (refusal.SameRange i j) (h (λ e. cc))).1
 refused_unless bytes refusal.NoMemory h = tt
 
-pub machine_or_refusal : MovesAreSoundOrRefused → (bytes : List ℕ) → ((m : Machine) × ReadsMoves bytes m) ⊎ ((e : RsmTableRefusal) × (e ≢ refusal.NoMemory) × IsMoveTableRefusal bytes e)
+pub machine_or_refusal : MovesAreSoundOrRefused → (bytes : List ℕ)
+    → ((m : Machine) × ReadsMoves bytes m) ⊎ ((e : RsmTableRefusal) × (e ≢ refusal.NoMemory)
+    × IsMoveTableRefusal bytes e)
 machine_or_refusal sound_or bytes = by_fault (move_table_fault (entries_of bytes)) refl
   where
-    by_moves : (ms : List RsmMove) → AreReadAs (entries_of bytes) ms → AreSound (states_named ms) (lines_named ms) ms ⊎ ((a : RsmRefusal) × (a ≢ clash.NoMemory) × moves.IsMoveRefusal (states_named ms) (lines_named ms) ms a) → ((m : Machine) × ReadsMoves bytes m) ⊎ ((e : RsmTableRefusal) × (e ≢ refusal.NoMemory) × IsMoveTableRefusal bytes e)
+    by_moves : (ms : List RsmMove) → AreReadAs (entries_of bytes) ms
+        → AreSound (states_named ms) (lines_named ms) ms ⊎ ((a : RsmRefusal) × (a ≢ clash.NoMemory)
+        × moves.IsMoveRefusal (states_named ms) (lines_named ms) ms a)
+        → ((m : Machine) × ReadsMoves bytes m) ⊎ ((e : RsmTableRefusal) × (e ≢ refusal.NoMemory)
+        × IsMoveTableRefusal bytes e)
     by_moves ms reads (inl sound) = inl (machine_of bytes ms reads sound)
     by_moves ms reads (inr said) = inr (clash_of bytes ms said.0 reads said.1 said.2)
 
-    by_fault : (o : Option RsmTableRefusal) → move_table_fault (entries_of bytes) ≡ o → ((m : Machine) × ReadsMoves bytes m) ⊎ ((e : RsmTableRefusal) × (e ≢ refusal.NoMemory) × IsMoveTableRefusal bytes e)
-    by_fault None none = let found = reading_of (entries_of bytes) none in by_moves found.0 found.1 (sound_or (states_named found.0) (lines_named found.0) found.0)
+    by_fault : (o : Option RsmTableRefusal) → move_table_fault (entries_of bytes) ≡ o
+        → ((m : Machine) × ReadsMoves bytes m) ⊎ ((e : RsmTableRefusal) × (e ≢ refusal.NoMemory)
+        × IsMoveTableRefusal bytes e)
+    by_fault None none = let found = reading_of (entries_of bytes) none in by_moves found.0 found.1
+        (sound_or (states_named found.0) (lines_named found.0) found.0)
     by_fault (Some e) is = let refused = fault_refuses bytes e is in inr (e, refused.0, refused.1)
 
 -- what a refusal says of bytes: a fault of their entries, or moves that clash
@@ -191,7 +234,8 @@ some_or_none o x none some = cc
 same_some : {X : Type 0} (o : Option X) (x y : X) → o ≡ Some x → o ≡ Some y → x ≡ y
 same_some o x y a b = cc
 
-pub not_refused : SoundMovesAreTaken → (bytes : List ℕ) (m : Machine) (e : RsmTableRefusal) → ReadsMoves bytes m → IsMoveTableRefusal bytes e → e ≡ refusal.NoMemory
+pub not_refused : SoundMovesAreTaken → (bytes : List ℕ) (m : Machine) (e : RsmTableRefusal) → ReadsMoves bytes m
+    → IsMoveTableRefusal bytes e → e ≡ refusal.NoMemory
 not_refused taken bytes m e reads is = by_kind e is
   where
     no_fault_here : (e : RsmTableRefusal) → move_table_fault (entries_of bytes) ≡ Some e → ⊥
@@ -219,17 +263,21 @@ one_machine bytes m n h k =
     let same : m.moves ≡ n.moves = one_reading (entries_of bytes) m.moves n.moves h.moves k.moves in
     same_machine m n (h.states ∙ ap states_named same ∙ sym k.states) (h.lines ∙ ap lines_named same ∙ sym k.lines) same
 
-pub one_refusal : RefusalsAreOne → (bytes : List ℕ) (d e : RsmTableRefusal) → IsMoveTableRefusal bytes d → IsMoveTableRefusal bytes e → d ≢ refusal.NoMemory → e ≢ refusal.NoMemory → d ≡ e
+pub one_refusal : RefusalsAreOne → (bytes : List ℕ) (d e : RsmTableRefusal) → IsMoveTableRefusal bytes d
+    → IsMoveTableRefusal bytes e → d ≢ refusal.NoMemory → e ≢ refusal.NoMemory → d ≡ e
 one_refusal once bytes d e h k some more = both (says bytes d some h) (says bytes e more k)
   where
     both : Says bytes d → Says bytes e → d ≡ e
     both (faulty a) (faulty b) = same_some _ d e a b
-    both (faulty a) (clashing said real is b) = absurd (some_or_none _ d (no_fault_of (entries_of bytes) b.found b.reads) a)
-    both (clashing said real is a) (faulty b) = absurd (some_or_none _ e (no_fault_of (entries_of bytes) a.found a.reads) b)
+    both (faulty a) (clashing said real is b) = absurd (some_or_none _ d
+        (no_fault_of (entries_of bytes) b.found b.reads) a)
+    both (clashing said real is a) (faulty b) = absurd (some_or_none _ e
+        (no_fault_of (entries_of bytes) a.found a.reads) b)
     both (clashing said real is a) (clashing other true_too is_too b) =
         let same : a.found ≡ b.found = one_reading (entries_of bytes) a.found b.found a.reads b.reads in
         let moved = subst (λ ms. moves.IsMoveRefusal (states_named ms) (lines_named ms) ms said) same a.clash in
-        let one : said ≡ other = once (states_named b.found) (lines_named b.found) b.found said other moved b.clash real true_too in
+        let one : said ≡ other = once (states_named b.found) (lines_named b.found) b.found said other moved b.clash real
+        true_too in
         is ∙ ap table_refusal one ∙ sym is_too
 
 -- ---- the writer
@@ -240,17 +288,31 @@ plain_step m h =
     let line = h.line in
     let next = h.next in
     let out = h.out in
-    rw (plain_decimal (m.state + 1) (omega arith), plain_decimal (m.line + 1) (omega arith), plain_decimal (m.next + 1) (omega arith), plain_decimal (m.out + 1) (omega arith)) refl
+    rw (
+      plain_decimal (m.state + 1) (omega arith),
+      plain_decimal (m.line + 1) (omega arith),
+      plain_decimal (m.next + 1)
+          (omega arith),
+      plain_decimal (m.out + 1) (omega arith),
+    ) refl
 
 -- a machine's lines are read as it again
 pub read_back : (m : Machine) (bytes : List ℕ) → IsTable m → bytes ≡ lines_of (entries_by m.moves) → ReadsMoves bytes m
 read_back m bytes h is =
     let states : states_named m.moves ≤ MOST_COUNT = omega (arith, h.states, h.states_few) in
     let lines : lines_named m.moves ≤ MOST_COUNT = omega (arith, h.lines, h.lines_few) in
-    let back : entries_of bytes ≡ entries_by m.moves = ap entries_of is ∙ entries_of-lines_of (entries_by m.moves) (all_plain move_entry IsMove plain_step m.moves (all_moves m.moves states lines)) in
-    let count : length (entries_of bytes) ≡ length m.moves = ap (λ (xs : List (List (List ℕ))). length xs) back ∙ length-map m.moves move_entry in
+    let back : entries_of bytes ≡ entries_by m.moves = ap entries_of is
+    ∙ entries_of-lines_of (entries_by m.moves) (all_plain move_entry IsMove plain_step m.moves
+    (all_moves m.moves states lines)) in
+    let count : length (entries_of bytes) ≡ length m.moves = ap (λ (xs : List (List (List ℕ))). length xs) back
+    ∙ length-map m.moves move_entry in
     record {
-      moves = record { rows = sym back; within = all_moves m.moves states lines; some = omega (arith, h.some); few = omega (arith, h.few) };
+      moves = record {
+        rows = sym back;
+        within = all_moves m.moves states lines;
+        some = omega (arith, h.some);
+        few = omega (arith, h.few);
+      };
       states = h.states;
       lines = h.lines;
     }

@@ -1,5 +1,6 @@
 -- No line of a script holds a byte 10: so a script is cut into its lines in one way.
-use Rattle.std.specs.Prelude.{◌≡◌, ◌≢◌, ℕ, ◌≤◌, ◌==◌, ◌&&◌, nat_le, Option, Some, not, Bool, true, false, List, [], ◌∷◌, ◌++◌, length, codes, decimal, refl}
+use Rattle.std.specs.Prelude.{◌≡◌, ◌≢◌, ℕ, ◌≤◌, ◌==◌, ◌&&◌, nat_le, Option, Some, not, Bool, true, false, List, [], ◌∷◌}
+use Rattle.std.specs.Prelude.{◌++◌, length, codes, decimal, refl}
 use Rattle.std.specs.List.{list_all}
 use Rattle.std.specs.Char.{is_ascii_alphanumeric}
 use Rattle.std.specs.Str.Parse.{digits_value}
@@ -11,7 +12,8 @@ use Rattle.bn_base.specs.Line.{IsInLine}
 use Rattle.bn_base.proofs.LineLemmas.{lines-agree}
 use Rattle.bn_base.specs.Number.{greatest, AreDigits}
 use Rattle.bn_csv.specs.Forms.{is_name_byte, is_state_name}
-use Rattle.bn_session.specs.Sentences.{ScriptSentence, Step, Back, Go, Rev, BreakState, BreakElement, Drop, View, is_label, script_sentence_text, IsSayableInScript}
+use Rattle.bn_session.specs.Sentences.{ScriptSentence, Step, Back, Go, Rev, BreakState, BreakElement, Drop, View}
+use Rattle.bn_session.specs.Sentences.{is_label, script_sentence_text, IsSayableInScript}
 use Rattle.bn_session.proofs.ReadingLemmas.{sentence_in-again, third_of}
 use Rattle.bn_session.specs.Reading.{sentence_in}
 
@@ -24,7 +26,8 @@ passing p [] none all = All-nil Ten
 passing p (x ∷ xs) none all = by (p x) refl (passing p xs none) all
   where
     by : (b : Bool) → p x ≡ b → (list_all p xs ≡ true → IsInLine xs) → (b && list_all p xs) ≡ true → IsInLine (x ∷ xs)
-    by true passes later rest = All-cons Ten x xs (λ is. let there : p 10 ≡ true = ap p (sym is) ∙ passes in absurd (cc)) (later rest)
+    by true passes later rest = All-cons Ten x xs (λ is. let there : p 10 ≡ true = ap p (sym is)
+        ∙ passes in absurd (cc)) (later rest)
     by false fails later rest = absurd (cc)
 
 word : (xs : List ℕ) → list_all (λ b. not (b == 10)) xs ≡ true → IsInLine xs
@@ -39,10 +42,12 @@ number n small =
     All-from_get_or Ten (decimal n) 0 (λ i inside is. let digit = digits i inside in omega (arith, digit, is))
 
 label : (xs : List ℕ) → is_label xs ≡ true → IsInLine xs
-label xs form = passing is_ascii_alphanumeric xs refl (third_of (nat_le 1 (length xs)) (nat_le (length xs) 16) (list_all is_ascii_alphanumeric xs) form)
+label xs form = passing is_ascii_alphanumeric xs refl (third_of (nat_le 1 (length xs)) (nat_le (length xs) 16)
+    (list_all is_ascii_alphanumeric xs) form)
 
 name : (xs : List ℕ) → is_state_name xs ≡ true → IsInLine xs
-name xs form = passing is_name_byte xs refl (third_of (nat_le 1 (length xs)) (nat_le (length xs) 32) (list_all is_name_byte xs) form)
+name xs form = passing is_name_byte xs refl (third_of (nat_le 1 (length xs)) (nat_le (length xs) 32)
+    (list_all is_name_byte xs) form)
 
 behind : (xs ys : List ℕ) → IsInLine xs → IsInLine ys → IsInLine (xs ++ ys)
 behind xs ys a b = All-append Ten xs ys a b
@@ -55,10 +60,12 @@ sentence_text-in_line (Go e) h = behind (codes "go ") (decimal e) (word (codes "
 sentence_text-in_line (Rev e) h = behind (codes "rev ") (decimal e) (word (codes "rev ") refl) (number e h.1)
 sentence_text-in_line (BreakState l n) h =
     behind (codes "break ") (l ++ (codes " state " ++ n)) (word (codes "break ") refl)
-    (behind l (codes " state " ++ n) (label l h.0) (behind (codes " state ") n (word (codes " state ") refl) (name n h.1)))
+    (behind l (codes " state " ++ n) (label l h.0) (behind (codes " state ") n (word (codes " state ") refl)
+    (name n h.1)))
 sentence_text-in_line (BreakElement l e) h =
     behind (codes "break ") (l ++ (codes " element " ++ decimal e)) (word (codes "break ") refl)
-    (behind l (codes " element " ++ decimal e) (label l h.0) (behind (codes " element ") (decimal e) (word (codes " element ") refl) (number e h.1)))
+    (behind l (codes " element " ++ decimal e) (label l h.0) (behind (codes " element ") (decimal e)
+    (word (codes " element ") refl) (number e h.1)))
 sentence_text-in_line (Drop l) h = behind (codes "drop ") l (word (codes "drop ") refl) (label l h)
 sentence_text-in_line View h = word (codes "view") refl
 
@@ -66,11 +73,15 @@ same_sentence : (s t : ScriptSentence) → ◌≡◌ {A = Option ScriptSentence}
 same_sentence s t e = cc
 
 -- a line says one thing
-pub sentence_text-injective : (s t : ScriptSentence) → IsSayableInScript s → IsSayableInScript t → script_sentence_text s ≡ script_sentence_text t → s ≡ t
-sentence_text-injective s t hs ht e = same_sentence s t (sym (sentence_in-again s hs) ∙ ap sentence_in e ∙ sentence_in-again t ht)
+pub sentence_text-injective : (s t : ScriptSentence) → IsSayableInScript s → IsSayableInScript t
+    → script_sentence_text s ≡ script_sentence_text t → s ≡ t
+sentence_text-injective s t hs ht e = same_sentence s t (sym (sentence_in-again s hs) ∙ ap sentence_in e
+    ∙ sentence_in-again t ht)
 
 -- so two texts that begin with a line are one where they are equal
-pub lines-same : (s t : ScriptSentence) (rest other : List ℕ) → IsSayableInScript s → IsSayableInScript t → script_sentence_text s ++ 10 ∷ rest ≡ script_sentence_text t ++ 10 ∷ other → (s ≡ t) × (rest ≡ other)
+pub lines-same : (s t : ScriptSentence) (rest other : List ℕ) → IsSayableInScript s → IsSayableInScript t
+    → script_sentence_text s ++ 10 ∷ rest ≡ script_sentence_text t ++ 10 ∷ other → (s ≡ t) × (rest ≡ other)
 lines-same s t rest other hs ht e =
-    let both = lines-agree (script_sentence_text s) (script_sentence_text t) rest other (sentence_text-in_line s hs) (sentence_text-in_line t ht) e in
+    let both = lines-agree (script_sentence_text s) (script_sentence_text t) rest other (sentence_text-in_line s hs)
+    (sentence_text-in_line t ht) e in
     (sentence_text-injective s t hs ht both.0, both.1)

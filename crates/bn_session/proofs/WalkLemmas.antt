@@ -39,15 +39,18 @@ module _ (test : Config → Bool) (once : Config → Config) where
   ]
 
   -- a way that begins with a step at which the test doesn't hold
-  behind : (far : ℕ → Config) (on : ℕ → Config) (e : ℕ) (d : Config) → ((j : ℕ) → far (suc j) ≡ on j) → test (far 1) ≡ false → IsStop test on e d → IsStop test far (suc e) d
+  behind : (far : ℕ → Config) (on : ℕ → Config) (e : ℕ) (d : Config) → ((j : ℕ) → far (suc j) ≡ on j)
+      → test (far 1) ≡ false → IsStop test on e d → IsStop test far (suc e) d
   behind far on e d shifted unmet (at_hit j some few met before is) =
-      at_hit (suc j) (omega arith) (omega arith) (ap test (shifted j) ∙ met) (λ i more less. earlier i more less) (is ∙ sym (shifted j))
+      at_hit (suc j) (omega arith) (omega arith) (ap test (shifted j) ∙ met) (λ i more less. earlier i more less)
+      (is ∙ sym (shifted j))
     where
       earlier : (i : ℕ) → 1 ≤ i → i < suc j → test (far i) ≡ false
       earlier zero more less = absurd (omega arith)
       earlier (suc zero) more less = unmet
       earlier (suc (suc i)) more less = ap test (shifted (suc i)) ∙ before (suc i) (omega arith) (omega arith)
-  behind far on e d shifted unmet (at_last none is) = at_last (λ i more less. earlier i more less) (is ∙ sym (shifted e))
+  behind far on e d shifted unmet (at_last none is) = at_last (λ i more less. earlier i more less)
+      (is ∙ sym (shifted e))
     where
       earlier : (i : ℕ) → 1 ≤ i → i ≤ suc e → test (far i) ≡ false
       earlier zero more less = absurd (omega arith)
@@ -55,16 +58,21 @@ module _ (test : Config → Bool) (once : Config → Config) where
       earlier (suc (suc i)) more less = ap test (shifted (suc i)) ∙ none (suc i) (omega arith) (omega arith)
 
   -- by any way that begins at c and goes on as another one from the next place
-  walked : (way : Config → ℕ → Config) → ((c : Config) → way c 0 ≡ c) → ((c : Config) (j : ℕ) → way c (suc j) ≡ way (once c) j) → (e : ℕ) (c : Config) → IsStop test (way c) e (walk test once e c)
+  walked : (way : Config → ℕ → Config) → ((c : Config) → way c 0 ≡ c)
+      → ((c : Config) (j : ℕ) → way c (suc j) ≡ way (once c) j) → (e : ℕ) (c : Config)
+      → IsStop test (way c) e (walk test once e c)
   walked way begins goes zero c = at_last (λ i some few. absurd (omega arith)) (walk-zero c ∙ sym (begins c))
   walked way begins goes (suc e) c = by (cases_Bool (test (once c))) (walked way begins goes e (once c))
     where
       first : way c 1 ≡ once c
       first = goes c 0 ∙ begins (once c)
 
-      by : (test (once c) ≡ true) ⊎ (test (once c) ≡ false) → IsStop test (way (once c)) e (walk test once e (once c)) → IsStop test (way c) (suc e) (walk test once (suc e) c)
-      by (inl met) rest = at_hit 1 (omega arith) (omega arith) (ap test first ∙ met) (λ i some less. absurd (omega arith)) (walk-hit e c met ∙ sym first)
-      by (inr unmet) rest = subst (λ x. IsStop test (way c) (suc e) x) (sym (walk-on e c unmet)) (behind (way c) (way (once c)) e (walk test once e (once c)) (goes c) (ap test first ∙ unmet) rest)
+      by : (test (once c) ≡ true) ⊎ (test (once c) ≡ false) → IsStop test (way (once c)) e (walk test once e (once c))
+          → IsStop test (way c) (suc e) (walk test once (suc e) c)
+      by (inl met) rest = at_hit 1 (omega arith) (omega arith) (ap test first ∙ met)
+          (λ i some less. absurd (omega arith)) (walk-hit e c met ∙ sym first)
+      by (inr unmet) rest = subst (λ x. IsStop test (way c) (suc e) x) (sym (walk-on e c unmet))
+          (behind (way c) (way (once c)) e (walk test once e (once c)) (goes c) (ap test first ∙ unmet) rest)
 
   -- ---- how far a walk has come: what is left of it ends where it does
 
@@ -73,17 +81,21 @@ module _ (test : Config → Bool) (once : Config → Config) where
     ends_still still = sym (walk-still (count - made) c still) ∙ left
 
     pub ends_last : count ≤ made → c ≡ walk test once count c0
-    ends_last all = let none : count - made ≡ 0 = omega arith in sym (walk-zero c) ∙ ap (λ n. walk test once n c) (sym none) ∙ left
+    ends_last all = let none : count - made ≡ 0 = omega arith in sym (walk-zero c)
+        ∙ ap (λ n. walk test once n c) (sym none) ∙ left
 
     pub ends_hit : (d : Config) → made < count → once c ≡ d → test d ≡ true → d ≡ walk test once count c0
     ends_hit d more goes met =
         let one : count - made ≡ suc (count - (made + 1)) = omega arith in
-        sym goes ∙ sym (walk-hit (count - (made + 1)) c (ap test goes ∙ met)) ∙ ap (λ n. walk test once n c) (sym one) ∙ left
+        sym goes ∙ sym (walk-hit (count - (made + 1)) c (ap test goes ∙ met)) ∙ ap (λ n. walk test once n c) (sym one)
+        ∙ left
 
-    pub goes_on : (d : Config) → made < count → once c ≡ d → test d ≡ false → walk test once (count - (made + 1)) d ≡ walk test once count c0
+    pub goes_on : (d : Config) → made < count → once c ≡ d → test d ≡ false
+        → walk test once (count - (made + 1)) d ≡ walk test once count c0
     goes_on d more goes unmet =
         let one : count - made ≡ suc (count - (made + 1)) = omega arith in
-        ap (walk test once (count - (made + 1))) (sym goes) ∙ sym (walk-on (count - (made + 1)) c (ap test goes ∙ unmet)) ∙ ap (λ n. walk test once n c) (sym one) ∙ left
+        ap (walk test once (count - (made + 1))) (sym goes) ∙ sym
+        (walk-on (count - (made + 1)) c (ap test goes ∙ unmet)) ∙ ap (λ n. walk test once n c) (sym one) ∙ left
 
 run-once : (k : Circuit) (c : Config) → run k c 1 ≡ advance k c
 unfolding run
@@ -100,28 +112,41 @@ back-shifts : (k : Circuit) (c : Config) (j : ℕ) → back k c (suc j) ≡ back
 back-shifts k c j = back_composes k c 1 j (suc j) (omega arith) ∙ ap (λ x. back k x j) (back-once k c)
 
 -- a walk stops where the way does
-pub walk-stops : (way : Direction) (k : Circuit) (test : Config → Bool) (e : ℕ) (c d : Config) → d ≡ walk test (once_along way k) e c →
+pub walk-stops : (way : Direction) (k : Circuit) (test : Config → Bool) (e : ℕ) (c d : Config)
+    → d ≡ walk test (once_along way k) e c →
     IsStop test (run_along way k c) e d
-walk-stops Forward k test e c d is = subst (IsStop test (run k c) e) (sym is) (walked test (advance k) (run k) (run-zero k) (run-shifts k) e c)
-walk-stops Backward k test e c d is = subst (IsStop test (back k c) e) (sym is) (walked test (retreat k) (back k) (back-zero k) (back-shifts k) e c)
+walk-stops Forward k test e c d is = subst (IsStop test (run k c) e) (sym is)
+    (walked test (advance k) (run k) (run-zero k) (run-shifts k) e c)
+walk-stops Backward k test e c d is = subst (IsStop test (back k c) e) (sym is)
+    (walked test (retreat k) (back k) (back-zero k) (back-shifts k) e c)
 
 -- ---- on a board that is the same as at the start, but for its configuration
 
 module _ (a b : Flattened) (same : IsSameBoard a b) where
-  pub tested_on : (breaks : List Breakpoint) (c : Config) (x : Bool) → x ≡ stops (moment_at b.layout) breaks c → stops (moment_at a.layout) breaks c ≡ x
+  pub tested_on : (breaks : List Breakpoint) (c : Config) (x : Bool) → x ≡ stops (moment_at b.layout) breaks c
+      → stops (moment_at a.layout) breaks c ≡ x
   tested_on breaks c x is = ap (λ l. stops (moment_at l) breaks c) (sym same.layout) ∙ sym is
 
   module _ (circuit : IsCircuit (rotary_circuit a.net)) where
     -- a step in this direction
-    pub goes_once : (way : Direction) (c d : Config) → GoesTo way (rotary_circuit b.net) c d → once_along way (rotary_circuit a.net) c ≡ d
-    goes_once Forward c d goes = rw (Goes-next (rotary_circuit a.net) c d (subst (λ n. Goes (rotary_circuit n) c d) same.net goes)) refl
-    goes_once Backward c d goes = rw (Goes-previous (rotary_circuit a.net) circuit d c (subst (λ n. Goes (rotary_circuit n) d c) same.net goes)) refl
+    pub goes_once : (way : Direction) (c d : Config) → GoesTo way (rotary_circuit b.net) c d
+        → once_along way (rotary_circuit a.net) c ≡ d
+    goes_once Forward c d goes = rw (Goes-next (rotary_circuit a.net) c d
+        (subst (λ n. Goes (rotary_circuit n) c d) same.net goes)) refl
+    goes_once Backward c d goes = rw (Goes-previous (rotary_circuit a.net) circuit d c
+        (subst (λ n. Goes (rotary_circuit n) d c) same.net goes)) refl
 
-    pub goes_once-good : (way : Direction) (c d : Config) → IsConfig (rotary_circuit a.net) c → GoesTo way (rotary_circuit b.net) c d → IsConfig (rotary_circuit a.net) d
-    goes_once-good Forward c d good goes = next-IsConfig (rotary_circuit a.net) circuit c d good (subst (λ n. Goes (rotary_circuit n) c d) same.net goes)
-    goes_once-good Backward c d good goes = previous-IsConfig (rotary_circuit a.net) circuit d c good (subst (λ n. Goes (rotary_circuit n) d c) same.net goes)
+    pub goes_once-good : (way : Direction) (c d : Config) → IsConfig (rotary_circuit a.net) c
+        → GoesTo way (rotary_circuit b.net) c d → IsConfig (rotary_circuit a.net) d
+    goes_once-good Forward c d good goes = next-IsConfig (rotary_circuit a.net) circuit c d good
+        (subst (λ n. Goes (rotary_circuit n) c d) same.net goes)
+    goes_once-good Backward c d good goes = previous-IsConfig (rotary_circuit a.net) circuit d c good
+        (subst (λ n. Goes (rotary_circuit n) d c) same.net goes)
 
     -- where there is none
-    pub stays_once : (way : Direction) (c : Config) → IsConfig (rotary_circuit a.net) c → IsAtEnd way (rotary_circuit b.net) c → once_along way (rotary_circuit a.net) c ≡ c
-    stays_once Forward c good stuck = rw (next-stuck (rotary_circuit a.net) c (subst (λ n. IsStuck (rotary_circuit n) c) same.net stuck)) refl
-    stays_once Backward c good first = rw (previous-first (rotary_circuit a.net) circuit c good (subst (λ n. IsFirst (rotary_circuit n) c) same.net first)) refl
+    pub stays_once : (way : Direction) (c : Config) → IsConfig (rotary_circuit a.net) c
+        → IsAtEnd way (rotary_circuit b.net) c → once_along way (rotary_circuit a.net) c ≡ c
+    stays_once Forward c good stuck = rw (next-stuck (rotary_circuit a.net) c
+        (subst (λ n. IsStuck (rotary_circuit n) c) same.net stuck)) refl
+    stays_once Backward c good first = rw (previous-first (rotary_circuit a.net) circuit c good
+        (subst (λ n. IsFirst (rotary_circuit n) c) same.net first)) refl

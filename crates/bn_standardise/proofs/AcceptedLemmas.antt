@@ -19,15 +19,18 @@ halting_once qs i j a b = least_is_one (LeavesHalting qs) i j a b
 -- the verdict of standard form that says the same
 repeat_once : (qs : List Quint) (i j m n : ℕ) → IsLeastRepeat qs i j → IsLeastRepeat qs m n → (i ≡ m) × (j ≡ n)
 repeat_once qs i j m n h k =
-    let one : whys.Repeat i j ≡ whys.Repeat m n = verdict_once qs (whys.Repeat i j) (whys.Repeat m n) (λ e. absurd (cc)) (λ e. absurd (cc)) h k in
+    let one : whys.Repeat i j ≡ whys.Repeat m n = verdict_once qs (whys.Repeat i j) (whys.Repeat m n) (λ e. absurd (cc))
+    (λ e. absurd (cc)) h k in
     (cc, cc)
 
-refusal_once : (p : Program) (a b : LooseRefusal) → a ≢ NoMemory → b ≢ NoMemory → IsLooseRefusal p a → IsLooseRefusal p b → a ≡ b
+refusal_once : (p : Program) (a b : LooseRefusal) → a ≢ NoMemory → b ≢ NoMemory → IsLooseRefusal p a
+    → IsLooseRefusal p b → a ≡ b
 refusal_once p NoMemory b x y h k = absurd (x refl)
 refusal_once p (Repeat i j) NoMemory x y h k = absurd (y refl)
 refusal_once p (Halting i) NoMemory x y h k = absurd (y refl)
 refusal_once p (Many c) NoMemory x y h k = absurd (y refl)
-refusal_once p (Repeat i j) (Repeat m n) x y h k = let same = repeat_once p.quints i j m n h k in λ t. Repeat (same.0 t) (same.1 t)
+refusal_once p (Repeat i j) (Repeat m n) x y h k = let same =
+    repeat_once p.quints i j m n h k in λ t. Repeat (same.0 t) (same.1 t)
 refusal_once p (Repeat i j) (Halting m) x y h k = absurd (k.0.none i j h.repeats)
 refusal_once p (Repeat i j) (Many c) x y h k = absurd (k.0.unambiguous.none i j h.repeats)
 refusal_once p (Halting i) (Repeat m n) x y h k = absurd (h.0.none m n k.repeats)

@@ -1,5 +1,6 @@
 -- The numbering by first appearance tells apart all names that the rules have.
-use Rattle.std.specs.Prelude.{◌≡◌, ℕ, ◌<◌, Bool, true, false, not, filter, List, [], ◌∷◌, length, map, Some, slice_get, ◌+◌, ◌*◌, ◌≤◌, ◌⊎◌}
+use Rattle.std.specs.Prelude.{◌≡◌, ℕ, ◌<◌, Bool, true, false, not, filter, List, [], ◌∷◌, length, map, Some, slice_get}
+use Rattle.std.specs.Prelude.{◌+◌, ◌*◌, ◌≤◌, ◌⊎◌}
 use Rattle.std.proofs.Common.{refl, sym, subst, ◌∙◌, ap, arith, inl, inr}
 use Rattle.std.proofs.lemmas.Bool.{cases_Bool}
 use Rattle.std.proofs.lemmas.Bool.Decides.{Decides-eqb}
@@ -49,7 +50,8 @@ place_stands (m ∷ ms) n h = elim (cases_Bool (is_same m n)) [
 ]
   where
     behind : (n ≡ m) ⊎ Has ms n → is_same m n ≡ false → Has ms n
-    behind (inl e) miss = let both : is_same m m ≡ false = ap (is_same m) (sym e) ∙ miss in let clash : true ≡ false = sym (same_itself m) ∙ both in absurd (cc)
+    behind (inl e) miss = let both : is_same m m ≡ false = ap (is_same m) (sym e) ∙ miss in let clash : true ≡ false =
+        sym (same_itself m) ∙ both in absurd (cc)
     behind (inr h) miss = h
 
 -- its place is inside the list
@@ -61,7 +63,8 @@ place_inside (m ∷ ms) n h = elim (cases_Bool (is_same m n)) [
 ]
   where
     behind : (n ≡ m) ⊎ Has ms n → is_same m n ≡ false → Has ms n
-    behind (inl e) miss = let both : is_same m m ≡ false = ap (is_same m) (sym e) ∙ miss in let clash : true ≡ false = sym (same_itself m) ∙ both in absurd (cc)
+    behind (inl e) miss = let both : is_same m m ≡ false = ap (is_same m) (sym e) ∙ miss in let clash : true ≡ false =
+        sym (same_itself m) ∙ both in absurd (cc)
     behind (inr h) miss = h
 
 -- two names with one place are one
@@ -99,14 +102,20 @@ names_in (s ∷ rs) r (inl e) = (inl (ap (λ (t : Rule). t.state) e), inr (inl (
 names_in (s ∷ rs) r (inr h) = let rest = names_in rs r h in (inr (inr rest.0), inr (inr rest.1))
 
 -- the number of a rule's state is below the count of states, and so is that of the next
-pub numbers_inside : (rs : List Rule) (r : Rule) → Has rs r → (number_of rs r.state < states_of rs) × (number_of rs r.next < states_of rs)
+pub numbers_inside : (rs : List Rule) (r : Rule) → Has rs r → (number_of rs r.state < states_of rs)
+    × (number_of rs r.next < states_of rs)
 numbers_inside rs r h =
-    let names = names_in rs r h in
-    (place_inside (distinct_names rs) r.state (first_appears (names_of rs) r.state names.0), place_inside (distinct_names rs) r.next (first_appears (names_of rs) r.next names.1))
+    let names = names_in rs r h in (
+      place_inside (distinct_names rs) r.state (first_appears (names_of rs) r.state names.0),
+      place_inside
+          (distinct_names rs) r.next (first_appears (names_of rs) r.next names.1),
+    )
 
 -- names with one number are one
-number_once : (rs : List Rule) (m n : Name) → Has (names_of rs) m → Has (names_of rs) n → number_of rs m ≡ number_of rs n → m ≡ n
-number_once rs m n h k e = place_once (distinct_names rs) m n (first_appears (names_of rs) m h) (first_appears (names_of rs) n k) e
+number_once : (rs : List Rule) (m n : Name) → Has (names_of rs) m → Has (names_of rs) n
+    → number_of rs m ≡ number_of rs n → m ≡ n
+number_once rs m n h k e = place_once (distinct_names rs) m n (first_appears (names_of rs) m h)
+    (first_appears (names_of rs) n k) e
 
 -- ---- names of a machine
 
@@ -130,10 +139,14 @@ own_named p s occurs =
 -- so the numbering tells the names apart
 pub tells_apart : (p : Program) → TellsApart (numbering_of p) p
 tells_apart p = record {
-  ends = λ e. let same : First ≡ Last = number_once (rules_of p) First Last (start_named p) (final_named p) e in absurd (cc);
-  first = λ s h e. let same : Own s ≡ First = number_once (rules_of p) (Own s) First (own_named p s h) (start_named p) e in absurd (cc);
-  last = λ s h e. let same : Own s ≡ Last = number_once (rules_of p) (Own s) Last (own_named p s h) (final_named p) e in absurd (cc);
-  states = λ s t h k e. let same : Own s ≡ Own t = number_once (rules_of p) (Own s) (Own t) (own_named p s h) (own_named p t k) e in cc;
+  ends = λ e. let same : First ≡ Last = number_once (rules_of p) First Last (start_named p) (final_named p) e in absurd
+      (cc);
+  first = λ s h e. let same : Own s ≡ First = number_once (rules_of p) (Own s) First (own_named p s h) (start_named p) e
+      in absurd (cc);
+  last = λ s h e. let same : Own s ≡ Last = number_once (rules_of p) (Own s) Last (own_named p s h) (final_named p) e in
+      absurd (cc);
+  states = λ s t h k e. let same : Own s ≡ Own t = number_once (rules_of p) (Own s) (Own t) (own_named p s h)
+      (own_named p t k) e in cc;
 }
 
 -- ---- numbers by first appearance
@@ -143,16 +156,19 @@ pub same_decides : (a b : Name) → Decides (is_same a b) (a ≡ b)
 same_decides a b = (same_is a b, λ e. ap (is_same a) (sym e) ∙ same_itself a)
 
 -- the numbers in the quintuples are those of the names in the rules
-numbers_are : (all rs : List Rule) → ((r : Rule) → Has rs r → Has all r) → AreNumbersOf (distinct_names all) (states_in (map (numbered (number_of all)) rs)) (names_of rs)
+numbers_are : (all rs : List Rule) → ((r : Rule) → Has rs r → Has all r)
+    → AreNumbersOf (distinct_names all) (states_in (map (numbered (number_of all)) rs)) (names_of rs)
 numbers_are all [] within = tt
 numbers_are all (r ∷ rs) within =
     let names = names_in all r (within r (inl refl)) in
-    let stands : (n : Name) → Has (names_of all) n → slice_get (distinct_names all) (number_of all n) ≡ Some n = λ n h. place_stands (distinct_names all) n (first_appears (names_of all) n h) in
+    let stands : (n : Name) → Has (names_of all) n → slice_get (distinct_names all) (number_of all n) ≡ Some n =
+    λ n h. place_stands (distinct_names all) n (first_appears (names_of all) n h) in
     (stands r.state names.0, (stands r.next names.1, numbers_are all rs (λ s h. within s (inr h))))
 
 -- the numbers in the quintuples are given by first appearance
 pub numbered_by_first : (p : Program) → AreNumberedByFirst (states_in (standardised p).quints) (standardised p).states
-numbered_by_first p = numbered-by-first is_same same_decides (states_in (standardised p).quints) (names_of (rules_of p)) (numbers_are (rules_of p) (rules_of p) (λ r h. h))
+numbered_by_first p = numbered-by-first is_same same_decides (states_in (standardised p).quints) (names_of (rules_of p))
+    (numbers_are (rules_of p) (rules_of p) (λ r h. h))
 
 -- each rule has two names
 pub names_counted : (rs : List Rule) → length (names_of rs) ≡ 2 * length rs
@@ -160,10 +176,20 @@ names_counted [] = refl
 names_counted (r ∷ rs) = let rest = names_counted rs in omega (arith, rest)
 
 -- the machine fits a table
-pub fits_table : (p : Program) → IsMachine p → length p.quints + p.symbols + 1 ≤ 4000 → p.symbols ≤ 91 → FitsTable (standardised p)
+pub fits_table : (p : Program) → IsMachine p → length p.quints + p.symbols + 1 ≤ 4000 → p.symbols ≤ 91
+    → FitsTable (standardised p)
 fits_table p machine few letters =
-    let count : length (standardised p).quints ≡ length p.quints + p.symbols + 1 = rules_counted (numbering_of p) p machine in
-    let rules : length (standardised p).quints ≡ length (rules_of p) = length-map (rules_of p) (numbered (numbering_of p)) in
+    let count : length (standardised p).quints ≡ length p.quints + p.symbols + 1 =
+    rules_counted (numbering_of p) p machine in
+    let rules : length (standardised p).quints ≡ length (rules_of p) =
+    length-map (rules_of p) (numbered (numbering_of p)) in
     let names = names_counted (rules_of p) in
-    let most : (standardised p).states ≤ length (names_of (rules_of p)) = length-firsts is_same same_decides (names_of (rules_of p)) in
-    record { numbered = numbered_by_first p; quints = omega (arith, count, few); states = omega (arith, count, few, rules, names, most); symbols = letters }
+    let most : (standardised p).states ≤ length (names_of (rules_of p)) =
+    length-firsts is_same same_decides (names_of (rules_of p)) in
+    record {
+      numbered = numbered_by_first p;
+      quints = omega (arith, count, few);
+      states = omega
+          (arith, count, few, rules, names, most);
+      symbols = letters;
+    }

@@ -1,5 +1,7 @@
 -- The text of the list is read as the table of the machine in standard form.
-use Rattle.std.proofs.Common.{◌≡◌, ◌∙◌, ◌≤◌, ◌<◌, ◌+◌, ◌-◌, ◌++◌, ◌∷◌, ◌&&◌, ℕ, suc, Bool, true, false, not, Some, List, [], length, map, filter, get_or, refl, sym, subst, ap, arith, inl, inr, append_assoc, slice_get, nat_eq, decimal, All}
+use Rattle.std.proofs.Common.{◌≡◌, ◌∙◌, ◌≤◌, ◌<◌, ◌+◌, ◌-◌, ◌++◌, ◌∷◌, ◌&&◌, ℕ, suc, Bool, true, false, not, Some, List}
+use Rattle.std.proofs.Common.{[], length, map, filter, get_or, refl, sym, subst, ap, arith, inl, inr, append_assoc}
+use Rattle.std.proofs.Common.{slice_get, nat_eq, decimal, All}
 use Rattle.std.specs.Prelude.{bytes_eq, nat_le}
 use Rattle.std.specs.List.{list_all, list_any}
 use Rattle.std.specs.Str.Parse.{digits_value}
@@ -43,7 +45,8 @@ occurs_below p s machine h =
     let range = in_range p h.quint machine h.stands in
     elim h.names [ inl e ↦ subst (λ n. n < p.states) e range.state | inr e ↦ subst (λ n. n < p.states) e range.next ]
 
-own_small : (p : Program) (n : Name) → IsMachine p → p.states ≤ 8000 → (s : ℕ) × Occurs p.quints s × (n ≡ Own s) → IsSmall n
+own_small : (p : Program) (n : Name) → IsMachine p → p.states ≤ 8000 → (s : ℕ) × Occurs p.quints s × (n ≡ Own s)
+    → IsSmall n
 own_small p n machine few own =
     let low : own.0 < p.states = occurs_below p own.0 machine own.1 in
     let small : IsSmall (Own own.0) = omega arith in
@@ -61,14 +64,22 @@ next_small p r machine few (inr h) = elim (of_two (middle_of p) (leaving (final_
   | inr (inr none) ↦ absurd none
 ]
 
-pub writable : (t : Named) (r : Rule) → IsMachine t.machine → t.machine.states ≤ 8000 → Has (rules_of t.machine) r → IsWritable t r
+pub writable : (t : Named) (r : Rule) → IsMachine t.machine → t.machine.states ≤ 8000 → Has (rules_of t.machine) r
+    → IsWritable t r
 writable t r machine few h =
     let knows = rule_knows t.machine r machine h in
-    record { state = state_small t.machine r machine few h; read = knows.read; write = knows.write; next = next_small t.machine r machine few h }
+    record {
+      state = state_small t.machine r machine few h;
+      read = knows.read;
+      write = knows.write;
+      next = next_small
+          t.machine r machine few h;
+    }
 
 pub all_writable : (t : Named) → IsMachine t.machine → t.machine.states ≤ 8000 → All (IsWritable t) (rules_of t.machine)
 all_writable t machine few k d inside =
-    writable t (get_or (rules_of t.machine) k d) machine few (nth_in (rules_of t.machine) (suc k) (get_or (rules_of t.machine) k d) (nth-get_or (rules_of t.machine) k d inside))
+    writable t (get_or (rules_of t.machine) k d) machine few (nth_in (rules_of t.machine) (suc k)
+    (get_or (rules_of t.machine) k d) (nth-get_or (rules_of t.machine) k d inside))
 
 -- ---- the form of a name
 
@@ -93,7 +104,8 @@ name_form First small = refl
 name_form Last small = refl
 name_form (Own s) small =
     let short : length (decimal (s + 1)) ≤ 4 = length-decimal-le 4 (s + 1) (omega arith) (omega arith) (omega arith) in
-    let bytes : list_all is_name_byte (decimal (s + 1)) ≡ true = name_digits (decimal (s + 1)) (digits_decimal own (s + 1) (omega arith)) in
+    let bytes : list_all is_name_byte (decimal (s + 1)) ≡ true =
+    name_digits (decimal (s + 1)) (digits_decimal own (s + 1) (omega arith)) in
     let least : nat_le 1 (length (name_text (Own s))) ≡ true = grind (arith, nat_tests) in
     let most : nat_le (length (name_text (Own s))) 32 ≡ true = grind (arith, nat_tests) in
     three_true _ _ _ least most bytes
@@ -102,24 +114,29 @@ name_form (Own s) small =
 
 name_once : (a b : Name) → IsSmall a → IsSmall b → name_text a ≡ name_text b → a ≡ b
 name_once First First h k e = refl
-name_once First (Own t) h k e = let head : ◌≡◌ {A = ℕ} 73 81 = ap (λ (l : List ℕ). get_or l 0 0) e in absurd (omega arith)
+name_once First (Own t) h k e = let head : ◌≡◌ {A = ℕ} 73 81 =
+    ap (λ (l : List ℕ). get_or l 0 0) e in absurd (omega arith)
 name_once First Last h k e = let head : ◌≡◌ {A = ℕ} 73 79 = ap (λ (l : List ℕ). get_or l 0 0) e in absurd (omega arith)
-name_once (Own s) First h k e = let head : ◌≡◌ {A = ℕ} 81 73 = ap (λ (l : List ℕ). get_or l 0 0) e in absurd (omega arith)
+name_once (Own s) First h k e = let head : ◌≡◌ {A = ℕ} 81 73 =
+    ap (λ (l : List ℕ). get_or l 0 0) e in absurd (omega arith)
 name_once (Own s) (Own t) h k e =
     let rest : decimal (s + 1) ≡ decimal (t + 1) = cc in
     let same : s + 1 ≡ t + 1 = decimal_injective (s + 1) (t + 1) (omega arith) (omega arith) rest in
     let equal : s ≡ t = omega arith in
     ap Own equal
-name_once (Own s) Last h k e = let head : ◌≡◌ {A = ℕ} 81 79 = ap (λ (l : List ℕ). get_or l 0 0) e in absurd (omega arith)
+name_once (Own s) Last h k e = let head : ◌≡◌ {A = ℕ} 81 79 =
+    ap (λ (l : List ℕ). get_or l 0 0) e in absurd (omega arith)
 name_once Last First h k e = let head : ◌≡◌ {A = ℕ} 79 73 = ap (λ (l : List ℕ). get_or l 0 0) e in absurd (omega arith)
-name_once Last (Own t) h k e = let head : ◌≡◌ {A = ℕ} 79 81 = ap (λ (l : List ℕ). get_or l 0 0) e in absurd (omega arith)
+name_once Last (Own t) h k e = let head : ◌≡◌ {A = ℕ} 79 81 =
+    ap (λ (l : List ℕ). get_or l 0 0) e in absurd (omega arith)
 name_once Last Last h k e = refl
 
 text_same : (a b : Name) → IsSmall a → IsSmall b → bytes_eq (name_text a) (name_text b) ≡ is_same a b
 text_same a b h k = elim (cases_Bool (is_same a b)) [
   | inl hit ↦ (bytes_eq-Decides (name_text a) (name_text b)).1 (ap name_text ((same_decides a b).0 hit)) ∙ sym hit
   | inr miss ↦ elim (cases_Bool (bytes_eq (name_text a) (name_text b))) [
-    | inl equal ↦ let one : true ≡ false = sym ((same_decides a b).1 (name_once a b h k ((bytes_eq-Decides (name_text a) (name_text b)).0 equal))) ∙ miss in cc
+    | inl equal ↦ let one : true ≡ false = sym ((same_decides a b).1
+        (name_once a b h k ((bytes_eq-Decides (name_text a) (name_text b)).0 equal))) ∙ miss in cc
     | inr other ↦ other ∙ sym miss
   ]
 ]
@@ -130,7 +147,8 @@ text_same a b h k = elim (cases_Bool (is_same a b)) [
 in_filter : {X : Type 0} (test : X → Bool) (xs : List X) (x : X) → Has (filter test xs) x → Has xs x
 in_filter test [] x h = h
 in_filter test (y ∷ ys) x h = elim (cases_Bool (test y)) [
-  | inl kept ↦ let there : Has (y ∷ filter test ys) x = rw kept at h in elim there [ inl e ↦ inl e | inr rest ↦ inr (in_filter test ys x rest) ]
+  | inl kept ↦ let there : Has (y ∷ filter test ys) x = rw kept at h in elim there
+      [ inl e ↦ inl e | inr rest ↦ inr (in_filter test ys x rest) ]
   | inr out ↦ inr (in_filter test ys x (rw out at h))
 ]
 
@@ -152,20 +170,24 @@ filter_texts n (m ∷ ms) h all =
     ]
 
 -- the texts of names appear in the names' order
-firsts_texts : (ns : List Name) → ((n : Name) → Has ns n → IsSmall n) → firsts (map name_text ns) ≡ map name_text (firsts_by is_same ns)
+firsts_texts : (ns : List Name) → ((n : Name) → Has ns n → IsSmall n)
+    → firsts (map name_text ns) ≡ map name_text (firsts_by is_same ns)
 unfolding firsts_by
 firsts_texts [] all = refl
 firsts_texts (n ∷ ns) all =
     ap (λ zs. name_text n ∷ filter (λ w. not (bytes_eq (name_text n) w)) zs) (firsts_texts ns (λ m k. all m (inr k)))
-    ∙ ap (λ zs. name_text n ∷ zs) (filter_texts n (firsts_by is_same ns) (all n (inl refl)) (λ m k. all m (inr (in_firsts ns m k))))
+    ∙ ap (λ zs. name_text n ∷ zs) (filter_texts n (firsts_by is_same ns) (all n (inl refl))
+    (λ m k. all m (inr (in_firsts ns m k))))
 
-names_small : (t : Named) (rs : List Rule) → ((r : Rule) → Has rs r → IsWritable t r) → (n : Name) → Has (names_of rs) n → IsSmall n
+names_small : (t : Named) (rs : List Rule) → ((r : Rule) → Has rs r → IsWritable t r) → (n : Name) → Has (names_of rs) n
+    → IsSmall n
 names_small t [] all n h = absurd h
 names_small t (r ∷ rs) all n (inl e) = subst IsSmall (sym e) (all r (inl refl)).state
 names_small t (r ∷ rs) all n (inr (inl e)) = subst IsSmall (sym e) (all r (inl refl)).next
 names_small t (r ∷ rs) all n (inr (inr h)) = names_small t rs (λ s k. all s (inr k)) n h
 
-names_written : (letters : List ℕ) (rs : List Rule) → names_in (map (rule_entry letters) rs) ≡ map name_text (names_of rs)
+names_written : (letters : List ℕ) (rs : List Rule) → names_in (map (rule_entry letters) rs)
+    ≡ map name_text (names_of rs)
 names_written letters [] = refl
 names_written letters (r ∷ rs) = ap (λ ws. name_text r.state ∷ name_text r.next ∷ ws) (names_written letters rs)
 
@@ -176,11 +198,13 @@ names_form (n ∷ ns) all = rw (name_form n (all n (inl refl))) (names_form ns (
 -- ---- the letters in their order
 
 -- what stood before changes nothing
-firsts_known : (xs ys : List ℕ) → ((y : ℕ) → Has ys y → list_any (nat_eq y) (firsts_by nat_eq xs) ≡ true) → firsts_by nat_eq (xs ++ ys) ≡ firsts_by nat_eq xs
+firsts_known : (xs ys : List ℕ) → ((y : ℕ) → Has ys y → list_any (nat_eq y) (firsts_by nat_eq xs) ≡ true)
+    → firsts_by nat_eq (xs ++ ys) ≡ firsts_by nat_eq xs
 firsts_known xs [] h = ap (firsts_by nat_eq) (append-nil xs)
 firsts_known xs (y ∷ ys) h =
     let known : list_any (nat_eq y) (firsts_by nat_eq xs) ≡ true = h y (inl refl) in
-    let one : firsts_by nat_eq (xs ++ y ∷ []) ≡ firsts_by nat_eq xs = firsts-push nat_eq Decides-eqb xs y ∙ rw known refl in
+    let one : firsts_by nat_eq (xs ++ y ∷ []) ≡ firsts_by nat_eq xs =
+    firsts-push nat_eq Decides-eqb xs y ∙ rw known refl in
     ap (firsts_by nat_eq) (sym (append_assoc xs (y ∷ []) ys))
     ∙ firsts_known (xs ++ y ∷ []) ys (λ z k. ap (λ (l : List ℕ). list_any (nat_eq z) l) one ∙ h z (inr k))
     ∙ one
@@ -198,22 +222,31 @@ firsts_twice x xs =
     let same : nat_eq x x ≡ true = (Decides-eqb x x).1 refl in
     rw same (ap (λ l. x ∷ l) (filter_twice (λ y. not (nat_eq x y)) (firsts_by nat_eq xs)))
 
-letters_joined : (letters : List ℕ) (rs ss : List Rule) → letters_in (map (rule_entry letters) (rs ++ ss)) ≡ letters_in (map (rule_entry letters) rs) ++ letters_in (map (rule_entry letters) ss)
+letters_joined : (letters : List ℕ) (rs ss : List Rule) → letters_in (map (rule_entry letters) (rs ++ ss))
+    ≡ letters_in (map (rule_entry letters) rs) ++ letters_in (map (rule_entry letters) ss)
 letters_joined letters [] ss = refl
-letters_joined letters (r ∷ rs) ss = ap (λ ws. get_or letters r.read 0 ∷ get_or letters r.write 0 ∷ ws) (letters_joined letters rs ss)
+letters_joined letters (r ∷ rs) ss = ap (λ ws. get_or letters r.read 0 ∷ get_or letters r.write 0 ∷ ws)
+    (letters_joined letters rs ss)
 
-own_letters : (names : List (List ℕ)) (letters : List ℕ) (qs : List Quint) → letters_in (map (rule_entry letters) (map own_rule qs)) ≡ letters_in (rows_by names letters qs)
+own_letters : (names : List (List ℕ)) (letters : List ℕ) (qs : List Quint)
+    → letters_in (map (rule_entry letters) (map own_rule qs)) ≡ letters_in (rows_by names letters qs)
 own_letters names letters [] = refl
-own_letters names letters (q ∷ qs) = ap (λ ws. get_or letters q.read 0 ∷ get_or letters q.write 0 ∷ ws) (own_letters names letters qs)
+own_letters names letters (q ∷ qs) = ap (λ ws. get_or letters q.read 0 ∷ get_or letters q.write 0 ∷ ws)
+    (own_letters names letters qs)
 
-letter_known : (letters : List ℕ) (k y : ℕ) → k < length letters → y ≡ get_or letters k 0 → list_any (nat_eq y) letters ≡ true
-letter_known letters k y inside e = any-at nat_eq Decides-eqb y letters k (slice_get-get_or letters k 0 inside ∙ ap Some (sym e))
+letter_known : (letters : List ℕ) (k y : ℕ) → k < length letters → y ≡ get_or letters k 0
+    → list_any (nat_eq y) letters ≡ true
+letter_known letters k y inside e = any-at nat_eq Decides-eqb y letters k
+    (slice_get-get_or letters k 0 inside ∙ ap Some (sym e))
 
-written_known : (t : Named) (rs : List Rule) → t.machine.symbols ≡ length t.letters → ((r : Rule) → Has rs r → IsWritable t r) → (y : ℕ) →
+written_known : (t : Named) (rs : List Rule) → t.machine.symbols ≡ length t.letters
+    → ((r : Rule) → Has rs r → IsWritable t r) → (y : ℕ) →
     Has (letters_in (map (rule_entry t.letters) rs)) y → list_any (nat_eq y) t.letters ≡ true
 written_known t [] count all y h = absurd h
-written_known t (r ∷ rs) count all y (inl e) = letter_known t.letters r.read y (omega (arith, (all r (inl refl)).read, count)) e
-written_known t (r ∷ rs) count all y (inr (inl e)) = letter_known t.letters r.write y (omega (arith, (all r (inl refl)).write, count)) e
+written_known t (r ∷ rs) count all y (inl e) = letter_known t.letters r.read y
+    (omega (arith, (all r (inl refl)).read, count)) e
+written_known t (r ∷ rs) count all y (inr (inl e)) = letter_known t.letters r.write y
+    (omega (arith, (all r (inl refl)).write, count)) e
 written_known t (r ∷ rs) count all y (inr (inr h)) = written_known t rs count (λ s k. all s (inr k)) y h
 
 -- ---- the table
@@ -227,27 +260,36 @@ module _ (t : Named) (table : IsTable t) (fits : FitsTable t.machine) (few : cou
 
   -- the back rules and the last one
   abbrev tail_rules : List Rule
-  tail_rules = back_over_all (final_of t.machine.quints) 1 (t.machine.symbols - 1) ++ leaving (final_of t.machine.quints) ∷ []
+  tail_rules = back_over_all (final_of t.machine.quints) 1 (t.machine.symbols - 1)
+      ++ leaving (final_of t.machine.quints) ∷ []
 
   in_tail_rules : (r : Rule) → Has tail_rules r → Has (rules_of t.machine) r
-  in_tail_rules r h = inr (subst (λ l. Has l r) (sym (append_assoc (map own_rule t.machine.quints) (back_over_all (final_of t.machine.quints) 1 (t.machine.symbols - 1)) (leaving (final_of t.machine.quints) ∷ [])))
+  in_tail_rules r h = inr (subst (λ l. Has l r) (sym (append_assoc (map own_rule t.machine.quints)
+      (back_over_all (final_of t.machine.quints) 1 (t.machine.symbols - 1)) (leaving (final_of t.machine.quints) ∷ [])))
       (behind (map own_rule t.machine.quints) tail_rules r h))
 
   -- all letters that are written, behind the blank
-  all_letters : letters_in (map (rule_entry t.letters) (rules_of t.machine)) ≡ blank ∷ blank ∷ letters_in (rows_of t) ++ letters_in (map (rule_entry t.letters) tail_rules)
+  all_letters : letters_in (map (rule_entry t.letters) (rules_of t.machine))
+      ≡ blank ∷ blank ∷ letters_in (rows_of t) ++ letters_in (map (rule_entry t.letters) tail_rules)
   all_letters =
       let first : get_or t.letters 0 0 ≡ blank = get_or_from_slice_get t.letters 0 blank 0 (blank_first t table) in
-      let group : middle_of t.machine ++ leaving (final_of t.machine.quints) ∷ [] ≡ map own_rule t.machine.quints ++ tail_rules =
-      append_assoc (map own_rule t.machine.quints) (back_over_all (final_of t.machine.quints) 1 (t.machine.symbols - 1)) (leaving (final_of t.machine.quints) ∷ []) in
-      ap (λ b. b ∷ b ∷ letters_in (map (rule_entry t.letters) (middle_of t.machine ++ leaving (final_of t.machine.quints) ∷ []))) first
+      let group : middle_of t.machine ++ leaving (final_of t.machine.quints) ∷ []
+      ≡ map own_rule t.machine.quints ++ tail_rules =
+      append_assoc (map own_rule t.machine.quints) (back_over_all (final_of t.machine.quints) 1 (t.machine.symbols - 1))
+      (leaving (final_of t.machine.quints) ∷ []) in
+      ap (λ b. b ∷ b ∷ letters_in (map (rule_entry t.letters) (middle_of t.machine
+      ++ leaving (final_of t.machine.quints) ∷ []))) first
       ∙ ap (λ (rs : List Rule). blank ∷ blank ∷ letters_in (map (rule_entry t.letters) rs)) group
-      ∙ ap (λ ws. blank ∷ blank ∷ ws) (letters_joined t.letters (map own_rule t.machine.quints) tail_rules ∙ ap (λ ws. ws ++ letters_in (map (rule_entry t.letters) tail_rules)) (own_letters t.names t.letters t.machine.quints))
+      ∙ ap (λ ws. blank ∷ blank ∷ ws) (letters_joined t.letters (map own_rule t.machine.quints) tail_rules
+      ∙ ap (λ ws. ws ++ letters_in (map (rule_entry t.letters) tail_rules))
+      (own_letters t.names t.letters t.machine.quints))
 
   letters_first : t.letters ≡ firsts_by nat_eq (blank ∷ letters_in (map (rule_entry t.letters) (rules_of t.machine)))
   letters_first =
       let before : firsts_by nat_eq (blank ∷ letters_in (rows_of t)) ≡ t.letters = sym table.spelled.letters_by_first in
       let behind = firsts_known (blank ∷ letters_in (rows_of t)) (letters_in (map (rule_entry t.letters) tail_rules))
-      (λ y h. ap (λ (l : List ℕ). list_any (nat_eq y) l) before ∙ written_known t tail_rules table.symbols (λ r k. all r (in_tail_rules r k)) y h) in
+      (λ y h. ap (λ (l : List ℕ). list_any (nat_eq y) l) before
+      ∙ written_known t tail_rules table.symbols (λ r k. all r (in_tail_rules r k)) y h) in
       sym (ap (λ ws. firsts_by nat_eq (blank ∷ ws)) all_letters
       ∙ firsts_twice blank (blank ∷ letters_in (rows_of t) ++ letters_in (map (rule_entry t.letters) tail_rules))
       ∙ firsts_twice blank (letters_in (rows_of t) ++ letters_in (map (rule_entry t.letters) tail_rules))
@@ -259,17 +301,23 @@ module _ (t : Named) (table : IsTable t) (fits : FitsTable t.machine) (few : cou
   names = distinct_names (rules_of t.machine)
 
   -- the text of a name's number is that of the name
-  name_at : (n : Name) → Has (names_of (rules_of t.machine)) n → get_or (map name_text names) (number_of (rules_of t.machine) n) [] ≡ name_text n
+  name_at : (n : Name) → Has (names_of (rules_of t.machine)) n
+      → get_or (map name_text names) (number_of (rules_of t.machine) n) [] ≡ name_text n
   name_at n h =
-      let at : slice_get names (number_of (rules_of t.machine) n) ≡ Some n = place_stands names n (first_appears (names_of (rules_of t.machine)) n h) in
-      get_or-map name_text names (number_of (rules_of t.machine) n) n [] (slice_get_within names (number_of (rules_of t.machine) n) n at)
+      let at : slice_get names (number_of (rules_of t.machine) n) ≡ Some n =
+      place_stands names n (first_appears (names_of (rules_of t.machine)) n h) in
+      get_or-map name_text names (number_of (rules_of t.machine) n) n []
+      (slice_get_within names (number_of (rules_of t.machine) n) n at)
       ∙ ap name_text (get_or_from_slice_get names (number_of (rules_of t.machine) n) n n at)
 
-  rows_written : (rs : List Rule) → ((r : Rule) → Has rs r → Has (rules_of t.machine) r) → rows_by (map name_text names) t.letters (map (numbered (number_of (rules_of t.machine))) rs) ≡ map (rule_entry t.letters) rs
+  rows_written : (rs : List Rule) → ((r : Rule) → Has rs r → Has (rules_of t.machine) r)
+      → rows_by (map name_text names) t.letters (map (numbered (number_of (rules_of t.machine))) rs)
+      ≡ map (rule_entry t.letters) rs
   rows_written [] within = refl
   rows_written (r ∷ rs) within =
       let two = names_of_rule (rules_of t.machine) r (within r (inl refl)) in
-      rw (name_at r.state two.0, name_at r.next two.1) (ap (λ l. rule_entry t.letters r ∷ l) (rows_written rs (λ s h. within s (inr h))))
+      rw (name_at r.state two.0, name_at r.next two.1) (ap (λ l. rule_entry t.letters r ∷ l)
+      (rows_written rs (λ s h. within s (inr h))))
 
   pub rows_are : rows_of (standard_table t) ≡ map (rule_entry t.letters) (rules_of t.machine)
   rows_are = rows_written (rules_of t.machine) (λ r h. h)
@@ -277,16 +325,23 @@ module _ (t : Named) (table : IsTable t) (fits : FitsTable t.machine) (few : cou
   pub is_table : IsTable (standard_table t)
   is_table =
       let again = machine_again t.machine machine (omega (arith, few)) in
-      let count : length (standardised t.machine).quints ≡ count_of t.machine = rules_counted (number_of (rules_of t.machine)) t.machine machine in
-      let long : length (rows_of (standard_table t)) ≡ length (standardised t.machine).quints = length-map (standardised t.machine).quints (λ q. _) in
+      let count : length (standardised t.machine).quints ≡ count_of t.machine =
+      rules_counted (number_of (rules_of t.machine)) t.machine machine in
+      let long : length (rows_of (standard_table t)) ≡ length (standardised t.machine).quints =
+      length-map (standardised t.machine).quints (λ q. _) in
       let named : length (map name_text names) ≡ length names = length-map names name_text in
       record {
         spelled = record {
           rows = refl;
-          in_range = subst (λ f. All (IsInRange f (length t.letters)) (standardised t.machine).quints) (sym named) (subst (λ z. All (IsInRange (length names) z) (standardised t.machine).quints) table.symbols again.in_range);
-          names_by_first = sym (ap (λ rows. firsts (names_in rows)) rows_are ∙ ap firsts (names_written t.letters (rules_of t.machine)) ∙ firsts_texts (names_of (rules_of t.machine)) (names_small t (rules_of t.machine) all));
+          in_range = subst (λ f. All (IsInRange f (length t.letters)) (standardised t.machine).quints) (sym named)
+              (subst (λ z. All (IsInRange (length names) z) (standardised t.machine).quints) table.symbols
+              again.in_range);
+          names_by_first = sym (ap (λ rows. firsts (names_in rows)) rows_are
+              ∙ ap firsts (names_written t.letters (rules_of t.machine))
+              ∙ firsts_texts (names_of (rules_of t.machine)) (names_small t (rules_of t.machine) all));
           letters_by_first = letters_first ∙ ap (λ rows. firsts_by nat_eq (blank ∷ letters_in rows)) (sym rows_are);
-          names_form = names_form names (λ n h. names_small t (rules_of t.machine) all n (in_firsts (names_of (rules_of t.machine)) n h));
+          names_form = names_form names (λ n h. names_small t (rules_of t.machine) all n
+              (in_firsts (names_of (rules_of t.machine)) n h));
           letters_form = table.spelled.letters_form;
         };
         some = omega (arith, count, long);

@@ -21,7 +21,8 @@ pub record KnowsSymbols (symbols : ℕ) (r : Rule) : Type 0 where
 
 -- every rule does
 pub rule_knows : (p : Program) (r : Rule) → IsMachine p → Has (rules_of p) r → KnowsSymbols p.symbols r
-rule_knows p r machine (inl e) = let some = some_symbol p machine in subst (KnowsSymbols p.symbols) (sym e) (record { read = some; write = some })
+rule_knows p r machine (inl e) = let some = some_symbol p machine in subst (KnowsSymbols p.symbols) (sym e)
+    (record { read = some; write = some })
 rule_knows p r machine (inr h) = elim (of_two (middle_of p) (leaving (final_of p.quints) ∷ []) r h) [
   | inl mid ↦ elim (of_two (map own_rule p.quints) (back_over_all (final_of p.quints) 1 (p.symbols - 1)) r mid) [
     | inl own ↦
@@ -33,22 +34,27 @@ rule_knows p r machine (inr h) = elim (of_two (middle_of p) (leaving (final_of p
         let below : x.0 < p.symbols = omega (arith, x.1, x.3) in
         subst (KnowsSymbols p.symbols) (sym x.2) (record { read = below; write = below })
   ]
-  | inr (inl e) ↦ let some = some_symbol p machine in subst (KnowsSymbols p.symbols) (sym e) (record { read = some; write = some })
+  | inr (inl e) ↦ let some = some_symbol p machine in subst (KnowsSymbols p.symbols) (sym e)
+      (record { read = some; write = some })
   | inr (inr none) ↦ absurd none
 ]
 
 -- every quintuple has its numbers in range
-quint_in_range : (p : Program) (q : Quint) → IsMachine p → Has (standardised p).quints q → IsInRange (standardised p).states p.symbols q
+quint_in_range : (p : Program) (q : Quint) → IsMachine p → Has (standardised p).quints q
+    → IsInRange (standardised p).states p.symbols q
 quint_in_range p q machine h =
     let r = in_map_cases (numbered (numbering_of p)) (rules_of p) q h in
     let knows = rule_knows p r.0 machine r.1 in
     let numbers = numbers_inside (rules_of p) r.0 r.1 in
-    subst (IsInRange (standardised p).states p.symbols) (sym r.2) (record { state = numbers.0; read = knows.read; write = knows.write; next = numbers.1 })
+    subst (IsInRange (standardised p).states p.symbols) (sym r.2)
+    (record { state = numbers.0; read = knows.read; write = knows.write; next = numbers.1 })
 
 -- so the list is a machine
 pub machine_again : (p : Program) → IsMachine p → length p.quints + p.symbols + 1 < 2 ^ 32 → IsMachine (standardised p)
 machine_again p machine few = record {
   some = let count = rules_counted (numbering_of p) p machine in omega (arith, count);
   few = let count = rules_counted (numbering_of p) p machine in omega (arith, count, few);
-  in_range = λ k d h. quint_in_range p (get_or (standardised p).quints k d) machine (nth_in (standardised p).quints (suc k) (get_or (standardised p).quints k d) (nth-get_or (standardised p).quints k d h));
+  in_range = λ k d h. quint_in_range p (get_or (standardised p).quints k d) machine
+      (nth_in (standardised p).quints (suc k) (get_or (standardised p).quints k d)
+      (nth-get_or (standardised p).quints k d h));
 }

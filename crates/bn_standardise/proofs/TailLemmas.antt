@@ -1,5 +1,6 @@
 -- There is one longest word without blanks that ends at a head, and only one.
-use Rattle.std.specs.Prelude.{◌≡◌, ◌≢◌, ℕ, zero, suc, ◌+◌, ◌<◌, ◌≤◌, ℤ, pos, ◌-ℤ◌, ◌<ℤ◌, List, [], ◌∷◌, Option, Some, None, ◌⊎◌}
+use Rattle.std.specs.Prelude.{◌≡◌, ◌≢◌, ℕ, zero, suc, ◌+◌, ◌<◌, ◌≤◌, ℤ, pos, ◌-ℤ◌, ◌<ℤ◌, List, [], ◌∷◌, Option, Some}
+use Rattle.std.specs.Prelude.{None, ◌⊎◌}
 use Rattle.std.specs.Ordering.{int_cmp, int_eq}
 use Rattle.std.specs.FinMap.{entries, get-entries, find}
 use Rattle.std.specs.Int.RustNames.{unsigned_abs}
@@ -35,7 +36,8 @@ before_all (e ∷ es) =
           passed q e (int_eq q e.0) refl apart (find int_cmp q es) ∙ rest.1 q further,
     )
   where
-    passed : (q : ℤ) (e : ℤ × ℕ) (b : Bool) → int_eq q e.0 ≡ b → q ≢ e.0 → (rest : Option ℕ) → cond b (Some e.1) rest ≡ rest
+    passed : (q : ℤ) (e : ℤ × ℕ) (b : Bool) → int_eq q e.0 ≡ b → q ≢ e.0 → (rest : Option ℕ)
+        → cond b (Some e.1) rest ≡ rest
     passed q e true is apart rest = absurd (apart ((Decides-int_eq q e.0).0 is))
     passed q e false is apart rest = refl
 
@@ -48,19 +50,30 @@ blank_before m =
 
 -- one letter more
 one_more : (t : Tape) (d : ℕ) → cell t t.head ≢ 0 → HasTail (behind 1 t) d → HasTail t (suc d)
-one_more t d letter rest = record { letters = letters; ended = let there : (t.head -ℤ pos 1) -ℤ pos d ≡ t.head -ℤ pos (suc d) = omega (arith, ints) in ap (cell t) (sym there) ∙ rest.ended }
+one_more t d letter rest = record {
+  letters = letters;
+  ended = let there : (t.head -ℤ pos 1) -ℤ pos d
+      ≡ t.head -ℤ pos (suc d) = omega (arith, ints) in ap (cell t) (sym there) ∙ rest.ended;
+}
   where
     letters : (k : ℕ) → k < suc d → cell t (t.head -ℤ pos k) ≢ 0
     letters zero h e = let here : t.head -ℤ pos 0 ≡ t.head = omega (arith, ints) in letter (ap (cell t) (sym here) ∙ e)
-    letters (suc k) h e = let there : (t.head -ℤ pos 1) -ℤ pos k ≡ t.head -ℤ pos (suc k) = omega (arith, ints) in rest.letters k (omega (arith, h)) (ap (cell t) there ∙ e)
+    letters (suc k) h e = let there : (t.head -ℤ pos 1) -ℤ pos k ≡ t.head -ℤ pos (suc k) =
+        omega (arith, ints) in rest.letters k (omega (arith, h)) (ap (cell t) there ∙ e)
 
 -- no letter at all
 no_letter : (t : Tape) → cell t t.head ≡ 0 → HasTail t 0
-no_letter t blank = record { letters = λ k h. absurd (omega arith); ended = let here : t.head -ℤ pos 0 ≡ t.head = omega (arith, ints) in ap (cell t) here ∙ blank }
+no_letter t blank = record {
+  letters = λ k h. absurd (omega arith);
+  ended = let here : t.head -ℤ pos 0
+      ≡ t.head = omega (arith, ints) in ap (cell t) here ∙ blank;
+}
 
 -- a search to the left that comes to the blanks
-tail_found : (k fuel : ℕ) (t : Tape) → ((q : ℤ) → q <ℤ (pos 0 -ℤ pos k) → cell t q ≡ 0) → (t.head -ℤ pos fuel) <ℤ (pos 0 -ℤ pos k) → (d : ℕ) × HasTail t d
-tail_found k zero t blank far = let here : t.head <ℤ (pos 0 -ℤ pos k) = omega (arith, ints) in (0, no_letter t (blank t.head here))
+tail_found : (k fuel : ℕ) (t : Tape) → ((q : ℤ) → q <ℤ (pos 0 -ℤ pos k) → cell t q ≡ 0)
+    → (t.head -ℤ pos fuel) <ℤ (pos 0 -ℤ pos k) → (d : ℕ) × HasTail t d
+tail_found k zero t blank far = let here : t.head <ℤ (pos 0 -ℤ pos k) =
+    omega (arith, ints) in (0, no_letter t (blank t.head here))
 tail_found k (suc fuel) t blank far =
     let further : ((t.head -ℤ pos 1) -ℤ pos fuel) <ℤ (pos 0 -ℤ pos k) = omega (arith, ints) in
     let rest = tail_found k fuel (behind 1 t) blank further in

@@ -11,7 +11,9 @@ pub table_machine : (t : Named) → IsTable t → IsMachine t.machine
 table_machine t h = record {
   some = let rows : length (rows_of t) ≡ length t.machine.quints = simp length-map in omega (arith, h.some);
   few = let rows : length (rows_of t) ≡ length t.machine.quints = simp length-map in omega (arith, h.few);
-  in_range = λ k d inside. subst (λ (f : ℕ). IsInRange f t.machine.symbols (get_or t.machine.quints k d)) (sym h.states) (subst (λ (z : ℕ). IsInRange (length t.names) z (get_or t.machine.quints k d)) (sym h.symbols) (h.spelled.in_range k d inside));
+  in_range = λ k d inside. subst (λ (f : ℕ). IsInRange f t.machine.symbols (get_or t.machine.quints k d)) (sym h.states)
+      (subst (λ (z : ℕ). IsInRange (length t.names) z (get_or t.machine.quints k d)) (sym h.symbols)
+      (h.spelled.in_range k d inside));
 }
 
 pub tables_machines : TablesAreMachines

@@ -1,5 +1,6 @@
 -- Entries without a fault, and what they say.
-use Rattle.std.proofs.Common.{◌≡◌, ◌≤◌, ◌∷◌, ◌∙◌, ℕ, true, List, [], length, None, refl, sym, subst, arith, Result, Ok, Err}
+use Rattle.std.proofs.Common.{◌≡◌, ◌≤◌, ◌∷◌, ◌∙◌, ℕ, true, List, [], length, None, refl, sym, subst, arith, Result, Ok}
+use Rattle.std.proofs.Common.{Err}
 use Rattle.std.specs.Prelude.{◌==◌, IfOk}
 use Rattle.std.proofs.lemmas.Bool.{false≢true}
 use Rattle.std.proofs.lemmas.Bool.Decides.{Decides-eqb}
@@ -23,7 +24,8 @@ letter_is : (field : List ℕ) → is_letter field ≡ true → (b : ℕ) × (fi
 letter_is [] e = absurd (false≢true e)
 letter_is (b ∷ []) e = (b, refl, (both_true (is_symbol_byte b) true e).0)
 letter_is (b ∷ c ∷ rest) e =
-    let one : length (b ∷ c ∷ rest) ≡ 1 = (Decides-eqb (length (b ∷ c ∷ rest)) 1).0 (both_true (length (b ∷ c ∷ rest) == 1) _ e).0 in
+    let one : length (b ∷ c ∷ rest) ≡ 1 = (Decides-eqb (length (b ∷ c ∷ rest)) 1).0
+    (both_true (length (b ∷ c ∷ rest) == 1) _ e).0 in
     absurd (omega arith)
 
 pub letter_back : (b : ℕ) → is_symbol_byte b ≡ true → is_letter (b ∷ []) ≡ true
@@ -52,7 +54,8 @@ fields-pass n a b c d e h =
     record { state = one.0; read = two.0; write = three.0; shift = four.0; next = five.0 }
 
 pub fields-back : (n : ℕ) (s : Said) → HasForms s → form_fault n (entry_of s) ≡ None
-fields-back n s h = rw (h.state, letter_back s.read h.read, letter_back s.write h.write, shift_back s.shift, h.next) refl
+fields-back n s h = rw (h.state, letter_back s.read h.read, letter_back s.write h.write, shift_back s.shift, h.next)
+    refl
 
 five-or-fault : (n : ℕ) (fields : List (List ℕ)) → form_fault n fields ≡ None
     → (a b c d e : List ℕ) × (fields ≡ a ∷ b ∷ c ∷ d ∷ e ∷ []) × Passes a b c d e
@@ -69,7 +72,8 @@ five-said : (a b c d e : List ℕ) (r w : ℕ) (s : Shift) → b ≡ r ∷ [] �
 five-said a b c d e r w s read write shift = rw (read, write, shift) refl
 
 -- an entry without a fault says something, in the right forms
-pub says : (n : ℕ) (fields : List (List ℕ)) → entry_fault n fields ≡ None → (n ≤ MOST_ENTRIES) × ((s : Said) × (fields ≡ entry_of s) × HasForms s)
+pub says : (n : ℕ) (fields : List (List ℕ)) → entry_fault n fields ≡ None
+    → (n ≤ MOST_ENTRIES) × ((s : Said) × (fields ≡ entry_of s) × HasForms s)
 says n fields h =
     let (few, form) = in_number MOST_ENTRIES refusal.TooMany form_fault n fields h in
     let (a, b, c, d, e, is, p) = five-or-fault n fields form in
@@ -94,7 +98,8 @@ forms n s form =
       next = p.next;
     }
 
-pub said-forms : (n : ℕ) (a b c d e : List ℕ) (r : Result Fields TableRefusal) → IfOk r (λ f. entry_of (said f) ≡ a ∷ b ∷ c ∷ d ∷ e ∷ []) → field_fault n a b c d e ≡ err_of r
+pub said-forms : (n : ℕ) (a b c d e : List ℕ) (r : Result Fields TableRefusal)
+    → IfOk r (λ f. entry_of (said f) ≡ a ∷ b ∷ c ∷ d ∷ e ∷ []) → field_fault n a b c d e ≡ err_of r
     → IfOk r (λ f. HasForms (said f))
 said-forms n a b c d e (Ok f) is none =
     let P : List (List ℕ) → Type 0 = λ fields. form_fault n fields ≡ None in

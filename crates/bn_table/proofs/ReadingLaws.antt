@@ -1,5 +1,6 @@
 -- Bytes have one reading, and have one exactly where their entries have no fault.
-use Rattle.std.proofs.Common.{◌≡◌, ◌≤◌, ◌+◌, ◌∷◌, ◌++◌, ◌∙◌, ℕ, true, List, [], length, None, refl, sym, ap, arith, nat_eq, length-append, All}
+use Rattle.std.proofs.Common.{◌≡◌, ◌≤◌, ◌+◌, ◌∷◌, ◌++◌, ◌∙◌, ℕ, true, List, [], length, None, refl, sym, ap, arith}
+use Rattle.std.proofs.Common.{nat_eq, length-append, All}
 use Rattle.std.specs.Prelude.{bytes_eq}
 use Rattle.std.specs.List.{list_all}
 use Rattle.std.proofs.lemmas.Bool.Decides.{Decides-eqb}
@@ -18,7 +19,8 @@ use Rattle.bn_machine.specs.declared.quint.Quint.{Quint}
 use Rattle.bn_table.specs.Entry.{Said, HasForms, entry_of}
 use Rattle.bn_machine.specs.Shifts.{shift_text}
 use Rattle.bn_table.specs.Faults.{entry_fault, table_fault}
-use Rattle.bn_table.specs.Rows.{IsTableOf, Named, SpellsQuintuples, blank, letters_in, named_program, names_in, rows_by, with_letter}
+use Rattle.bn_table.specs.Rows.{IsTableOf, Named, SpellsQuintuples, blank, letters_in, named_program, names_in, rows_by}
+use Rattle.bn_table.specs.Rows.{with_letter}
 use Rattle.bn_table.proofs.SaidLemmas.{said_of}
 use Rattle.bn_table.specs.declared.entry.TheConstants.{MOST_ENTRIES}
 use Rattle.bn_table.specs.declared.refusal.TableRefusal.TheVariants as refusal
@@ -28,7 +30,8 @@ use Rattle.bn_machine.proofs.ShiftLemmas.{one_shift}
 
 -- ---- one reading
 
-same-quint : (q r : Quint) → q.state ≡ r.state → q.read ≡ r.read → q.write ≡ r.write → q.shift ≡ r.shift → q.next ≡ r.next → q ≡ r
+same-quint : (q r : Quint) → q.state ≡ r.state → q.read ≡ r.read → q.write ≡ r.write → q.shift ≡ r.shift
+    → q.next ≡ r.next → q ≡ r
 same-quint q r a b c d e = λ i. record { state = a i; read = b i; write = c i; shift = d i; next = e i }
 
 -- what two equal entries say is equal
@@ -42,8 +45,10 @@ record SameSaid (s t : Said) : Type 0 where
 same-said : (s t : Said) → entry_of s ≡ entry_of t → SameSaid s t
 same-said s t e = record { state = cc; read = cc; write = cc; shift = cc; next = cc }
 
-same-rows : (names : List (List ℕ)) (letters : List ℕ) → AreApart bytes_eq bytes_eq-Decides names → AreApart nat_eq Decides-eqb letters
-    → (qs rs : List Quint) → All (IsInRange (length names) (length letters)) qs → All (IsInRange (length names) (length letters)) rs
+same-rows : (names : List (List ℕ)) (letters : List ℕ) → AreApart bytes_eq bytes_eq-Decides names
+    → AreApart nat_eq Decides-eqb letters
+    → (qs rs : List Quint) → All (IsInRange (length names) (length letters)) qs
+    → All (IsInRange (length names) (length letters)) rs
     → rows_by names letters qs ≡ rows_by names letters rs → qs ≡ rs
 same-rows names letters a b [] [] h k e = refl
 same-rows names letters a b [] (r ∷ rs) h k e = cc e
@@ -64,8 +69,10 @@ same-rows names letters a b (q ∷ qs) (r ∷ rs) h k e =
     let rest : qs ≡ rs = same-rows names letters a b qs rs (All-tail In q qs h) (All-tail In r rs k) tail in
     λ i. one i ∷ rest i
 
-one-spelling : (entries : List (List (List ℕ))) (names names2 : List (List ℕ)) (letters letters2 : List ℕ) (qs rs : List Quint)
-    → names2 ≡ names → letters2 ≡ letters → SpellsQuintuples names letters qs entries → SpellsQuintuples names2 letters2 rs entries → qs ≡ rs
+one-spelling : (entries : List (List (List ℕ))) (names names2 : List (List ℕ)) (letters letters2 : List ℕ)
+    (qs rs : List Quint)
+    → names2 ≡ names → letters2 ≡ letters → SpellsQuintuples names letters qs entries
+    → SpellsQuintuples names2 letters2 rs entries → qs ≡ rs
 one-spelling entries names names2 letters letters2 qs rs e f h k =
     let apart = rw (← h.names_by_first) at (apart-firsts bytes_eq bytes_eq-Decides (names_in entries)) in
     let free = rw (← h.letters_by_first) at (apart-firsts nat_eq Decides-eqb (blank ∷ letters_in entries)) in
@@ -76,10 +83,17 @@ pub one_reading : (entries : List (List (List ℕ))) (t u : Named) → IsTableOf
 one_reading entries t u h k =
     let names : u.names ≡ t.names = k.spelled.names_by_first ∙ sym h.spelled.names_by_first in
     let letters : u.letters ≡ t.letters = k.spelled.letters_by_first ∙ sym h.spelled.letters_by_first in
-    let quints = one-spelling entries t.names u.names t.letters u.letters t.machine.quints u.machine.quints names letters h.spelled k.spelled in
-    let states : t.machine.states ≡ u.machine.states = h.states ∙ ap (λ (xs : List (List ℕ)). length xs) (sym names) ∙ sym k.states in
-    let symbols : t.machine.symbols ≡ u.machine.symbols = h.symbols ∙ ap (λ (xs : List ℕ). length xs) (sym letters) ∙ sym k.symbols in
-    λ i. record { machine = record { quints = quints i; states = states i; symbols = symbols i }; names = sym names i; letters = sym letters i }
+    let quints = one-spelling entries t.names u.names t.letters u.letters t.machine.quints u.machine.quints names
+    letters h.spelled k.spelled in
+    let states : t.machine.states ≡ u.machine.states = h.states ∙ ap (λ (xs : List (List ℕ)). length xs) (sym names)
+    ∙ sym k.states in
+    let symbols : t.machine.symbols ≡ u.machine.symbols = h.symbols ∙ ap (λ (xs : List ℕ). length xs) (sym letters)
+    ∙ sym k.symbols in
+    λ i. record {
+      machine = record { quints = quints i; states = states i; symbols = symbols i };
+      names = sym names i;
+      letters = sym letters i;
+    }
 
 -- ---- a reading or a fault
 
@@ -91,7 +105,8 @@ record Spelling (entries : List (List (List ℕ))) : Type 0 where
   spells : SpellsQuintuples names letters quints entries
   few : length entries ≤ MOST_ENTRIES
 
-one-more : (names : List (List ℕ)) (letters : List ℕ) (quints : List Quint) (done : List (List (List ℕ))) (s : Said) → HasForms s → SpellsQuintuples names letters quints done → length done + 1 ≤ MOST_ENTRIES
+one-more : (names : List (List ℕ)) (letters : List ℕ) (quints : List Quint) (done : List (List (List ℕ))) (s : Said)
+    → HasForms s → SpellsQuintuples names letters quints done → length done + 1 ≤ MOST_ENTRIES
     → Spelling (done ++ entry_of s ∷ [])
 one-more names letters quints done s f h few =
     let (n1, state) = first_number bytes_eq bytes_eq-Decides names s.state s.next in
@@ -99,7 +114,8 @@ one-more names letters quints done s f h few =
     let (k1, read) = first_number nat_eq Decides-eqb letters s.read s.write in
     let (k2, write) = last_number nat_eq Decides-eqb (with_letter letters s.read) s.write in
     let q : Quint = record { state = n1; read = k1; write = k2; shift = s.shift; next = n2 } in
-    let adds : Adds names letters s q (with_name (with_name names s.state) s.next) (with_letter (with_letter letters s.read) s.write) = record {
+    let adds : Adds names letters s q (with_name (with_name names s.state) s.next)
+    (with_letter (with_letter letters s.read) s.write) = record {
       names_after = refl;
       letters_after = refl;
       state = state;
@@ -120,7 +136,8 @@ one-more names letters quints done s f h few =
 nothing : Spelling []
 nothing = record { names = []; letters = blank ∷ []; quints = []; spells = spells-none; few = omega arith }
 
-next-spelling : (done : List (List (List ℕ))) (fields : List (List ℕ)) → Spelling done → entry_fault (length done + 1) fields ≡ None → Spelling (done ++ fields ∷ [])
+next-spelling : (done : List (List (List ℕ))) (fields : List (List ℕ)) → Spelling done
+    → entry_fault (length done + 1) fields ≡ None → Spelling (done ++ fields ∷ [])
 next-spelling done fields so here =
     let (few, said) = says (length done + 1) fields here in
     let (s, is, f) = said in
@@ -133,7 +150,8 @@ reading_of entries e =
       record { spelled = so.spells; some = some; few = so.few; states = refl; symbols = refl },
     )
 
-pub row-forms : (names : List (List ℕ)) (letters : List ℕ) (q : Quint) → list_all is_state_name names ≡ true → list_all is_symbol_byte letters ≡ true
+pub row-forms : (names : List (List ℕ)) (letters : List ℕ) (q : Quint) → list_all is_state_name names ≡ true
+    → list_all is_symbol_byte letters ≡ true
     → IsInRange (length names) (length letters) q → HasForms (said_of names letters q)
 row-forms names letters q f g h = record {
   state = all-at is_state_name names q.state _ f (slice_get-get_or names q.state [] h.state);
@@ -147,5 +165,6 @@ no_fault_of entries t h =
     let s = h.spelled in
     let In : Quint → Type 0 = IsInRange (length t.names) (length t.letters) in
     none_faulty refusal.Empty entry_fault (λ (q : Quint). entry_of (said_of t.names t.letters q)) In MOST_ENTRIES
-    (λ n q few within. no_fault n (said_of t.names t.letters q) few (row-forms t.names t.letters q s.names_form s.letters_form within))
+    (λ n q few within. no_fault n (said_of t.names t.letters q) few
+    (row-forms t.names t.letters q s.names_form s.letters_form within))
     entries t.machine.quints s.rows h.some h.few s.in_range

@@ -13,11 +13,15 @@ unfolding firsts_by
 blank_first t h = rw h.spelled.letters_by_first refl
 
 -- no two symbols have one letter
-pub one_symbol : (t : Named) → IsTable t → (m n b : ℕ) → slice_get t.letters m ≡ Some b → slice_get t.letters n ≡ Some b → m ≡ n
+pub one_symbol : (t : Named) → IsTable t → (m n b : ℕ) → slice_get t.letters m ≡ Some b → slice_get t.letters n ≡ Some b
+    → m ≡ n
 one_symbol t h m n b at also =
-    one_number nat_eq Decides-eqb t.letters m n b (rw (← h.spelled.letters_by_first) at (apart-firsts nat_eq Decides-eqb (blank ∷ letters_in (rows_of t)))) at also
+    one_number nat_eq Decides-eqb t.letters m n b (rw (← h.spelled.letters_by_first) at
+    (apart-firsts nat_eq Decides-eqb (blank ∷ letters_in (rows_of t)))) at also
 
 -- no two states have one name
-pub one_state : (t : Named) → IsTable t → (m n : ℕ) (name : List ℕ) → slice_get t.names m ≡ Some name → slice_get t.names n ≡ Some name → m ≡ n
+pub one_state : (t : Named) → IsTable t → (m n : ℕ) (name : List ℕ) → slice_get t.names m ≡ Some name
+    → slice_get t.names n ≡ Some name → m ≡ n
 one_state t h m n name at also =
-    one_number bytes_eq bytes_eq-Decides t.names m n name (rw (← h.spelled.names_by_first) at (apart-firsts bytes_eq bytes_eq-Decides (names_in (rows_of t)))) at also
+    one_number bytes_eq bytes_eq-Decides t.names m n name (rw (← h.spelled.names_by_first) at
+    (apart-firsts bytes_eq bytes_eq-Decides (names_in (rows_of t)))) at also

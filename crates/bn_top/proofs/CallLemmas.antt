@@ -20,6 +20,8 @@ use Rattle.bn_headline_laws.specs.Generated.{GeneratedHeadline}
 use Rattle.bn_headline_laws.specs.MachineHeadline.{MachineHeadline, MachineHeadlineWithin}
 use Rattle.bn_headline_laws.proofs.ClosedLemmas.{circuit_told}
 use Rattle.bn_windows_laws.specs.FoundHeadline.{TellsFoundWindow}
+use Rattle.bn_headline_laws.specs.FoundMachineHeadline.{FoundMachineHeadline}
+use Rattle.bn_headline_laws.proofs.FoundMachineLemmas.{found-tells_machine}
 use Rattle.bn_top.specs.Answers.{Replies, usage_text}
 use Rattle.bn_top.specs.Clauses.{CallEnds, ClausesApart}
 use Rattle.bn_top.specs.CommandLaws.{TellsCommands}
@@ -93,13 +95,15 @@ module _ (words : List (List ℕ)) (none : HasNoForm words) (result : Status) (l
   usage_ends = ends_given words result _ _ usage_clauses
 
 -- words that ask for what needs no input
-module _ (words : List (List ℕ)) (request : Request) (form : HasForm words request) (nothing : reads_input request ≡ false)
+module _ (words : List (List ℕ)) (request : Request) (form : HasForm words request)
+    (nothing : reads_input request ≡ false)
     (result : Status) (left taken took : Option (List ℕ)) (told heard : Option (List Place)) (reads before now : ℕ)
     (ends : AnswerEnds (Replies request []) result taken took before now told heard) (later : before ≤ now) where
   no_read_fault : result ≡ ReadFault → ⊥
   no_read_fault is = never_read_fault words request form [] result taken took told heard before now ends is
 
-  inputless_clauses : ClausesApart words result (outside left taken told reads before) (outside left took heard reads now)
+  inputless_clauses : ClausesApart words result (outside left taken told reads before)
+      (outside left took heard reads now)
   inputless_clauses = record {
     answered = λ answer.
         inputless_answered words request form nothing result taken took told heard before now ends left answer;
@@ -156,8 +160,21 @@ module _ (words : List (List ℕ)) (status : Status) (b a : Outside) (ends : Cal
   pub found_by : IfSome b.left (λ bytes. TellsFoundWindow words bytes status b.taken a.taken)
   found_by = window_told words b.left status b.taken a.taken b.told a.told apart.answered is
 
-  pub commands_by : IfSome b.left (λ bytes. TellsCommands words bytes status b.taken a.taken)
-  commands_by = answers-tell_commands words b.left status b.taken a.taken b.told a.told apart.answered is
+  pub found_machine_by : IfSome b.left (λ bytes. FoundMachineHeadline words bytes status b.taken a.taken)
+  found_machine_by =
+      by_told b.left (λ bytes. TellsFoundWindow words bytes status b.taken a.taken)
+      (λ bytes. FoundMachineHeadline words bytes status b.taken a.taken)
+      (λ bytes h. found-tells_machine words bytes status b.taken a.taken h) found_by
+
+  -- what one of the commands prints
+  pub command_by : (command : List (List ℕ) → List ℕ → Status → Option (List ℕ) → Option (List ℕ) → Type 0)
+      → ((bytes : List ℕ) → TellsCommands words bytes status b.taken a.taken
+      → command words bytes status b.taken a.taken)
+      → IfSome b.left (λ bytes. command words bytes status b.taken a.taken)
+  command_by command tells =
+      by_told b.left (λ bytes. TellsCommands words bytes status b.taken a.taken)
+      (λ bytes. command words bytes status b.taken a.taken) tells
+      (answers-tell_commands words b.left status b.taken a.taken b.told a.told apart.answered is)
 
   generate_by : ((request : Request) × HasForm words request) ⊎ HasNoForm words →
       TellsGenerate words status b.taken a.taken

@@ -26,12 +26,23 @@ module _ (words : List (List ℕ)) (b a : Outside) where
 
   old_answered : (bytes : List ℕ) (status : Status) → IsAnswered words bytes status b a →
       old.IsAnswered words bytes status b.taken a.taken b.told a.told
-  old_answered bytes status h = record { text = h.text; places = h.places; answers = h.answers; grows = h.gave.grows; hears = h.gave.hears }
+  old_answered bytes status h = record {
+    text = h.text;
+    places = h.places;
+    answers = h.answers;
+    grows = h.gave.grows;
+    hears = h.gave.hears;
+  }
 
   new_answered : (bytes : List ℕ) (status : Status) → old.IsAnswered words bytes status b.taken a.taken b.told a.told →
       IsAnswered words bytes status b a
   new_answered bytes status h =
-      record { text = h.text; places = h.places; answers = h.answers; gave = record { grows = h.grows; hears = h.hears } }
+      record {
+        text = h.text;
+        places = h.places;
+        answers = h.answers;
+        gave = record { grows = h.grows; hears = h.hears };
+      }
 
   old_begun : (bytes : List ℕ) → IsBegun words bytes b a → old.IsBegun words bytes b.taken a.taken b.told a.told
   old_begun bytes h = record {
@@ -61,13 +72,15 @@ module _ (words : List (List ℕ)) (b a : Outside) where
   -- ---- by the status
 
   module _ (told : (List ℕ → Type 0) → Type 0) where
-    ends_whole : (status : Status) → IsAnswer status → EndsOn told words status b a → told (λ bytes. IsAnswered words bytes status b a)
+    ends_whole : (status : Status) → IsAnswer status → EndsOn told words status b a
+        → told (λ bytes. IsAnswered words bytes status b a)
     ends_whole ReadFault is h = absurd is
     ends_whole WriteFault is h = absurd is
     ends_whole NoMemory is h = absurd is
     ends_whole status is h = h
 
-    whole_ends : (status : Status) → IsAnswer status → told (λ bytes. IsAnswered words bytes status b a) → EndsOn told words status b a
+    whole_ends : (status : Status) → IsAnswer status → told (λ bytes. IsAnswered words bytes status b a)
+        → EndsOn told words status b a
     whole_ends ReadFault is h = absurd is
     whole_ends WriteFault is h = absurd is
     whole_ends NoMemory is h = absurd is
@@ -81,7 +94,8 @@ module _ (words : List (List ℕ)) (b a : Outside) where
   -- ---- words without a form
 
   -- the answer to them
-  usage_is : HasNoForm words → (bytes : List ℕ) (status : Status) (text : List ℕ) (places : List Place) → Answers words bytes status text places →
+  usage_is : HasNoForm words → (bytes : List ℕ) (status : Status) (text : List ℕ) (places : List Place)
+      → Answers words bytes status text places →
       (text ≡ usage_text) × (places ≡ [])
   usage_is none bytes status text places (no_form _ s t p) = (t, p)
   usage_is none bytes status text places (unread r form n h) = absurd (none r form)
@@ -92,20 +106,26 @@ module _ (words : List (List ℕ)) (b a : Outside) where
   none_left [] ys e = refl
   none_left (x ∷ xs) ys e = absurd (cc)
 
-  usage_answered : HasNoForm words → (status : Status) → IsAnswered words [] status b a → Grows b.taken a.taken usage_text × Hears b.told [] a.told
+  usage_answered : HasNoForm words → (status : Status) → IsAnswered words [] status b a
+      → Grows b.taken a.taken usage_text × Hears b.told [] a.told
   usage_answered none status h =
       let is = usage_is none [] status h.text h.places h.answers in
       (subst (Grows b.taken a.taken) is.0 h.gave.grows, subst (λ ps. Hears b.told ps a.told) is.1 h.gave.hears)
 
-  usage_begun : HasNoForm words → IsBegun words [] b a → GrowsByFront b.taken a.taken usage_text × Hears b.told [] a.told
+  usage_begun : HasNoForm words → IsBegun words [] b a → GrowsByFront b.taken a.taken usage_text
+      × Hears b.told [] a.told
   usage_begun none h =
-      let is = usage_is none [] h.status (h.text ++ h.rest) (h.places ++ h.more) h.answers in
-      ((h.text, h.rest, sym is.0, h.gave.grows), subst (λ ps. Hears b.told ps a.told) (none_left h.places h.more is.1) h.gave.hears)
+      let is = usage_is none [] h.status (h.text ++ h.rest) (h.places ++ h.more) h.answers in (
+        (h.text, h.rest, sym is.0, h.gave.grows),
+        subst (λ ps. Hears b.told ps a.told) (none_left h.places h.more is.1)
+            h.gave.hears,
+      )
 
   abbrev only : (List ℕ → Type 0) → Type 0
   only claim = claim []
 
-  usage_ends : HasNoForm words → (status : Status) → (status ≡ Usage) ⊎ (status ≡ WriteFault) → EndsOn only words status b a →
+  usage_ends : HasNoForm words → (status : Status) → (status ≡ Usage) ⊎ (status ≡ WriteFault)
+      → EndsOn only words status b a →
       UsageEnds status b.taken a.taken × Hears b.told [] a.told
   usage_ends none status (inl is) h =
       let h' : EndsOn only words Usage b a = subst (λ s. EndsOn only words s b a) is h in
@@ -120,7 +140,8 @@ module _ (words : List (List ℕ)) (b a : Outside) where
       IfSome b.left (λ bytes. old.IsAnswered words bytes status b.taken a.taken b.told a.told)
   as_answered status is (inl h) = absurd (told_no_answer status is h.told)
   as_answered status is (inr h) =
-      by_told b.left (λ bytes. IsAnswered words bytes status b a) (λ bytes. old.IsAnswered words bytes status b.taken a.taken b.told a.told)
+      by_told b.left (λ bytes. IsAnswered words bytes status b a)
+      (λ bytes. old.IsAnswered words bytes status b.taken a.taken b.told a.told)
       (λ bytes. old_answered bytes status) (ends_whole (IfSome b.left) status is h)
 
   as_read_fault : (status : Status) → status ≡ ReadFault → Ends words status b a → FailsReading ReadFault b a
@@ -134,19 +155,23 @@ module _ (words : List (List ℕ)) (b a : Outside) where
       let t = h.told.1 in
       inl (record { source = h.read; grows = (t.0, t.1, t.2, t.3.grows); hears = t.3.hears })
   as_write_fault (inr h) =
-      inr (by_told b.left (λ bytes. IsBegun words bytes b a) (λ bytes. old.IsBegun words bytes b.taken a.taken b.told a.told) old_begun h.1)
+      inr (by_told b.left (λ bytes. IsBegun words bytes b a) (λ bytes. old.IsBegun words bytes b.taken a.taken b.told
+      a.told) old_begun h.1)
 
   as_write_cause : Ends words WriteFault b a → Rose b.write_faults a.write_faults
   as_write_cause (inl h) = h.told.0
   as_write_cause (inr h) = h.0
 
-  as_no_memory : Ends words NoMemory b a → IfSome b.left (λ bytes. old.IsBroken words bytes b.taken a.taken b.told a.told)
+  as_no_memory : Ends words NoMemory b a → IfSome b.left (λ bytes. old.IsBroken words bytes b.taken a.taken b.told
+      a.told)
   as_no_memory (inl h) = absurd h.told
   as_no_memory (inr h) =
-      by_told b.left (λ bytes. IsBegun words bytes b a) (λ bytes. old.IsBroken words bytes b.taken a.taken b.told a.told)
+      by_told b.left (λ bytes. IsBegun words bytes b a) (λ bytes. old.IsBroken words bytes b.taken a.taken b.told
+      a.told)
       (λ bytes g. begun (old_begun bytes g)) h
 
-  as_inputless : (status : Status) → EndsOn only words status b a → EndsWithoutInput words status b.taken a.taken b.told a.told
+  as_inputless : (status : Status) → EndsOn only words status b a
+      → EndsWithoutInput words status b.taken a.taken b.told a.told
   as_inputless status h = record {
     answered = λ is. old_answered [] status (ends_whole only status is h);
     cut = λ is. by_cut is (subst (λ s. EndsOn only words s b a) is h);
@@ -154,10 +179,12 @@ module _ (words : List (List ℕ)) (b a : Outside) where
     unread = λ is. subst (λ s. EndsOn only words s b a) is h;
   }
     where
-      by_cut : status ≡ WriteFault → EndsOn only words WriteFault b a → old.IsBegun words [] b.taken a.taken b.told a.told
+      by_cut : status ≡ WriteFault → EndsOn only words WriteFault b a
+          → old.IsBegun words [] b.taken a.taken b.told a.told
       by_cut is g = old_begun [] g.1
 
-      by_broken : status ≡ NoMemory → EndsOn only words NoMemory b a → old.IsBroken words [] b.taken a.taken b.told a.told
+      by_broken : status ≡ NoMemory → EndsOn only words NoMemory b a
+          → old.IsBroken words [] b.taken a.taken b.told a.told
       by_broken is g = begun (old_begun [] g)
 
   pub ends-give_clauses : (status : Status) → CallEnds words status b a → ClausesApart words status b a
@@ -211,16 +238,29 @@ module _ (words : List (List ℕ)) (b a : Outside) where
         let g = h.grows in
         inl (record { read = h.source; told = (rose, (g.0, g.1, g.2, record { grows = g.3; hears = h.hears })) })
     of_write rose (inr h) =
-        inr (rose, by_told b.left (λ bytes. old.IsBegun words bytes b.taken a.taken b.told a.told) (λ bytes. IsBegun words bytes b a) new_begun h)
+        inr (
+          rose,
+          by_told b.left (λ bytes. old.IsBegun words bytes b.taken a.taken b.told a.told)
+              (λ bytes. IsBegun words bytes b a) new_begun h,
+        )
 
     of_ends : (status : Status) → ClausesApart words status b a → Ends words status b a
     of_ends ReadFault h =
-        inl (record { read = h.read_cause refl; told = record { grows = h.read_fault refl; hears = h.read_fault_told refl } })
+        inl (record {
+          read = h.read_cause refl;
+          told = record {
+            grows = h.read_fault refl;
+            hears = h.read_fault_told
+                refl;
+          };
+        })
     of_ends WriteFault h = of_write (h.write_cause refl) (h.write_fault refl)
     of_ends NoMemory h =
-        inr (by_told b.left (λ bytes. old.IsBroken words bytes b.taken a.taken b.told a.told) (λ bytes. IsBegun words bytes b a) broken_begun (h.no_memory refl))
+        inr (by_told b.left (λ bytes. old.IsBroken words bytes b.taken a.taken b.told a.told)
+        (λ bytes. IsBegun words bytes b a) broken_begun (h.no_memory refl))
     of_ends status h =
-        inr (by_told b.left (λ bytes. old.IsAnswered words bytes status b.taken a.taken b.told a.told) (λ bytes. IsAnswered words bytes status b a)
+        inr (by_told b.left (λ bytes. old.IsAnswered words bytes status b.taken a.taken b.told a.told)
+        (λ bytes. IsAnswered words bytes status b a)
         (λ bytes. new_answered bytes status) (h.answered tt))
 
     of_usage : (status : Status) → UsageEnds status b.taken a.taken → (status ≡ Usage) ⊎ (status ≡ WriteFault)
@@ -231,7 +271,13 @@ module _ (words : List (List ℕ)) (b a : Outside) where
     of_usage_ends : (status : Status) → HasNoForm words → (status ≡ WriteFault → Rose b.write_faults a.write_faults) →
         UsageEnds status b.taken a.taken → Hears b.told [] a.told → EndsOn only words status b a
     of_usage_ends Usage none rose h hears =
-        record { text = usage_text; places = []; answers = no_form none refl refl refl; gave = record { grows = h; hears = hears } }
+        record {
+          text = usage_text;
+          places = [];
+          answers = no_form none refl refl refl;
+          gave = record
+              { grows = h; hears = hears };
+        }
     of_usage_ends WriteFault none rose h hears = (
       rose refl,
       record {

@@ -1,11 +1,13 @@
--- What each command needs of proofs: the law that it has one answer and only one, and that its reply is the one to the request.
+-- What each command needs of proofs: the law that it has one answer and only one, and that its reply is the one to the
+-- request.
 use Rattle.std.specs.Prelude.{◌≡◌, ℕ, true, List, [], Option, Result, IfOk, OnErr, refl}
 use Rattle.std.proofs.Common.{sym, subst}
 use Rattle.bn_circuits.specs.declared.place.Place.{Place}
 use Rattle.bn_words.specs.Requests.{HasForm, IsAllowed, Request, of_configuration, of_whole, reads_input}
 use Rattle.bn_words.specs.Requests.{Step, Back, Check, Machine, Trace, Moments, ThreeMoments, Reversible, Inverse}
 use Rattle.bn_words.specs.Requests.{Bennett, Realise, Standard}
-use Rattle.bn_words.specs.Requests.{Build, Compile, Drive, Layout, Run, RunAuto, View, Session, Plan, Migrate, Mirror, Farm}
+use Rattle.bn_words.specs.Requests.{Build, Compile, Drive, Layout, Run, RunAuto, View, Session, Look, Play, Plan}
+use Rattle.bn_words.specs.Requests.{Migrate, Mirror, Farm}
 use Rattle.bn_words.specs.Requests.{Generate, Erase, EraseRun}
 use Rattle.bn_words.specs.declared.request.ConfigurationRequest as configuration
 use Rattle.bn_words.specs.declared.request.ConfigurationRequest.TheVariants as configuration_variants
@@ -40,6 +42,7 @@ use Rattle.bn_reply_traces.proofs.TraceLemmas.{all_settled}
 use Rattle.bn_reply_builds.proofs.SettledLemmas.{build_is_settled}
 use Rattle.bn_reply_drives.proofs.SettledLemmas.{drive_is_settled}
 use Rattle.bn_reply_layout.proofs.ClosedLemmas.{layout_is_settled}
+use Rattle.bn_reply_looks.proofs.SettledLemmas.{look_settled, play_settled}
 use Rattle.bn_reply_views.proofs.SessionClosedLemmas.{session_settled}
 use Rattle.bn_reply_views.proofs.ViewClosedLemmas.{view_settled}
 use Rattle.bn_top.specs.Answers.{Replies}
@@ -67,6 +70,8 @@ settled_by (Run word l given) allowed = λ bytes. run_settled given word l bytes
 settled_by (RunAuto word) allowed = auto_settled word
 settled_by (View word l e) allowed = λ bytes. view_settled e word l bytes allowed.0
 settled_by (Session word l) allowed = λ bytes. session_settled word l bytes allowed
+settled_by (Look words l e) allowed = look_settled words l e
+settled_by (Play words l) allowed = play_settled words l
 settled_by Plan allowed = plan_settled
 settled_by Migrate allowed = migrate_settled
 settled_by Mirror allowed = mirror_settled
@@ -76,7 +81,8 @@ settled_by Erase allowed = erase_settled
 settled_by (EraseRun word n) allowed = erase_run_settled word n
 
 -- what is asked for has one answer and only one
-pub settled : (words : List (List ℕ)) (request : Request) → HasForm words request → (bytes : List ℕ) → IsSettled (Replies request bytes)
+pub settled : (words : List (List ℕ)) (request : Request) → HasForm words request → (bytes : List ℕ)
+    → IsSettled (Replies request bytes)
 settled words request form = settled_by request form.allowed
 
 -- ---- the replies, for the match: what is answered to a request is answered to what was asked, where it is this one
@@ -95,7 +101,8 @@ module _ (asked request : whole.WholeRequest) (is : asked ≡ request) (bytes : 
       FinishesReply reply result taken took before now →
       AnswerEnds (Replies (of_whole asked) bytes) result taken took before now told told
   silently reply told right ends =
-      given told told (silent_ends (Replies (of_whole request) bytes) reply result taken took before now told right ends)
+      given told told (silent_ends (Replies (of_whole request) bytes) reply result taken took before now told right
+      ends)
 
   pub aloud : (reply : Result Reply WantOfMemory) (told heard : Option (List Place)) →
       IfOk reply (λ r. IsReplied (Replies (of_whole request) bytes) r told heard) →
@@ -104,7 +111,8 @@ module _ (asked request : whole.WholeRequest) (is : asked ≡ request) (bytes : 
       AnswerEnds (Replies (of_whole asked) bytes) result taken took before now told heard
   aloud reply told heard right unfinished ends =
       given told heard
-      (given_ends (Replies (of_whole request) bytes) reply result taken took before now told heard right unfinished ends)
+      (given_ends (Replies (of_whole request) bytes) reply result taken took before now told heard right unfinished
+      ends)
 
 -- the same of what reads in pieces
 pub stream_as : (asked request : configuration.ConfigurationRequest) → asked ≡ request → (result : Status)
@@ -139,6 +147,8 @@ whole_reads (whole_variants.Run word window given) = refl
 whole_reads (whole_variants.RunAuto word) = refl
 whole_reads (whole_variants.View word window e) = refl
 whole_reads (whole_variants.Session word window) = refl
+whole_reads (whole_variants.Look words window e) = refl
+whole_reads (whole_variants.Play words window) = refl
 whole_reads whole_variants.Farm = refl
 whole_reads whole_variants.Erase = refl
 whole_reads (whole_variants.EraseRun word n) = refl

@@ -19,9 +19,12 @@ asked_form : (words : List (List ℕ)) (letters : List ℕ) → words ≡ auto_w
 asked_form words letters is = record { words_are = is; allowed = tt }
 
 -- the answer is the reply to it
-asked_reply : (words : List (List ℕ)) (bytes : List ℕ) (status : Status) (text : List ℕ) (told : List Place) → Answers words bytes status text told →
-    (letters : List ℕ) → words ≡ auto_words letters → length bytes ≤ MOST_INPUT_BYTES → AutoReplies letters bytes status text told
-asked_reply words bytes status text told (no_form none s t p) letters is short = absurd (none (RunAuto letters) (asked_form words letters is))
+asked_reply : (words : List (List ℕ)) (bytes : List ℕ) (status : Status) (text : List ℕ) (told : List Place)
+    → Answers words bytes status text told →
+    (letters : List ℕ) → words ≡ auto_words letters → length bytes ≤ MOST_INPUT_BYTES
+    → AutoReplies letters bytes status text told
+asked_reply words bytes status text told (no_form none s t p) letters is short =
+    absurd (none (RunAuto letters) (asked_form words letters is))
 asked_reply words bytes status text told (unread r form nothing reply) letters is short =
     absurd (not_both words (RunAuto letters) r (asked_form words letters is) form refl nothing)
 asked_reply words bytes status text told (too_long r form reads long s t p) letters is short = absurd (omega arith)
@@ -29,12 +32,14 @@ asked_reply words bytes status text told (replied r form reads low reply) letter
     let same : r ≡ RunAuto letters = one_form words r (RunAuto letters) form (asked_form words letters is) in
     subst (λ x. Replies x bytes status text told) same reply
 
-took_auto : (words : List (List ℕ)) (bytes : List ℕ) (status : Status) (taken took : Option (List ℕ)) (told heard : Option (List Place)) →
+took_auto : (words : List (List ℕ)) (bytes : List ℕ) (status : Status) (taken took : Option (List ℕ))
+    (told heard : Option (List Place)) →
     IsAnswered words bytes status taken took told heard → TookAuto words bytes status taken took
 took_auto words bytes status taken took told heard h letters is short =
     (h.text, h.places, asked_reply words bytes status h.text h.places h.answers letters is short, h.grows)
 
 pub answers-tell_found : AnswersTellFoundWindow → AnswersTellFound
 answers-tell_found tell words left status taken took told heard answered is =
-    by_told left (λ bytes. IsAnswered words bytes status taken took told heard) (λ bytes. TellsFoundWindow words bytes status taken took)
+    by_told left (λ bytes. IsAnswered words bytes status taken took told heard)
+    (λ bytes. TellsFoundWindow words bytes status taken took)
     (λ bytes h. tell words bytes status taken took (took_auto words bytes status taken took told heard h)) (answered is)

@@ -10,3 +10,5 @@ pub mod FoundLemmas
 pub mod CommandClauseLemmas
 pub mod CallLemmas
 pub mod MemoryLemmas
+pub mod TextLemmas
+pub mod BuildTextLemmas

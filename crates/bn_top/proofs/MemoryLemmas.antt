@@ -12,13 +12,16 @@ use Rattle.bn_reply.specs.declared.status.Status.{Status}
 use Rattle.bn_reply.specs.declared.status.Status.TheVariants.{ReadFault, WriteFault, NoMemory}
 use Rattle.bn_top.specs.Answers.{Answers}
 use Rattle.bn_top.specs.Clauses.{CallEnds}
+use Rattle.bn_top.specs.CommandLaws.{TellsCommands}
 use Rattle.bn_top.specs.Headlines.{IsReplyTo}
 use Rattle.bn_top.specs.Told.{IsReadFaultCut}
-use Rattle.bn_top.proofs.CallLemmas.{circuit_by, found_by, generated_by, machine_by}
+use Rattle.bn_top.proofs.CallLemmas.{circuit_by, command_by, found_by, found_machine_by}
+use Rattle.bn_top.proofs.CallLemmas.{generated_by, machine_by}
 use Rattle.bn_top.proofs.ClauseLemmas.{ends-give_clauses}
 
 -- a status that is none of these three is an answer's
-pub answer_otherwise : (status : Status) → status ≢ ReadFault → status ≢ WriteFault → status ≢ NoMemory → IsAnswer status
+pub answer_otherwise : (status : Status) → status ≢ ReadFault → status ≢ WriteFault → status ≢ NoMemory
+    → IsAnswer status
 answer_otherwise ReadFault read write memory = absurd (read refl)
 answer_otherwise WriteFault read write memory = absurd (write refl)
 answer_otherwise NoMemory read write memory = absurd (memory refl)
@@ -55,7 +58,9 @@ module _ (words : List (List ℕ)) (input : List ℕ) (left : Option (List ℕ))
           headline_within = machine.1;
           headline_circuit = circuit_by words reply.status b a ends is;
           found = found_by words reply.status b a ends is;
+          found_machine = found_machine_by words reply.status b a ends is;
           generated = generated_by words reply.status b a ends is;
+          commands = command_by words reply.status b a ends is TellsCommands (λ bytes h. h);
         };
       }
 
@@ -71,7 +76,8 @@ module _ (words : List (List ℕ)) (input : List ℕ) (left took : Option (List 
   some_told : IsBegun (Answers words input) (Some []) took told heard → IsUnfinished (Answers words input) told heard
   some_told b = told_some b.status b.text b.places b.front b.rest b.right b.split b.hears
 
-  none_or_some : IsBroken (Answers words input) (Some []) took told heard → IsUnfinished (Answers words input) told heard
+  none_or_some : IsBroken (Answers words input) (Some []) took told heard
+      → IsUnfinished (Answers words input) told heard
   none_or_some (unbegun grows hears) = untold hears
   none_or_some (begun b) = some_told b
 
@@ -80,7 +86,8 @@ module _ (words : List (List ℕ)) (input : List ℕ) (left took : Option (List 
   cut_told (inl h) = absurd (never_rose h.source)
   cut_told (inr b) = some_told b
 
-  pub unfinished_at : (status : Status) → CallEnds words status start end → (status ≡ WriteFault) ⊎ (status ≡ NoMemory) →
+  pub unfinished_at : (status : Status) → CallEnds words status start end → (status ≡ WriteFault) ⊎ (status ≡ NoMemory)
+      →
       IsUnfinished (Answers words input) told heard
   unfinished_at status ends (inl is) = cut_told ((ends-give_clauses words start end status ends).write_fault is)
   unfinished_at status ends (inr is) = none_or_some ((ends-give_clauses words start end status ends).no_memory is)

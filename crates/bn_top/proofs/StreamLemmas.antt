@@ -25,7 +25,8 @@ use Rattle.bn_top.proofs.EndLemmas.{for_any, needs_input, reply_answers}
 not_more : (limit count : ℕ) → count ≤ limit → limit < count → ⊥
 not_more limit count few more = omega (arith, few, more)
 
-module _ (words : List (List ℕ)) (request : Request) (form : HasForm words request) (reads : reads_input request ≡ true) (result : Status)
+module _ (words : List (List ℕ)) (request : Request) (form : HasForm words request) (reads : reads_input request ≡ true)
+    (result : Status)
     (b a : Outside) (later : IsLater b a) where
   abbrev Sized : List ℕ → Type 0
   Sized bytes = result ≡ Size → MOST_INPUT_BYTES < length bytes → GaveMore b.left a.left MOST_INPUT_BYTES
@@ -44,7 +45,8 @@ module _ (words : List (List ℕ)) (request : Request) (form : HasForm words req
 
   -- ---- by what the call answers
 
-  answer_clauses : IsAnswer result → result ≢ Usage → IfSome b.left Answered → IfSome b.left ReadWhole → IfSome b.left Sized →
+  answer_clauses : IsAnswer result → result ≢ Usage → IfSome b.left Answered → IfSome b.left ReadWhole
+      → IfSome b.left Sized →
       ClausesApart words result b a
   answer_clauses is other given ended sized = record {
     answered = λ _. given;
@@ -70,7 +72,8 @@ module _ (words : List (List ℕ)) (request : Request) (form : HasForm words req
   no_size other = for_any b.left Sized (λ bytes e more. absurd (other e))
 
   write_fault_clauses : result ≡ WriteFault → Rose b.write_faults a.write_faults →
-      IsReadFaultCut b.read_faults a.read_faults b.taken a.taken b.told a.told ⊎ IfSome b.left Begun → ClausesApart words result b a
+      IsReadFaultCut b.read_faults a.read_faults b.taken a.taken b.told a.told ⊎ IfSome b.left Begun
+      → ClausesApart words result b a
   write_fault_clauses is rose part = record {
     answered = λ answer. absurd (subst IsAnswer is answer);
     complete = λ _ none. absurd (none rose);
@@ -134,7 +137,8 @@ module _ (words : List (List ℕ)) (request : Request) (form : HasForm words req
       not_write_fault : NoMemory ≡ WriteFault → ⊥
       not_write_fault e = cc
 
-  read_fault_clauses : result ≡ ReadFault → Rose b.read_faults a.read_faults → Grows b.taken a.taken read_fault_text → Hears b.told [] a.told →
+  read_fault_clauses : result ≡ ReadFault → Rose b.read_faults a.read_faults → Grows b.taken a.taken read_fault_text
+      → Hears b.told [] a.told →
       ClausesApart words result b a
   read_fault_clauses is rose grows hears = record {
     answered = λ answer. absurd (subst IsAnswer is answer);
@@ -170,15 +174,23 @@ module _ (words : List (List ℕ)) (request : Request) (form : HasForm words req
   -- ---- by what reading came to
 
   module _ (bytes : List ℕ) (all : GaveAll b.left a.left bytes) (few : length bytes ≤ MOST_INPUT_BYTES) where
-    in_answer : (s : Status) (text : List ℕ) (places : List Place) → Replies request bytes s text places → Answers words bytes s text places
+    in_answer : (s : Status) (text : List ℕ) (places : List Place) → Replies request bytes s text places
+        → Answers words bytes s text places
     in_answer s text places right = replied request form reads few right
 
-    whole_clauses : AnswerEnds (Replies request bytes) result b.taken a.taken b.write_faults a.write_faults b.told a.told → ClausesApart words result b a
+    whole_clauses : AnswerEnds (Replies request bytes) result b.taken a.taken b.write_faults a.write_faults b.told
+        a.told → ClausesApart words result b a
     whole_clauses (whole text places right grows hears) =
         let status = (settled words request form bytes).status result text places right in
         answer_clauses (reply_answers result status) (λ e. subst IsReplyStatus e status)
         (at_bytes b.left a.left bytes Answered all
-        (record { text = text; places = places; answers = in_answer result text places right; grows = grows; hears = hears }))
+        (record {
+          text = text;
+          places = places;
+          answers = in_answer result text places right;
+          grows = grows;
+          hears = hears;
+        }))
         (read_to_end b.left a.left bytes all)
         (at_bytes b.left a.left bytes Sized all (λ _ more. absurd (not_more MOST_INPUT_BYTES (length bytes) few more)))
     whole_clauses (cut is rose part) =
@@ -189,12 +201,21 @@ module _ (words : List (List ℕ)) (request : Request) (form : HasForm words req
         (broken_as (Replies request bytes) (Answers words bytes) in_answer b.taken a.taken b.told a.told broken))
 
   long_clauses : GaveMore b.left a.left MOST_INPUT_BYTES →
-      written.Finishes Size result b.taken a.taken b.write_faults a.write_faults size_text → Hears b.told [] a.told → ClausesApart words result b a
+      written.Finishes Size result b.taken a.taken b.write_faults a.write_faults size_text → Hears b.told [] a.told
+      → ClausesApart words result b a
   long_clauses more (written.whole is grows) hears =
       answer_clauses (subst IsAnswer (sym is) tt) (λ e. not_usage (sym is ∙ e))
       (at_longer b.left a.left MOST_INPUT_BYTES Answered more
-      (λ bytes longer. record { text = size_text; places = []; answers = too_long request form reads longer is refl refl; grows = grows; hears = hears }))
-      (at_longer b.left a.left MOST_INPUT_BYTES ReadWhole more (λ bytes longer few. absurd (not_more MOST_INPUT_BYTES (length bytes) few longer)))
+      (λ bytes longer. record {
+        text = size_text;
+        places = [];
+        answers = too_long request form reads longer is refl
+            refl;
+        grows = grows;
+        hears = hears;
+      }))
+      (at_longer b.left a.left MOST_INPUT_BYTES ReadWhole more (λ bytes longer few. absurd
+      (not_more MOST_INPUT_BYTES (length bytes) few longer)))
       (for_any b.left Sized (λ bytes _ _. more))
     where
       not_usage : Size ≡ Usage → ⊥
@@ -213,19 +234,25 @@ module _ (words : List (List ℕ)) (request : Request) (form : HasForm words req
       })))
 
   failed_clauses : Rose b.read_faults a.read_faults →
-      written.Finishes ReadFault result b.taken a.taken b.write_faults a.write_faults read_fault_text → Hears b.told [] a.told → ClausesApart words result b a
+      written.Finishes ReadFault result b.taken a.taken b.write_faults a.write_faults read_fault_text
+      → Hears b.told [] a.told → ClausesApart words result b a
   failed_clauses rose (written.whole is grows) hears = read_fault_clauses is rose grows hears
-  failed_clauses rose (written.cut is fell grows) hears = write_fault_clauses is fell (inl (record { source = rose; grows = grows; hears = hears }))
+  failed_clauses rose (written.cut is fell grows) hears = write_fault_clauses is fell
+      (inl (record { source = rose; grows = grows; hears = hears }))
 
-  unread_clauses : (result ≡ NoMemory) × Grows b.taken a.taken [] × Hears b.told [] a.told → ClausesApart words result b a
+  unread_clauses : (result ≡ NoMemory) × Grows b.taken a.taken [] × Hears b.told [] a.told
+      → ClausesApart words result b a
   unread_clauses ends = no_memory_clauses ends.0 (for_any b.left Broken (λ bytes. unbegun ends.1 ends.2))
 
-  input_clauses : (input : Input) → Gives input b a → EndsAfter input (Replies request) result b a → ClausesApart words result b a
+  input_clauses : (input : Input) → Gives input b a → EndsAfter input (Replies request) result b a
+      → ClausesApart words result b a
   input_clauses (Whole bytes) gives ends = whole_clauses bytes gives.0 gives.1 ends
   input_clauses TooLong gives ends = long_clauses gives ends.0 ends.1
   input_clauses Failed gives ends = failed_clauses gives ends.0 ends.1
   input_clauses Unread gives ends = unread_clauses ends
 
-pub stream_clauses : (words : List (List ℕ)) (request : Request) → HasForm words request → reads_input request ≡ true → (result : Status) (b a : Outside) →
+pub stream_clauses : (words : List (List ℕ)) (request : Request) → HasForm words request → reads_input request ≡ true
+    → (result : Status) (b a : Outside) →
     StreamEnds (Replies request) result b a → ClausesApart words result b a
-stream_clauses words request form reads result b a h = input_clauses words request form reads result b a h.later h.input h.gives h.ends
+stream_clauses words request form reads result b a h = input_clauses words request form reads result b a h.later h.input
+    h.gives h.ends

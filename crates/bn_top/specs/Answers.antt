@@ -5,8 +5,8 @@ use Rattle.bn_circuits.specs.declared.place.Place.{Place}
 use Rattle.bn_words.specs.Requests.{Request, HasForm, HasNoForm, reads_input}
 use Rattle.bn_words.specs.Requests.{Step, Back, Check, Machine, Trace, Moments, ThreeMoments, Reversible, Inverse}
 use Rattle.bn_words.specs.Requests.{Bennett, Realise, Standard}
-use Rattle.bn_words.specs.Requests.{Build, Compile, Drive, Layout, Run, RunAuto, View, Session, Plan, Migrate, Mirror, Farm}
-use Rattle.bn_words.specs.Requests.{Generate, Erase, EraseRun}
+use Rattle.bn_words.specs.Requests.{Build, Compile, Drive, Layout, Run, RunAuto, View, Session, Look, Play, Plan}
+use Rattle.bn_words.specs.Requests.{Migrate, Mirror, Farm, Generate, Erase, EraseRun}
 use Rattle.bn_reply_boards_laws.specs.CompileReply.{CompileReplies}
 use Rattle.bn_reply.specs.declared.limits.TheConstants.{MOST_INPUT_BYTES}
 use Rattle.bn_reply_boards_laws.specs.RunReply.{RunReplies}
@@ -28,6 +28,8 @@ use Rattle.bn_reply_tables.specs.ReversibleReply.{ReversibleReplies}
 use Rattle.bn_reply_builds.specs.BuildReply.{BuildReplies}
 use Rattle.bn_reply_drives.specs.DriveReply.{DriveReplies}
 use Rattle.bn_reply_layout.specs.LayoutReply.{LayoutReplies}
+use Rattle.bn_reply_looks.specs.LookReply.{LookReplies}
+use Rattle.bn_reply_looks.specs.PlayReply.{PlayReplies}
 use Rattle.bn_reply_traces.specs.MomentsReply.{MomentsReplies, ThreeMomentsReplies}
 use Rattle.bn_reply_traces.specs.TraceReply.{TraceReplies}
 use Rattle.bn_reply_views.specs.SessionReply.{SessionReplies}
@@ -62,6 +64,8 @@ Replies (Run word l given) = RunReplies given word l
 Replies (RunAuto word) = AutoReplies word
 Replies (View word l e) = ViewReplies e word l
 Replies (Session word l) = SessionReplies word l
+Replies (Look words l e) = LookReplies words l e
+Replies (Play words l) = PlayReplies words l
 Replies Plan = PlanReplies
 Replies Migrate = MigrateReplies
 Replies Mirror = MirrorReplies

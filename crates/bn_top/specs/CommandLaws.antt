@@ -4,6 +4,7 @@ use Rattle.bn_circuits.specs.declared.place.Place.{Place}
 use Rattle.bn_reply.specs.Codes.{IsAnswer}
 use Rattle.bn_reply.specs.declared.status.Status.{Status}
 use Rattle.bn_headline_laws.specs.CommandHeadlines.{BackCommand, BennettCommand, MachineCommand, StepCommand}
+use Rattle.bn_top.specs.QuadHeadlines.{BuildHeadline, DriveCircuitHeadline, DriveHeadline, InverseCommand}
 use Rattle.bn_top.specs.Told.{IsAnswered}
 
 -- the sink took what these commands print, each in its own terms
@@ -13,6 +14,10 @@ pub record TellsCommands (words : List (List ℕ)) (bytes : List ℕ) (status : 
   pub bennett : BennettCommand words bytes status taken took
   pub step : StepCommand words bytes status taken took
   pub back : BackCommand words bytes status taken took
+  pub inverse : InverseCommand words bytes status taken took
+  pub build : BuildHeadline words bytes status taken took
+  pub drive : DriveHeadline words bytes status taken took
+  pub drive_circuit : DriveCircuitHeadline words bytes status taken took
 
 -- the answer tells it
 abbrev pub AnswersTellCommands : Type 0

@@ -8,19 +8,24 @@ use Rattle.bn_reply.specs.declared.reply.Reply.{Reply}
 use Rattle.bn_reply.specs.declared.status.Status.{Status}
 use Rattle.bn_headline_laws.specs.MachineHeadline.{MachineHeadline, MachineHeadlineWithin}
 use Rattle.bn_headline_laws.specs.CircuitHeadline.{CircuitHeadline}
+use Rattle.bn_headline_laws.specs.FoundMachineHeadline.{FoundMachineHeadline}
 use Rattle.bn_headline_laws.specs.Generated.{GeneratedHeadline}
 use Rattle.bn_windows_laws.specs.FoundHeadline.{TellsFoundWindow}
 use Rattle.bn_top.specs.Answers.{Answers}
+use Rattle.bn_top.specs.CommandLaws.{TellsCommands}
 
 -- The answer to these words and bytes tells how the machine's own bounded run comes out, with a greatest number of
--- steps too, by the circuit, where the window is found, and where the words are `generate`.
+-- steps too, by the circuit, where the window is found, and where the words are `generate`; and what other commands
+-- print, each in its own terms.
 pub record TellsHeadlines (words : List (List ℕ)) (bytes : List ℕ) (status : Status)
     (taken took : Option (List ℕ)) : Type 0 where
   pub headline : MachineHeadline words bytes status taken took
   pub headline_within : MachineHeadlineWithin words bytes status taken took
   pub headline_circuit : CircuitHeadline words bytes status taken took
   pub found : TellsFoundWindow words bytes status taken took
+  pub found_machine : FoundMachineHeadline words bytes status taken took
   pub generated : GeneratedHeadline words status taken took
+  pub commands : TellsCommands words bytes status taken took
 
 -- The reply is the answer to these words and bytes, and the watch heard its places; its status is that of an answer;
 -- and it tells the headlines.

@@ -6,4 +6,6 @@ pub mod Clauses
 pub mod HeadlineLaws
 pub mod FoundLaws
 pub mod Headlines
+pub mod QuadHeadlines
 pub mod CommandLaws
+pub mod TextLaws

@@ -22,6 +22,7 @@ use bn_reply_circuits::{
 use bn_reply_drives::reply_drive;
 use bn_reply_erase::{reply_erase, reply_erase_run};
 use bn_reply_layout::answer_layout;
+use bn_reply_looks::{reply_look, reply_play};
 use bn_reply_tables::{
     reply_bennett, reply_check, reply_inverse, reply_machine, reply_reversible, reply_standard,
 };
@@ -207,6 +208,14 @@ fn answer_bytes<K: Sink, W: Watch>(
         } => give_reply(sink, reply_view(alloc, word, &window, most_steps, bytes)),
         WholeRequest::Session { word, window } => {
             give_reply(sink, reply_session(alloc, word, &window, bytes))
+        }
+        WholeRequest::Look {
+            words,
+            window,
+            most_steps,
+        } => give_reply(sink, reply_look(alloc, &words, &window, most_steps, bytes)),
+        WholeRequest::Play { words, window } => {
+            give_reply(sink, reply_play(alloc, &words, &window, bytes))
         }
         WholeRequest::Farm => give_reply(sink, reply_farm(alloc, bytes)),
         WholeRequest::Erase => give_reply(sink, reply_erase(alloc, bytes)),

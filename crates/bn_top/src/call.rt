@@ -6,10 +6,12 @@ ghost use Rattle.bn_reply.specs.Codes.{IsAnswer};
 ghost use Rattle.bn_headline_laws.specs.MachineHeadline.{MachineHeadline, MachineHeadlineWithin};
 ghost use Rattle.bn_headline_laws.specs.CircuitHeadline.{CircuitHeadline};
 ghost use Rattle.bn_headline_laws.specs.CommandHeadlines.{BackCommand, BennettCommand, MachineCommand, StepCommand};
+ghost use Rattle.bn_headline_laws.specs.FoundMachineHeadline.{FoundMachineHeadline};
 ghost use Rattle.bn_headline_laws.specs.Generated.{GeneratedHeadline};
 ghost use Rattle.bn_windows_laws.specs.FoundHeadline.{TellsFoundWindow};
 ghost use Rattle.bn_reply.specs.Outside.{outside};
 ghost use Rattle.bn_top.specs.Outside.{NeedNoInput};
+ghost use Rattle.bn_top.specs.QuadHeadlines.{BuildHeadline, DriveCircuitHeadline, DriveHeadline, InverseCommand};
 ghost use Rattle.bn_top.specs.Clauses.{CallEnds};
 
 use crate::answering::answer_words;
@@ -20,8 +22,8 @@ use std::alloc::Global;
 
 /// Answers the words of a command line: reads the input from the source where the words have a
 /// form and its command reads one, gives the answer's text to the sink, and answers the status.
-/// Where the command is `step`, `back`, `run` or `generate`, it tells the watch the place after
-/// each element step.
+/// Where the command is `step`, `back`, `run`, `drive` or `generate`, it tells the watch the place
+/// after each element step.
 pub fn workbench<S: Source, K: Sink, W: Watch>(
     alloc: Global,
     words: &Vec<String>,
@@ -49,6 +51,11 @@ pub fn workbench<S: Source, K: Sink, W: Watch>(
         (λ bytes. TellsFoundWindow (map string_bytes words.now.items) bytes result (K.taken sink.old)
         (K.taken sink.new)) }
 
+    // And by the machine alone: its elements, exit, steps and tapes in that window; and steps back lead back.
+    ensures found_machine { IsAnswer result → IfSome (S.left source.old)
+        (λ bytes. FoundMachineHeadline (map string_bytes words.now.items) bytes result (K.taken sink.old)
+        (K.taken sink.new)) }
+
     // The headline of `generate`, whatever the source tells.
     ensures generated { IsAnswer result →
         GeneratedHeadline (map string_bytes words.now.items) result (K.taken sink.old) (K.taken sink.new) }
@@ -66,6 +73,22 @@ pub fn workbench<S: Source, K: Sink, W: Watch>(
         (K.taken sink.new)) }
     ensures back { IsAnswer result → IfSome (S.left source.old)
         (λ bytes. BackCommand (map string_bytes words.now.items) bytes result (K.taken sink.old)
+        (K.taken sink.new)) }
+
+    // What `inverse` and `build` print of a table of quadruples.
+    ensures inverse { IsAnswer result → IfSome (S.left source.old)
+        (λ bytes. InverseCommand (map string_bytes words.now.items) bytes result (K.taken sink.old)
+        (K.taken sink.new)) }
+    ensures build { IsAnswer result → IfSome (S.left source.old)
+        (λ bytes. BuildHeadline (map string_bytes words.now.items) bytes result (K.taken sink.old)
+        (K.taken sink.new)) }
+
+    // The headline of `drive`: it tells how the own run of a uniform machine of quadruples ends; and by the circuit.
+    ensures drive { IsAnswer result → IfSome (S.left source.old)
+        (λ bytes. DriveHeadline (map string_bytes words.now.items) bytes result (K.taken sink.old)
+        (K.taken sink.new)) }
+    ensures drive_circuit { IsAnswer result → IfSome (S.left source.old)
+        (λ bytes. DriveCircuitHeadline (map string_bytes words.now.items) bytes result (K.taken sink.old)
         (K.taken sink.new)) }
 
     // How the call ends: what the sink took and the watch heard, what was read, and the counts of faults.

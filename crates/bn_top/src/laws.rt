@@ -5,6 +5,9 @@ ghost use Rattle.bn_top.specs.Clauses.{ClausesGiveEnds, EndsGiveClauses};
 ghost use Rattle.bn_top.specs.CommandLaws.{AnswersTellCommands};
 ghost use Rattle.bn_top.specs.HeadlineLaws.{AnswersTellMachine, GeneratedClauseTells};
 ghost use Rattle.bn_top.specs.Laws.{AnswersAreOne, RequestsAreAnswered};
+ghost use Rattle.bn_top.specs.TextLaws.{BuiltTextsReturn, CompiledTextsReturn, FarmedTextsReturn};
+ghost use Rattle.bn_top.specs.TextLaws.{MirroredTextsReturn};
+ghost use Rattle.bn_top.specs.TextLaws.{RealisedTextsReturn};
 
 /// Words and bytes have at most one answer: one status, one text, and one list of places to tell.
 pub fn one_answer()
@@ -27,7 +30,8 @@ pub fn answers_tell_machine()
     ensures { AnswersTellMachine }
 {}
 
-/// The whole answer tells what `machine`, `bennett`, `step` and `back` print, each in its own terms.
+/// The whole answer tells what `machine`, `bennett`, `step`, `back`, `inverse`, `build` and `drive` print, each in its
+/// own terms.
 pub fn answers_tell_commands()
     ensures { AnswersTellCommands }
 {}
@@ -35,4 +39,15 @@ pub fn answers_tell_commands()
 /// What `generate` answers gives its own headline.
 pub fn generate_tells_machine()
     ensures { GeneratedClauseTells }
+{}
+
+/// What the workbench prints may be given to it again: what `compile`, `build` or `realise` printed, given to `step E`
+/// and that to `back E`, is printed again byte for byte, for every E; the mirror of what `mirror` printed is the first
+/// text with no steps counted; and what `farm` printed, where it is within the limit of an input, undoes the schedule.
+pub fn printed_texts_return()
+    ensures compiled { CompiledTextsReturn }
+    ensures built { BuiltTextsReturn }
+    ensures realised { RealisedTextsReturn }
+    ensures mirrored { MirroredTextsReturn }
+    ensures farmed { FarmedTextsReturn }
 {}

@@ -14,7 +14,7 @@ use std::alloc::Global;
 
 /// Answers the words of a command line on an input in memory, which is not copied: the text and the
 /// status that `workbench` gives where its source tells this input. Where the command is `step`,
-/// `back`, `run` or `generate`, it tells the watch the place after each element step.
+/// `back`, `run`, `drive` or `generate`, it tells the watch the place after each element step.
 pub fn reply_in_memory<W: Watch>(
     alloc: Global,
     words: &[String],

@@ -31,6 +31,8 @@ mod layers;
 #[cfg(test)]
 mod layouts;
 #[cfg(test)]
+mod looks;
+#[cfg(test)]
 mod machines;
 #[cfg(test)]
 mod mirrors;

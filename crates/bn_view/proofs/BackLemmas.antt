@@ -26,16 +26,19 @@ pub record HasGoneBack (a b : Flattened) : Type 0 where
   pub quiet : (u : ℕ) → b.config.steps < u → u ≤ a.config.steps → IsQuiet (FindsOn a) u
 
 -- a board is where the run from its origin comes to in its steps
-pub board_ran : (a b : Flattened) → IsSameBoard a b → IsBoardKept b → run (rotary_circuit a.net) (origin a) b.config.steps ≡ b.config
+pub board_ran : (a b : Flattened) → IsSameBoard a b → IsBoardKept b
+    → run (rotary_circuit a.net) (origin a) b.config.steps ≡ b.config
 board_ran a b same kept =
-    (λ i. run (rotary_circuit (sym same.net i)) (sym same.origin_is i) b.config.steps) ∙ Reaches-run (rotary_circuit b.net) b.config.steps (origin b) b.config kept.reached.reaches
+    (λ i. run (rotary_circuit (sym same.net i)) (sym same.origin_is i) b.config.steps)
+    ∙ Reaches-run (rotary_circuit b.net) b.config.steps (origin b) b.config kept.reached.reaches
 
 -- so what the layout answers is what is found there
 pub found_here : (a b : Flattened) → IsSameBoard a b → IsBoardKept b → (o : Option ℕ) → o ≡ moment_at b.layout b.config
     → moment_at a.layout (run (rotary_circuit a.net) (origin a) b.config.steps) ≡ o
 found_here a b same kept o is = (λ i. moment_at (sym same.layout i) (board_ran a b same kept i)) ∙ sym is
 
-no_moment : (a b : Flattened) → HasGoneBack a b → IsBoardKept b → None ≡ moment_at b.layout b.config → (u : ℕ) → b.config.steps ≤ u → u ≤ a.config.steps → IsQuiet (FindsOn a) u
+no_moment : (a b : Flattened) → HasGoneBack a b → IsBoardKept b → None ≡ moment_at b.layout b.config → (u : ℕ)
+    → b.config.steps ≤ u → u ≤ a.config.steps → IsQuiet (FindsOn a) u
 no_moment a b gone kept none u low high = by (cases_lt b.config.steps u)
   where
     by : (b.config.steps < u) ⊎ (u ≤ b.config.steps) → IsQuiet (FindsOn a) u
@@ -54,7 +57,8 @@ gone_none a = record {
 }
 
 -- one step further back, where there is no moment
-pub gone_more : (a b c : Flattened) → HasGoneBack a b → IsBoardKept b → None ≡ moment_at b.layout b.config → IsSameBoard b c → Goes (rotary_circuit b.net) c.config b.config
+pub gone_more : (a b c : Flattened) → HasGoneBack a b → IsBoardKept b → None ≡ moment_at b.layout b.config
+    → IsSameBoard b c → Goes (rotary_circuit b.net) c.config b.config
     → HasGoneBack a c
 gone_more a b c gone kept none same goes =
     let step = goes.steps in
@@ -72,7 +76,8 @@ gone_more a b c gone kept none same goes =
     }
 
 -- at a moment
-pub gone_moment : (a b : Flattened) (initial e : ℕ) → HasGoneBack a b → IsBoardKept b → Some e ≡ moment_at b.layout b.config
+pub gone_moment : (a b : Flattened) (initial e : ℕ) → HasGoneBack a b → IsBoardKept b
+    → Some e ≡ moment_at b.layout b.config
     → IsShown (FindsOn a) initial a.config.steps b.config.steps e
 gone_moment a b initial e gone kept some = moment gone.low (found_here a b gone.same kept (Some e) some) gone.quiet
 
@@ -84,22 +89,29 @@ at_origin k (suc n) c d path first =
     absurd (first cut.0 (subst (λ x. Goes k cut.0 x) cut.2.2 cut.2.1))
 
 -- at the start
-pub gone_start : (a b : Flattened) (initial : ℕ) → HasGoneBack a b → IsBoardKept b → None ≡ moment_at b.layout b.config → IsFirst (rotary_circuit b.net) b.config
+pub gone_start : (a b : Flattened) (initial : ℕ) → HasGoneBack a b → IsBoardKept b → None ≡ moment_at b.layout b.config
+    → IsFirst (rotary_circuit b.net) b.config
     → IsShown (FindsOn a) initial a.config.steps b.config.steps initial
 gone_start a b initial gone kept none first =
-    let zeroth : b.config.steps ≡ 0 = at_origin (rotary_circuit b.net) b.config.steps (origin b) b.config kept.reached.reaches first in
+    let zeroth : b.config.steps ≡ 0 = at_origin (rotary_circuit b.net) b.config.steps (origin b) b.config
+    kept.reached.reaches first in
     start zeroth refl (λ u few. no_moment a b gone kept none u (omega arith) few)
 
 -- where no step was taken back
-pub gone_still : (a b c : Flattened) (initial : ℕ) (stepped : Bool) → HasGoneBack a b → IsBoardKept b → None ≡ moment_at b.layout b.config → stepped ≡ false
-    → OnFalse stepped (IsFirst (rotary_circuit b.net) b.config) → OnFalse stepped (c ≡ b) → IsShown (FindsOn a) initial a.config.steps c.config.steps initial
+pub gone_still : (a b c : Flattened) (initial : ℕ) (stepped : Bool) → HasGoneBack a b → IsBoardKept b
+    → None ≡ moment_at b.layout b.config → stepped ≡ false
+    → OnFalse stepped (IsFirst (rotary_circuit b.net) b.config) → OnFalse stepped (c ≡ b)
+    → IsShown (FindsOn a) initial a.config.steps c.config.steps initial
 gone_still a b c initial stepped gone kept none not first same =
     let there : c ≡ b = subst (λ r. OnFalse r (c ≡ b)) not same in
-    let begins : IsFirst (rotary_circuit b.net) b.config = subst (λ r. OnFalse r (IsFirst (rotary_circuit b.net) b.config)) not first in
-    subst (λ (x : Flattened). IsShown (FindsOn a) initial a.config.steps x.config.steps initial) (sym there) (gone_start a b initial gone kept none begins)
+    let begins : IsFirst (rotary_circuit b.net) b.config = subst
+    (λ r. OnFalse r (IsFirst (rotary_circuit b.net) b.config)) not first in
+    subst (λ (x : Flattened). IsShown (FindsOn a) initial a.config.steps x.config.steps initial) (sym there)
+    (gone_start a b initial gone kept none begins)
 
 -- and where one was
-pub gone_on : (a b c : Flattened) (stepped : Bool) → HasGoneBack a b → IsBoardKept b → None ≡ moment_at b.layout b.config → stepped ≡ true → IsSameBoard b c
+pub gone_on : (a b c : Flattened) (stepped : Bool) → HasGoneBack a b → IsBoardKept b
+    → None ≡ moment_at b.layout b.config → stepped ≡ true → IsSameBoard b c
     → OnTrue stepped (Goes (rotary_circuit b.net) c.config b.config) → HasGoneBack a c
 gone_on a b c stepped gone kept none is same made =
     gone_more a b c gone kept none same (subst (λ r. OnTrue r (Goes (rotary_circuit b.net) c.config b.config)) is made)

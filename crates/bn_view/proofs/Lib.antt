@@ -4,4 +4,5 @@ pub mod MachineLemmas
 pub mod StandingLemmas
 pub mod BackLemmas
 pub mod ViewLemmas
+pub mod FoundLemmas
 pub mod OneLemmas

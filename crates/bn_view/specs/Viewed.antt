@@ -9,17 +9,19 @@ use Rattle.bn_machine.specs.Machine.{Program, Moment, GoesBy}
 use Rattle.bn_machine.specs.Outcome.{Limits}
 use Rattle.bn_machine.specs.Run.{After}
 use Rattle.bn_machine.specs.Window.{anywhere}
-use Rattle.bn_quad.specs.Quadruples.{Configuration, initial_of}
+use Rattle.bn_quad.specs.Quadruples.{Configuration, IsQuadMachine, Quadruples, initial_of}
 use Rattle.bn_bennett_laws.specs.Renamed.{in_state}
 use Rattle.bn_bennett_laws.specs.Stages.{Stands}
 use Rattle.bn_bennett.specs.Translation.{Translation, name_of}
 use Rattle.bn_bennett.specs.Meaning.{stage_by, machine_state_by}
 use Rattle.bn_bennett.specs.declared.translated.MachineState.{MachineState}
 use Rattle.bn_bennett.specs.declared.translated.MachineState.TheVariants.{AtState, Within}
-use Rattle.bn_board_spec.specs.Layouts.{IsExit, Layout, moment_at, spelled_by, spelled_config}
+use Rattle.bn_network.specs.Controls.{ControlState}
+use Rattle.bn_board_spec.specs.Layouts.{IsExit, IsLayout, Layout, moment_at, spelled_by, spelled_config}
 use Rattle.bn_board_spec.specs.BoardMoments.{IsBoardMoment}
 use Rattle.bn_board_spec.specs.Flats.{Flat, IsAccepted, IsFlatOf, flat_start, machine_of}
 use Rattle.bn_board.specs.Flattened.{Flattened, origin}
+use Rattle.bn_view.specs.declared.layers.BoardLayers.{BoardLayers}
 use Rattle.bn_view.specs.declared.layers.Layers.{Layers}
 use Rattle.bn_view.specs.declared.viewer.LastMoment.{LastMoment}
 use Rattle.bn_view.specs.Shown.{IsShown}
@@ -42,6 +44,13 @@ pub record IsBoardFor (p : Program) (word : List ℕ) (l : Limits) (f : Flat) (t
 abbrev pub IsBoardOf : Translation → Flattened → Type 0
 IsBoardOf t b = (p : Program) × (word : List ℕ) × (l : Limits) × (f : Flat) × IsBoardFor p word l f t b
 
+-- the layout is that of a machine's board in some limits
+pub record IsLaidOut (m : Quadruples) (b : Layout) : Type 0 where
+  pub machine : IsQuadMachine m
+  pub limits : Limits
+  pub names : List ControlState
+  pub layout : IsLayout m limits names b
+
 -- ---- moments of a run
 
 -- after u steps from c0 the layout finds the moment of a
@@ -54,17 +63,37 @@ Comes f u a = IsBoardMoment (machine_of f) f.limits f.names f.network (run f.cir
 
 -- ---- the view
 
--- What a view says where the board of f has come to d: where the signal is; and of the last moment that it has reached,
--- or of its start where there is none, the state, what the cells show then, and what the state says of the one-tape
--- machine. The machine's step is where the head of the history stands then.
-pub record IsViewOf (f : Flat) (d : Config) (v : Layers) : Type 0 where
+-- What is said of a board of this layout and circuit whose run from its start has come to d, where `at u a` says that
+-- after u steps it is at the moment of a, and this is the initial state: where the signal is; and of the last moment
+-- that it has reached, or of its start where there is none, the state, and what the cells show then.
+pub record IsViewBy (b : Layout) (k : Circuit) (c0 : Config) (at : ℕ → ℕ → Type 0) (initial : ℕ) (d : Config)
+    (v : BoardLayers) : Type 0 where
   pub place : v.place ≡ d.place
   pub steps : v.steps ≡ d.steps
-  pub exit : IsExit f.layout d.place v.exit
-  pub located : IsModuleAt f.layout d.place v.module
+  pub located : IsModuleAt b d.place v.module
   pub step : ℕ
-  pub shown : IsShown (Comes f) (initial_of (machine_of f).rules) d.steps step v.state
-  pub tapes : v.tapes ≡ spelled_by f.layout (run f.circuit (flat_start f) step).states
+  pub shown : IsShown at initial d.steps step v.state
+  pub tapes : v.tapes ≡ spelled_by b (run k c0 step).states
+
+-- the same by the moments that the layout finds
+abbrev pub IsFoundView : Layout → Circuit → Config → ℕ → Config → BoardLayers → Type 0
+IsFoundView b k c0 = IsViewBy b k c0 (Finds b k c0)
+
+-- the same of a board, where it is
+abbrev pub IsBoardView : Flattened → ℕ → BoardLayers → Type 0
+IsBoardView b initial = IsFoundView b.layout (rotary_circuit b.net) (origin b) initial b.config
+
+-- of the layers what they say of the machine of quadruples
+abbrev pub board_layers : Layers → BoardLayers
+board_layers v = record { place = v.place; steps = v.steps; «module» = v.module; state = v.state; tapes = v.tapes }
+
+-- What a view says where the board of f has come to d: where the signal is, and of the last moment the state and what
+-- the cells show then; by which exit it has left; and what the state says of the one-tape machine. The machine's step
+-- is where the head of the history stands then.
+pub record IsViewOf (f : Flat) (d : Config) (v : Layers) : Type 0 where
+  pub board : IsViewBy f.layout f.circuit (flat_start f) (Comes f) (initial_of (machine_of f).rules) d
+      (board_layers v)
+  pub exit : IsExit f.layout d.place v.exit
   pub stage : v.stage ≡ stage_by (name_of f.translation v.state)
   pub machine : v.machine ≡ machine_state_by f.translation.final_state (name_of f.translation v.state)
   pub machine_step : v.tapes.two.head ≡ Some (pos v.machine_step)
@@ -75,16 +104,10 @@ pub record IsLastMoment (b : Flattened) (initial : ℕ) (m : LastMoment) : Type 
   pub shown : IsShown (Finds b.layout (rotary_circuit b.net) (origin b)) initial b.config.steps step m.state
   pub tapes : m.tapes ≡ spelled_by b.layout (run (rotary_circuit b.net) (origin b) step).states
 
--- the same of a board and a translation, with the moments that the board's layout finds
+-- the view of a board and a translation, with the moments that the board's layout finds
 pub record IsView (t : Translation) (b : Flattened) (v : Layers) : Type 0 where
-  pub place : v.place ≡ b.config.place
-  pub steps : v.steps ≡ b.config.steps
+  pub board : IsBoardView b (initial_of t.machine.rules) (board_layers v)
   pub exit : IsExit b.layout b.config.place v.exit
-  pub located : IsModuleAt b.layout b.config.place v.module
-  pub step : ℕ
-  pub shown : IsShown (Finds b.layout (rotary_circuit b.net) (origin b)) (initial_of t.machine.rules)
-      b.config.steps step v.state
-  pub tapes : v.tapes ≡ spelled_by b.layout (run (rotary_circuit b.net) (origin b) step).states
   pub stage : v.stage ≡ stage_by (name_of t v.state)
   pub machine : v.machine ≡ machine_state_by t.final_state (name_of t v.state)
   pub machine_step : v.tapes.two.head ≡ Some (pos v.machine_step)

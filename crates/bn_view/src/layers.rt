@@ -33,6 +33,22 @@ pub enum ModuleAt {
     Outside,
 }
 
+/// What a board shows of the machine of quadruples, whichever it is made of (this project's own profile): where the
+/// signal is now; and of the last moment reached, or of the start where none was, the state and the tapes.
+#[derive(Debug, Drop)]
+pub struct BoardLayers {
+    /// Where the signal is.
+    pub place: Place,
+    /// The element steps made so far.
+    pub steps: u64,
+    /// The module in which the signal is.
+    pub module: ModuleAt,
+    /// The state of the machine of quadruples that is shown, counted from 0.
+    pub state: u32,
+    /// What the cells showed then.
+    pub tapes: Spelled,
+}
+
 /// Every layer of a board's configuration (this project's own profile): where the signal is now; and of the last moment
 /// reached, or of the start where none was, the state of the machine of quadruples, its tapes, and the one-tape machine
 /// (Bennett 1973).

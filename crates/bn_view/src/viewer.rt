@@ -5,16 +5,19 @@ ghost use Rattle.bn_circuits.specs.Stepping.{run};
 ghost use Rattle.bn_net.specs.RotaryNets.{rotary_circuit};
 ghost use Rattle.bn_machine.specs.Machine.{Program};
 ghost use Rattle.bn_machine.specs.Outcome.{Limits};
+ghost use Rattle.bn_quad.specs.Quadruples.{initial_of};
 ghost use Rattle.bn_board_spec.specs.Flats.{Flat};
 ghost use Rattle.bn_board.specs.Flattened.{IsBoardKept, IsSameBoard, origin};
 ghost use Rattle.bn_view.specs.Shown.{IsShown};
-ghost use Rattle.bn_view.specs.Viewed.{Finds, IsBoardFor, IsBoardOf, IsLastMoment, IsView, IsViewOf, ShowsMachine};
+ghost use Rattle.bn_view.specs.Viewed.{Finds, IsBoardFor, IsBoardOf, IsBoardView, IsLaidOut, IsLastMoment, IsView};
+ghost use Rattle.bn_view.specs.Viewed.{IsViewOf, ShowsMachine};
 
 use crate::laws::{shown_is_found, views_stand};
-use crate::layers::Layers;
+use crate::layers::{BoardLayers, Layers};
 use crate::module_at::module_at;
 use bn_bennett::Translated;
 use bn_board::{Board, NoMemory, Spelled, SpelledTape};
+use bn_quad::QuadMachine;
 use std::alloc::Global;
 
 // The last moment of a board: its state, and what the cells showed then.
@@ -57,16 +60,45 @@ fn layers_of(alloc: Global, board: &Board, translated: &Translated) -> Result<La
     shown_is_found();
     views_stand();
     let machine = translated.machine().machine();
-    let LastMoment { state, tapes } = last_moment(alloc, board, machine.initial_state())?;
+    let BoardLayers {
+        place,
+        steps,
+        module,
+        state,
+        tapes,
+    } = view_board(alloc, board, machine)?;
     Ok(Layers {
-        place: board.place(),
-        steps: board.steps(),
+        place,
+        steps,
         exit: board.exit_of(),
-        module: module_at(board, machine),
+        module,
         state,
         stage: translated.stage_of(state),
         machine: translated.machine_state_of(state),
         machine_step: head_of(&tapes.two),
+        tapes,
+    })
+}
+
+/// What the board of any machine of quadruples shows, in whatever configuration it has come to: where the signal is,
+/// and the last moment that it has reached, or its start where there is none. The board stays as it is; the last moment
+/// is found on a copy, which is stepped back: no log is kept. Its contract also tells what every board keeps.
+pub fn view_board(
+    alloc: Global,
+    board: &Board,
+    machine: &QuadMachine,
+) -> Result<BoardLayers, NoMemory>
+    requires { IsLaidOut machine.now board.now.layout }
+    ensures known { IfOk result (λ v. v.state < machine.now.states) }
+    ensures view { IfOk result (IsBoardView board.now (initial_of machine.now.rules)) }
+    ensures kept { IsBoardKept board.now }
+{
+    let LastMoment { state, tapes } = last_moment(alloc, board, machine.initial_state())?;
+    Ok(BoardLayers {
+        place: board.place(),
+        steps: board.steps(),
+        module: module_at(board, machine),
+        state,
         tapes,
     })
 }

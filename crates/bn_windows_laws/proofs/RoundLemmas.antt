@@ -69,7 +69,8 @@ window_side : (n m : ℕ) (s r : Side) → exits.Window n s ≡ exits.Window m r
 window_side n m s r e = cc
 
 -- an outcome that names a window's end is that end
-outcome_window : (f : Flat) (o : Outcome) (n : ℕ) (s : Side) → IsExitFor f o (exits.Window n s) → o ≡ outcome.Outside n s
+outcome_window : (f : Flat) (o : Outcome) (n : ℕ) (s : Side) → IsExitFor f o (exits.Window n s)
+    → o ≡ outcome.Outside n s
 outcome_window f (outcome.Halted y) n s is = absurd (cc)
 outcome_window f (outcome.Stuck j c) n s is = let e : exits.Window n s ≡ exits.Stuck is.0 c = is.2 in absurd (cc)
 outcome_window f (outcome.Outside m r) n s is =
@@ -77,7 +78,8 @@ outcome_window f (outcome.Outside m r) n s is =
     let sides : s ≡ r = window_side n m s r is in
     ap (λ k. outcome.Outside k r) (sym tapes) ∙ ap (λ k. outcome.Outside n k) (sym sides)
 
-module _ (laws : Boards) (bytes letters : List ℕ) (t : Named) (symbols : List ℕ) (given : IsWordGiven bytes letters t symbols) where
+module _ (laws : Boards) (bytes letters : List ℕ) (t : Named) (symbols : List ℕ)
+    (given : IsWordGiven bytes letters t symbols) where
   abbrev program : Program
   program = t.machine
 
@@ -95,38 +97,49 @@ module _ (laws : Boards) (bytes letters : List ℕ) (t : Named) (symbols : List 
     pub accepted : (f : Flat) → ComesTo program w symbols f → IsAccepted program symbols w f
     accepted f comes = given_accepted laws.machines bytes letters w t symbols f asked comes
 
-    pub ran : (f : Flat) → ComesTo program w symbols f → (i : ℕ) (o : Outcome) → HasOutcome program symbols w i o → RunsToExit program f i o
+    pub ran : (f : Flat) → ComesTo program w symbols f → (i : ℕ) (o : Outcome) → HasOutcome program symbols w i o
+        → RunsToExit program f i o
     ran f comes i o out = laws.runs program symbols w f comes.flat (accepted f comes) i o out
 
     -- the exit by which the signal leaves
-    pub ran_exit : (f : Flat) (comes : ComesTo program w symbols f) (i : ℕ) (o : Outcome) (out : HasOutcome program symbols w i o) →
+    pub ran_exit : (f : Flat) (comes : ComesTo program w symbols f) (i : ℕ) (o : Outcome)
+        (out : HasOutcome program symbols w i o) →
         IsNamedExit f.layout (reached f None).place (ran f comes i o out).exit
     ran_exit f comes i o out =
         let r = ran f comes i o out in
         let there : IsNamedExit f.layout (board_after f r.cost).place r.exit =
         named_of f.layout (board_after f r.cost).place r.exit r.is_exit (not_unnamed f o r.exit r.for_outcome) in
-        subst (λ (c : Config). IsNamedExit f.layout c.place r.exit) (sym (at_cost program f i o r (bound_of f.layout) r.bounded)) there
+        subst (λ (c : Config). IsNamedExit f.layout c.place r.exit)
+        (sym (at_cost program f i o r (bound_of f.layout) r.bounded)) there
 
     -- a board that the window has, and the number of its elements
     pub has_board : (f : Flat) → ComesTo program w symbols f → HasBoard program w
-    has_board f comes = record { count = size f.network.tables; counts = laws.counted.1 program symbols w f comes.flat; few = comes.few }
+    has_board f comes = record {
+      count = size f.network.tables;
+      counts = laws.counted.1 program symbols w f comes.flat;
+      few = comes.few;
+    }
 
     pub board_there : HasBoard program w → (f : Flat) × ComesTo program w symbols f
     board_there board =
         let flat = laws.flats program symbols w standard fits_table in
-        let same : size flat.0.network.tables ≡ board.count = laws.counted.0 program w (size flat.0.network.tables) board.count (laws.counted.1 program symbols w flat.0 flat.1) board.counts in
+        let same : size flat.0.network.tables ≡ board.count = laws.counted.0 program w (size flat.0.network.tables)
+        board.count (laws.counted.1 program symbols w flat.0 flat.1) board.counts in
         let few = board.few in
         (flat.0, record { fits = on.fits; flat = flat.1; few = omega arith })
 
     -- the outcome is the end of a tape exactly where the signal leaves by it
-    pub leaves_outside : (f : Flat) (comes : ComesTo program w symbols f) (n : ℕ) (s : Side) → IsNamedExit f.layout (reached f None).place (exits.Window n s) →
+    pub leaves_outside : (f : Flat) (comes : ComesTo program w symbols f) (n : ℕ) (s : Side)
+        → IsNamedExit f.layout (reached f None).place (exits.Window n s) →
         (i : ℕ) (o : Outcome) → HasOutcome program symbols w i o → o ≡ outcome.Outside n s
     leaves_outside f comes n s leaves i o out =
         let r = ran f comes i o out in
-        let same : r.exit ≡ exits.Window n s = laws.exits_one program symbols w f comes.flat (accepted f comes) (reached f None).place r.exit (exits.Window n s) (ran_exit f comes i o out) leaves in
+        let same : r.exit ≡ exits.Window n s = laws.exits_one program symbols w f comes.flat (accepted f comes)
+        (reached f None).place r.exit (exits.Window n s) (ran_exit f comes i o out) leaves in
         outcome_window f o n s (subst (IsExitFor f o) same r.for_outcome)
 
-    pub outside_leaves : (f : Flat) (comes : ComesTo program w symbols f) (n : ℕ) (s : Side) (i : ℕ) → HasOutcome program symbols w i (outcome.Outside n s) →
+    pub outside_leaves : (f : Flat) (comes : ComesTo program w symbols f) (n : ℕ) (s : Side) (i : ℕ)
+        → HasOutcome program symbols w i (outcome.Outside n s) →
         IsNamedExit f.layout (reached f None).place (exits.Window n s)
     outside_leaves f comes n s i out =
         let r = ran f comes i (outcome.Outside n s) out in
@@ -148,7 +161,8 @@ module _ (laws : Boards) (bytes letters : List ℕ) (t : Named) (symbols : List 
         }
 
     -- and the other way round
-    pub widens_round : (v : Limits) → Widens program symbols w v → (told : List Place) × IsRound program symbols w v told
+    pub widens_round : (v : Limits) → Widens program symbols w v
+        → (told : List Place) × IsRound program symbols w v told
     widens_round v goes =
         let board = board_there goes.board in (
           places board.0.circuit (budget board.0 None) (flat_start board.0),
@@ -168,36 +182,44 @@ module _ (laws : Boards) (bytes letters : List ℕ) (t : Named) (symbols : List 
         places f.circuit (budget f None) (flat_start f) ≡ places g.circuit (budget g None) (flat_start g)
     told_once f g a b =
         let same = same_boards laws.machines laws.ones bytes letters w t symbols f g asked a b in
-        places-alike f.circuit g.circuit same.circuit (bound_of f.layout) (flat_start f) ∙ ap (places g.circuit (bound_of f.layout)) same.start
+        places-alike f.circuit g.circuit same.circuit (bound_of f.layout) (flat_start f)
+        ∙ ap (places g.circuit (bound_of f.layout)) same.start
         ∙ ap (λ b. places g.circuit (bound_of b) (flat_start g)) same.layout
 
-    pub round_told : (v u : Limits) (told heard : List Place) → IsRound program symbols w v told → IsRound program symbols w u heard → told ≡ heard
+    pub round_told : (v u : Limits) (told heard : List Place) → IsRound program symbols w v told
+        → IsRound program symbols w u heard → told ≡ heard
     round_told v u told heard a b = a.told_is ∙ told_once a.flat b.flat a.comes b.comes ∙ sym b.told_is
 
     -- the places told are those up to the board's cost
-    pub board_places : (f : Flat) → ComesTo program w symbols f → (told : List Place) → told ≡ places f.circuit (budget f None) (flat_start f) → AreOfBoard program symbols w told
+    pub board_places : (f : Flat) → ComesTo program w symbols f → (told : List Place)
+        → told ≡ places f.circuit (budget f None) (flat_start f) → AreOfBoard program symbols w told
     board_places f comes told is =
         let some = outcome_exists program symbols w in
         let r = ran f comes some.0 some.1 some.2 in
-        let whole : told ≡ places f.circuit r.cost (flat_start f) = is ∙ places_stop f.circuit r.cost (bound_of f.layout) r.cost (flat_start f) (board_after f r.cost) r.run_to r.ended r.bounded (omega arith) in
+        let whole : told ≡ places f.circuit r.cost (flat_start f) =
+        is ∙ places_stop f.circuit r.cost (bound_of f.layout) r.cost (flat_start f) (board_after f r.cost) r.run_to
+        r.ended r.bounded (omega arith) in
         record {
           flat = f;
           comes = comes;
           cost = r.cost;
           has_cost = r.has_cost;
-          counted = ap (λ (ps : List Place). length ps) whole ∙ places_count f.circuit r.cost (flat_start f) (board_after f r.cost) r.run_to;
+          counted = ap (λ (ps : List Place). length ps) whole ∙ places_count f.circuit r.cost (flat_start f)
+              (board_after f r.cost) r.run_to;
           told_is = whole;
         }
 
   -- ---- all rounds
 
-  pub rounds_search : (n : ℕ) (w v : Limits) (told : List Place) → IsOnTheWay symbols w → MakeRounds program symbols n w v told → Reaches (Widens program symbols) n w v
+  pub rounds_search : (n : ℕ) (w v : Limits) (told : List Place) → IsOnTheWay symbols w
+      → MakeRounds program symbols n w v told → Reaches (Widens program symbols) n w v
   rounds_search zero w v told on made = made.0
   rounds_search (suc n) w v told on made =
       let goes = round_widens w on made.0 made.1 made.3 in
       (made.0, goes, rounds_search n made.0 v made.2 (next_on_way program symbols standard w made.0 goes on) made.4)
 
-  pub search_rounds : (n : ℕ) (w v : Limits) → IsOnTheWay symbols w → Reaches (Widens program symbols) n w v → (told : List Place) × MakeRounds program symbols n w v told
+  pub search_rounds : (n : ℕ) (w v : Limits) → IsOnTheWay symbols w → Reaches (Widens program symbols) n w v
+      → (told : List Place) × MakeRounds program symbols n w v told
   search_rounds zero w v on way = ([], (way, refl))
   search_rounds (suc n) w v on way =
       let round = widens_round w on way.0 way.1 in
@@ -205,18 +227,29 @@ module _ (laws : Boards) (bytes letters : List ℕ) (t : Named) (symbols : List 
       (round.0 ++ rest.0, (way.0, round.0, rest.0, round.1, rest.1, refl))
 
   -- as many rounds tell the same places and lead to the same window
-  pub rounds_once : (n : ℕ) (w v u : Limits) (told heard : List Place) → IsOnTheWay symbols w → MakeRounds program symbols n w v told → MakeRounds program symbols n w u heard →
+  pub rounds_once : (n : ℕ) (w v u : Limits) (told heard : List Place) → IsOnTheWay symbols w
+      → MakeRounds program symbols n w v told → MakeRounds program symbols n w u heard →
       (v ≡ u) × (told ≡ heard)
   rounds_once zero w v u told heard on a b = (sym a.0 ∙ b.0, a.1 ∙ sym b.1)
   rounds_once (suc n) w v u told heard on a b =
       let goes = round_widens w on a.0 a.1 a.3 in
       let same : b.0 ≡ a.0 = widens_once program symbols w b.0 a.0 (round_widens w on b.0 b.1 b.3) goes in
       let fronts : a.1 ≡ b.1 = round_told w on a.0 b.0 a.1 b.1 a.3 b.3 in
-      let rest = rounds_once n a.0 v u a.2 b.2 (next_on_way program symbols standard w a.0 goes on) a.4 (subst (λ x. MakeRounds program symbols n x u b.2) same b.4) in
+      let rest = rounds_once n a.0 v u a.2 b.2 (next_on_way program symbols standard w a.0 goes on) a.4
+      (subst (λ x. MakeRounds program symbols n x u b.2) same b.4) in
       (rest.0, a.5 ∙ (λ i. fronts i ++ rest.1 i) ∙ sym b.5)
 
-  pub rounds_places : (n : ℕ) (w v : Limits) (told : List Place) → IsOnTheWay symbols w → MakeRounds program symbols n w v told → AreOfRounds program symbols n w v told
+  pub rounds_places : (n : ℕ) (w v : Limits) (told : List Place) → IsOnTheWay symbols w
+      → MakeRounds program symbols n w v told → AreOfRounds program symbols n w v told
   rounds_places zero w v told on made = made
   rounds_places (suc n) w v told on made =
-      let goes = round_widens w on made.0 made.1 made.3 in
-      (made.0, made.1, made.2, goes, board_places w on made.3.flat made.3.comes made.1 made.3.told_is, rounds_places n made.0 v made.2 (next_on_way program symbols standard w made.0 goes on) made.4, made.5)
+      let goes = round_widens w on made.0 made.1 made.3 in (
+        made.0,
+        made.1,
+        made.2,
+        goes,
+        board_places w on made.3.flat made.3.comes made.1 made.3.told_is,
+        rounds_places n
+            made.0 v made.2 (next_on_way program symbols standard w made.0 goes on) made.4,
+        made.5,
+      )

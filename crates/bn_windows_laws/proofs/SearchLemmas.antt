@@ -15,8 +15,10 @@ use Rattle.bn_board_laws.specs.ExistenceLaws.{FlatsAreThere}
 use Rattle.bn_reply_boards_laws.specs.Windows.{CountsElements}
 use Rattle.bn_reply_boards_laws.specs.Laws.{BoardsAreCounted}
 use Rattle.bn_assembly.specs.Widening.{first_window, widened, IsEnd, IsWhole}
-use Rattle.bn_windows_laws.specs.Searches.{Finding, Found, Large, HasBoard, Widens, Stops, too_large, halts, sticks, HasFinding}
-use Rattle.bn_windows_laws.specs.Laws.{ComesInside, halted, stuck, FoundComesOut, IsOnTheWay, LargeIsTooLarge, SearchEnds, SearchIsOne, SearchIsShort, WindowsAreWhole}
+use Rattle.bn_windows_laws.specs.Searches.{Finding, Found, Large, HasBoard, Widens, Stops, too_large, halts, sticks}
+use Rattle.bn_windows_laws.specs.Searches.{HasFinding}
+use Rattle.bn_windows_laws.specs.Laws.{ComesInside, halted, stuck, FoundComesOut, IsOnTheWay, LargeIsTooLarge}
+use Rattle.bn_windows_laws.specs.Laws.{SearchEnds, SearchIsOne, SearchIsShort, WindowsAreWhole}
 use Rattle.bn_windows_laws.proofs.EndLemmas.{ends-four, whole_stays, right_stays, first_whole, first_fits}
 use Rattle.bn_windows_laws.proofs.SizeLemmas.{size_in, size_counts, size_grows, widened_small}
 
@@ -29,7 +31,8 @@ same_widened w t u s r e =
 module _ (p : Program) (word : List ℕ) where
   pub widens_once : IsFunction (Widens p word)
   widens_once w v x a b =
-      let same = (outcome_once p word w a.time b.time (Outside a.tape a.side) (Outside b.tape b.side) a.outside b.outside).1 in
+      let same = (outcome_once p word w a.time b.time (Outside a.tape a.side) (Outside b.tape b.side) a.outside
+      b.outside).1 in
       a.next ∙ same_widened w a.tape b.tape a.side b.side same ∙ sym b.next
 
   one_outcome : (w : Limits) (i j : ℕ) (o q : Outcome) → HasOutcome p word w i o → HasOutcome p word w j q → o ≡ q
@@ -56,7 +59,12 @@ module _ (p : Program) (word : List ℕ) where
     stays_on_way (suc n) w v on way = stays_on_way n way.0 v (next_on_way w way.0 way.1 on) way.2
 
   pub first_on_way : IsOnTheWay word (first_window word)
-  first_on_way = record { whole = first_whole word; fits = first_fits word; small = λ few. (omega arith, omega arith, omega arith, omega arith) }
+  first_on_way = record {
+    whole = first_whole word;
+    fits = first_fits word;
+    small = λ few.
+        (omega arith, omega arith, omega arith, omega arith);
+  }
 
   module _ (counted : BoardsAreCounted) where
     not_large : (w : Limits) (count : ℕ) → CountsElements p w count → MOST_ELEMENTS < count → HasBoard p w → ⊥
@@ -66,22 +74,29 @@ module _ (p : Program) (word : List ℕ) where
         omega arith
 
     pub stops_once : (w : Limits) (a b : Finding) → Stops p word w a → Stops p word w b → a ≡ b
-    stops_once w a b (too_large count counts large e) (too_large other also great f) = e ∙ ap Large (counted.0 p w count other counts also) ∙ sym f
-    stops_once w a b (too_large count counts large e) (halts board i y out f) = absurd (not_large w count counts large board)
-    stops_once w a b (too_large count counts large e) (sticks board i s c out f) = absurd (not_large w count counts large board)
-    stops_once w a b (halts board i y out e) (too_large count counts large f) = absurd (not_large w count counts large board)
+    stops_once w a b (too_large count counts large e) (too_large other also great f) =
+        e ∙ ap Large (counted.0 p w count other counts also) ∙ sym f
+    stops_once w a b (too_large count counts large e) (halts board i y out f) =
+        absurd (not_large w count counts large board)
+    stops_once w a b (too_large count counts large e) (sticks board i s c out f) =
+        absurd (not_large w count counts large board)
+    stops_once w a b (halts board i y out e) (too_large count counts large f) =
+        absurd (not_large w count counts large board)
     stops_once w a b (halts board i y out e) (halts also j z out' f) = e ∙ sym f
     stops_once w a b (halts board i y out e) (sticks also j s c out' f) = e ∙ sym f
-    stops_once w a b (sticks board i s c out e) (too_large count counts large f) = absurd (not_large w count counts large board)
+    stops_once w a b (sticks board i s c out e) (too_large count counts large f) =
+        absurd (not_large w count counts large board)
     stops_once w a b (sticks board i s c out e) (halts also j z out' f) = e ∙ sym f
     stops_once w a b (sticks board i s c out e) (sticks also j s' c' out' f) = e ∙ sym f
 
     pub stopped : (w v : Limits) (a : Finding) → Stops p word w a → Widens p word w v → ⊥
     stopped w v a (too_large count counts large e) goes = not_large w count counts large goes.board
     stopped w v a (halts board i y out e) goes =
-        let same : Halted y ≡ Outside goes.tape goes.side = one_outcome w i goes.time (Halted y) (Outside goes.tape goes.side) out goes.outside in absurd (cc)
+        let same : Halted y ≡ Outside goes.tape goes.side = one_outcome w i goes.time (Halted y)
+        (Outside goes.tape goes.side) out goes.outside in absurd (cc)
     stopped w v a (sticks board i s c out e) goes =
-        let same : Stuck s c ≡ Outside goes.tape goes.side = one_outcome w i goes.time (Stuck s c) (Outside goes.tape goes.side) out goes.outside in absurd (cc)
+        let same : Stuck s c ≡ Outside goes.tape goes.side = one_outcome w i goes.time (Stuck s c)
+        (Outside goes.tape goes.side) out goes.outside in absurd (cc)
 
     no_earlier : (n m : ℕ) (a b : Finding) → HasFinding p word n a → HasFinding p word m b → n < m → ⊥
     no_earlier n m a b x y h =
@@ -124,23 +139,39 @@ module _ (p : Program) (word : List ℕ) where
     at_once w a stops = record { rounds = 0; answer = a; last = w; way = refl; stops = stops }
 
     after_round : (w v : Limits) → Widens p word w v → Comes v → Comes w
-    after_round w v goes rest = record { rounds = suc rest.rounds; answer = rest.answer; last = rest.last; way = (v, goes, rest.way); stops = rest.stops }
+    after_round w v goes rest = record {
+      rounds = suc rest.rounds;
+      answer = rest.answer;
+      last = rest.last;
+      way = (v, goes, rest.way);
+      stops = rest.stops;
+    }
 
-    by_outcome : (w : Limits) → HasBoard p w → (i : ℕ) (o : Outcome) → HasOutcome p word w i o → ((t : ℕ) (side : Side) → HasOutcome p word w i (Outside t side) → Comes (widened w t side)) → Comes w
+    by_outcome : (w : Limits) → HasBoard p w → (i : ℕ) (o : Outcome) → HasOutcome p word w i o
+        → ((t : ℕ) (side : Side) → HasOutcome p word w i (Outside t side) → Comes (widened w t side)) → Comes w
     by_outcome w board i (Halted y) out rest = at_once w (Found w) (halts board i y out refl)
     by_outcome w board i (Stuck s c) out rest = at_once w (Found w) (sticks board i s c out refl)
     by_outcome w board i (Outside t side) out rest =
-        after_round w (widened w t side) (record { board = board; time = i; tape = t; side = side; outside = out; next = refl }) (rest t side out)
+        after_round w (widened w t side) (record {
+          board = board;
+          time = i;
+          tape = t;
+          side = side;
+          outside = out;
+          next = refl;
+        }) (rest t side out)
 
     search_from : (fuel : ℕ) (w : Limits) → IsWhole w → MOST_ELEMENTS < elements w + fuel → Comes w
-    search_from zero w whole enough = at_once w (Large (elements w)) (too_large (elements w) (counts_in w) (omega arith) refl)
+    search_from zero w whole enough = at_once w (Large (elements w))
+        (too_large (elements w) (counts_in w) (omega arith) refl)
     search_from (suc fuel) w whole enough = elim (cases_lt MOST_ELEMENTS (elements w)) [
       | inl large ↦ at_once w (Large (elements w)) (too_large (elements w) (counts_in w) large refl)
       | inr few ↦
           (let out = outcome_exists p word w in
           by_outcome w (record { count = elements w; counts = counts_in w; few = few }) out.0 out.1 out.2 (λ t side h.
           let end = ends-four p word w out.0 t side h in
-          let more : elements w + 22 ≤ elements (widened w t side) = size_grows p standard start first counts w t side whole end in
+          let more : elements w + 22 ≤ elements (widened w t side) =
+          size_grows p standard start first counts w t side whole end in
           search_from fuel (widened w t side) (whole_stays w t side whole end) (omega arith)))
     ]
 
@@ -157,20 +188,23 @@ module _ (p : Program) (word : List ℕ) where
           let few = board.few in
           omega arith
 
-      rounds_bound : (n : ℕ) (w v : Limits) → IsWhole w → Reaches (Widens p word) (suc n) w v → elements w + n ≤ MOST_ELEMENTS
+      rounds_bound : (n : ℕ) (w v : Limits) → IsWhole w → Reaches (Widens p word) (suc n) w v
+          → elements w + n ≤ MOST_ELEMENTS
       rounds_bound zero w v whole way = let fits = within w way.1.board in omega arith
       rounds_bound (suc n) w v whole way =
           let goes = way.1 in
           let end = next_end w way.0 goes in
           let next : IsWhole way.0 = subst IsWhole (sym goes.next) (whole_stays w goes.tape goes.side whole end) in
-          let more : elements w + 22 ≤ elements way.0 = subst (λ x. elements w + 22 ≤ elements x) (sym goes.next) (size_grows p standard start first counts w goes.tape goes.side whole end) in
+          let more : elements w + 22 ≤ elements way.0 = subst (λ x. elements w + 22 ≤ elements x) (sym goes.next)
+          (size_grows p standard start first counts w goes.tape goes.side whole end) in
           let rest : elements way.0 + n ≤ MOST_ELEMENTS = rounds_bound n way.0 v next way.2 in
           omega arith
 
       pub rounds_short : (n : ℕ) (v : Limits) → Reaches (Widens p word) n (first_window word) v → n ≤ MOST_ELEMENTS + 1
       rounds_short zero v way = omega arith
       rounds_short (suc n) v way =
-          let bound : elements (first_window word) + n ≤ MOST_ELEMENTS = rounds_bound n (first_window word) v (first_whole word) way in
+          let bound : elements (first_window word) + n ≤ MOST_ELEMENTS =
+          rounds_bound n (first_window word) v (first_whole word) way in
           omega arith
 
 -- ---- the laws
@@ -185,7 +219,8 @@ pub search-short : FlatsAreThere → BoardsAreCounted → SearchIsShort
 search-short flats counted p word n a standard fits h =
     let start = first_window word in
     let flat = flats p word start standard fits in
-    rounds_short p word standard start (size flat.0.network.tables) (counted.1 p word start flat.0 flat.1) counted n h.last h.rounds
+    rounds_short p word standard start (size flat.0.network.tables) (counted.1 p word start flat.0 flat.1) counted n
+    h.last h.rounds
 
 pub search-one : BoardsAreCounted → SearchIsOne
 search-one counted p word n m a b x y = finding_once p word counted n m a b x y

@@ -28,41 +28,60 @@ cell_some z some =
     least : (z : ℕ) → 0 < z → 22 ≤ (2 * z) * (2 * z + 8 + 1)
     least zero some = absurd (omega arith)
     least (suc z) some =
-        let first : 2 * (2 * suc z + 8 + 1) ≤ (2 * suc z) * (2 * suc z + 8 + 1) = mul-le-mul_right {m = 2} {n = 2 * suc z} (2 * suc z + 8 + 1) (omega arith) in
+        let first : 2 * (2 * suc z + 8 + 1) ≤ (2 * suc z) * (2 * suc z + 8 + 1) =
+        mul-le-mul_right {m = 2} {n = 2 * suc z} (2 * suc z + 8 + 1) (omega arith) in
         omega arith
 
-module _ (p : Program) (standard : IsStandardMachine p) (w : Limits) (count : ℕ) (counts : CountsElements p w count) where
-  abbrev machine : Quadruples
-  machine = counts.translation.machine
+module _ (p : Program) (standard : IsStandardMachine p) (w : Limits) (count : ℕ) (counts : CountsElements p w count)
+  where
+    abbrev machine : Quadruples
+    machine = counts.translation.machine
 
-  tape_some : (t : ℕ) → IsTape t → 22 ≤ cell_size (symbol_count machine t)
-  tape_some t tape =
-      let some : 0 < symbol_count (record { rules = machine.rules; states = machine.states; symbols = machine.symbols }) t =
-      subst (λ zs. 0 < symbol_count (record { rules = machine.rules; states = machine.states; symbols = zs }) t) (sym counts.translates.symbols)
-      (tape_letters p machine (some_symbols p standard.machine) t tape) in
-      cell_some (symbol_count machine t) some
+    tape_some : (t : ℕ) → IsTape t → 22 ≤ cell_size (symbol_count machine t)
+    tape_some t tape =
+        let some : 0 < symbol_count (record {
+          rules = machine.rules;
+          states = machine.states;
+          symbols = machine.symbols;
+        })
+        t =
+        subst (λ zs. 0 < symbol_count (record { rules = machine.rules; states = machine.states; symbols = zs }) t)
+        (sym counts.translates.symbols)
+        (tape_letters p machine (some_symbols p standard.machine) t tape) in
+        cell_some (symbol_count machine t) some
 
-  -- the number of elements in any window
-  abbrev pub size_in : Limits → ℕ
-  size_in v = elements_by machine v (length counts.names)
+    -- the number of elements in any window
+    abbrev pub size_in : Limits → ℕ
+    size_in v = elements_by machine v (length counts.names)
 
-  pub size_counts : (v : Limits) → CountsElements p v (size_in v)
-  size_counts v = record { translation = counts.translation; names = counts.names; translates = counts.translates; numbering = counts.numbering; is = refl }
+    pub size_counts : (v : Limits) → CountsElements p v (size_in v)
+    size_counts v = record {
+      translation = counts.translation;
+      names = counts.names;
+      translates = counts.translates;
+      numbering = counts.numbering;
+      is = refl;
+    }
 
-  pub size_grows : (v : Limits) (t : ℕ) (side : Side) → IsWhole v → IsEnd t side → size_in v + 22 ≤ size_in (widened v t side)
-  size_grows v t side whole end =
-      sums_grow (bank_size (length counts.names) (control_lines machine)) (cell_size (symbol_count machine 1)) (cell_size (symbol_count machine 2)) (cell_size (symbol_count machine 3))
-      (tape_some 1 (record { low = omega arith; high = omega arith })) (tape_some 2 (record { low = omega arith; high = omega arith }))
-      (tape_some 3 (record { low = omega arith; high = omega arith })) v t side whole end
+    pub size_grows : (v : Limits) (t : ℕ) (side : Side) → IsWhole v → IsEnd t side
+        → size_in v + 22 ≤ size_in (widened v t side)
+    size_grows v t side whole end =
+        sums_grow (bank_size (length counts.names) (control_lines machine)) (cell_size (symbol_count machine 1))
+        (cell_size (symbol_count machine 2)) (cell_size (symbol_count machine 3))
+        (tape_some 1 (record { low = omega arith; high = omega arith }))
+        (tape_some 2 (record { low = omega arith; high = omega arith }))
+        (tape_some 3 (record { low = omega arith; high = omega arith })) v t side whole end
 
-  pub size_some : (v : Limits) → 22 * cells v ≤ size_in v
-  size_some v =
-      sums_some (bank_size (length counts.names) (control_lines machine)) (cell_size (symbol_count machine 1)) (cell_size (symbol_count machine 2)) (cell_size (symbol_count machine 3))
-      (tape_some 1 (record { low = omega arith; high = omega arith })) (tape_some 2 (record { low = omega arith; high = omega arith }))
-      (tape_some 3 (record { low = omega arith; high = omega arith })) v
+    pub size_some : (v : Limits) → 22 * cells v ≤ size_in v
+    size_some v =
+        sums_some (bank_size (length counts.names) (control_lines machine)) (cell_size (symbol_count machine 1))
+        (cell_size (symbol_count machine 2)) (cell_size (symbol_count machine 3))
+        (tape_some 1 (record { low = omega arith; high = omega arith }))
+        (tape_some 2 (record { low = omega arith; high = omega arith }))
+        (tape_some 3 (record { low = omega arith; high = omega arith })) v
 
-  pub count_some : 22 * cells w ≤ count
-  count_some = subst (λ n. 22 * cells w ≤ n) (sym counts.is) (size_some w)
+    pub count_some : 22 * cells w ≤ count
+    count_some = subst (λ n. 22 * cells w ≤ n) (sym counts.is) (size_some w)
 
 pub elements-grow : BoardsAreCounted → ElementsGrow
 elements-grow counted = (
@@ -71,7 +90,8 @@ elements-grow counted = (
       let by = size_grows p standard w count counts w t side whole end in
       let here : count ≡ size_in p standard w count counts w = counts.is in
       let there : more ≡ size_in p standard w count counts (widened w t side) =
-      counted.0 p (widened w t side) more (size_in p standard w count counts (widened w t side)) also (size_counts p standard w count counts (widened w t side)) in
+      counted.0 p (widened w t side) more (size_in p standard w count counts (widened w t side)) also
+      (size_counts p standard w count counts (widened w t side)) in
       omega (arith, by, here, there),
 )
 
@@ -99,8 +119,10 @@ numbers-stay_low p w tape side standard board =
     omega arith
 
 -- so a window that is widened may be asked for
-pub widened_small : (p : Program) (w : Limits) (t : ℕ) (side : Side) → IsStandardMachine p → HasBoard p w → IsEnd t side → AreSmall (widened w t side)
+pub widened_small : (p : Program) (w : Limits) (t : ℕ) (side : Side) → IsStandardMachine p → HasBoard p w → IsEnd t side
+    → AreSmall (widened w t side)
 widened_small p w t side standard board end =
     let few = cells_low p w standard board in
-    by_end (λ t side. AreSmall (widened w t side)) (omega arith, omega arith, omega arith, omega arith) (omega arith, omega arith, omega arith, omega arith)
+    by_end (λ t side. AreSmall (widened w t side)) (omega arith, omega arith, omega arith, omega arith)
+    (omega arith, omega arith, omega arith, omega arith)
     (omega arith, omega arith, omega arith, omega arith) (omega arith, omega arith, omega arith, omega arith) t side end

@@ -11,7 +11,8 @@ use Rattle.bn_machine.specs.Outcome.{Limits}
 use Rattle.bn_network.specs.Limits.{AreSmall}
 use Rattle.bn_words.specs.Laws.{WordsHaveAFormOrNone}
 use Rattle.bn_words.specs.Requests.{HasForm, HasNoForm, IsAllowed, IsOrdinal, Request, words_of}
-use Rattle.bn_words.specs.Requests.{Step, Back, Machine, Trace, Moments, ThreeMoments, Realise, Build, Compile, Drive, Layout, Run, View, Session, Generate, EraseRun}
+use Rattle.bn_words.specs.Requests.{Step, Back, Machine, Trace, Moments, ThreeMoments, Realise, Build, Compile, Drive}
+use Rattle.bn_words.specs.Requests.{Layout, Run, View, Session, Look, Play, Generate, EraseRun}
 use Rattle.bn_words.specs.declared.request.TheConstants.{MOST_DRIVE_STEPS}
 use Rattle.bn_words.proofs.FormLemmas.{only, only_form}
 
@@ -70,13 +71,16 @@ ordinal_or_not n most = both (1 ≤ n) (n ≤ most) (low_or_not 1 n) (low_or_not
 
 small_or_not : (l : Limits) → OrNot (AreSmall l)
 small_or_not l =
-    through ((l.left ≤ MOST_COUNT) × ((l.right ≤ MOST_COUNT) × ((l.steps ≤ MOST_COUNT) × (l.output ≤ MOST_COUNT)))) (AreSmall l)
+    through ((l.left ≤ MOST_COUNT) × ((l.right ≤ MOST_COUNT) × ((l.steps ≤ MOST_COUNT) × (l.output ≤ MOST_COUNT))))
+    (AreSmall l)
     (λ h. (h.0, h.1.0, h.1.1.0, h.1.1.1)) (λ s. (s.0, (s.1, (s.2, s.3))))
-    (both _ _ (low_or_not l.left MOST_COUNT) (both _ _ (low_or_not l.right MOST_COUNT) (both _ _ (low_or_not l.steps MOST_COUNT) (low_or_not l.output MOST_COUNT))))
+    (both _ _ (low_or_not l.left MOST_COUNT) (both _ _ (low_or_not l.right MOST_COUNT)
+    (both _ _ (low_or_not l.steps MOST_COUNT) (low_or_not l.output MOST_COUNT))))
 
 round_or_not : (k : ℕ) → OrNot (IsRoundCount k)
 round_or_not k =
-    through ((1 ≤ k) × (k ≤ MOST_INCREMENTS)) (IsRoundCount k) (λ h. record { some = h.0; few = h.1 }) (λ h. (h.some, h.few))
+    through ((1 ≤ k) × (k ≤ MOST_INCREMENTS)) (IsRoundCount k) (λ h. record { some = h.0; few = h.1 })
+    (λ h. (h.some, h.few))
     (ordinal_or_not k MOST_INCREMENTS)
 
 allowed_or_not : (r : Request) → OrNot (IsAllowed r)
@@ -86,7 +90,8 @@ allowed_or_not (Machine w n) = low_or_not n MOST_COUNT
 allowed_or_not (Trace w n) = low_or_not n MOST_COUNT
 allowed_or_not (Moments w n) = low_or_not n MOST_COUNT
 allowed_or_not (ThreeMoments a b c n) = low_or_not n MOST_COUNT
-allowed_or_not (Realise q i) = both (IsOrdinal q) (IsOrdinal i) (ordinal_or_not q MOST_COUNT) (ordinal_or_not i MOST_COUNT)
+allowed_or_not (Realise q i) = both (IsOrdinal q) (IsOrdinal i) (ordinal_or_not q MOST_COUNT)
+    (ordinal_or_not i MOST_COUNT)
 allowed_or_not (Compile w l) = small_or_not l
 allowed_or_not (Layout w l) = small_or_not l
 allowed_or_not (Build w l) = small_or_not l
@@ -95,6 +100,8 @@ allowed_or_not (Run w l None) = both (AreSmall l) (Unit {0}) (small_or_not l) (i
 allowed_or_not (Run w l (Some e)) = both (AreSmall l) (e ≤ greatest) (small_or_not l) (low_or_not e greatest)
 allowed_or_not (View w l e) = both (AreSmall l) (e ≤ greatest) (small_or_not l) (low_or_not e greatest)
 allowed_or_not (Session w l) = small_or_not l
+allowed_or_not (Look w l e) = both (AreSmall l) (e ≤ greatest) (small_or_not l) (low_or_not e greatest)
+allowed_or_not (Play w l) = small_or_not l
 allowed_or_not (Generate k) = round_or_not k
 allowed_or_not (EraseRun w n) = low_or_not n MOST_COUNT
 allowed_or_not r = inl tt
@@ -102,12 +109,15 @@ allowed_or_not r = inl tt
 -- ---- whether words have a form
 
 -- words that may ask for one thing alone ask for it, or for nothing
-by_only : (words : List (List ℕ)) (r : Request) → only words ≡ Some r → (words ≡ words_of r) ⊎ (words ≢ words_of r) → OrNot (IsAllowed r) →
+by_only : (words : List (List ℕ)) (r : Request) → only words ≡ Some r → (words ≡ words_of r) ⊎ (words ≢ words_of r)
+    → OrNot (IsAllowed r) →
     ((request : Request) × HasForm words request) ⊎ HasNoForm words
 by_only words r is (inl same) (inl allowed) = inl (r, record { words_are = same; allowed = allowed })
-by_only words r is (inr other) allowed = inr (λ request h. other (let one : Some request ≡ Some r = sym (only_form words request h) ∙ is in
+by_only words r is (inr other) allowed = inr (λ request h. other
+    (let one : Some request ≡ Some r = sym (only_form words request h) ∙ is in
     let r_is : request ≡ r = cc in h.words_are ∙ ap words_of r_is))
-by_only words r is (inl same) (inr not) = inr (λ request h. not (let one : Some request ≡ Some r = sym (only_form words request h) ∙ is in
+by_only words r is (inl same) (inr not) = inr (λ request h. not
+    (let one : Some request ≡ Some r = sym (only_form words request h) ∙ is in
     let r_is : request ≡ r = cc in subst IsAllowed r_is h.allowed))
 
 pub words_have_form_or_none : WordsHaveAFormOrNone

@@ -1,5 +1,7 @@
--- Words have at most one form: by how many they are and what the first one names they are a case's, and what this case says is read off them.
-use Rattle.std.specs.Prelude.{◌≡◌, ℕ, ◌≤◌, ◌==◌, List, [], ◌∷◌, Option, Some, None, Result, Ok, Err, codes, decimal, if◌then◌else◌, refl}
+-- Words have at most one form: by how many they are and what the first one names they are a case's, and what this case
+-- says is read off them.
+use Rattle.std.specs.Prelude.{◌≡◌, ℕ, ◌≤◌, ◌==◌, List, [], ◌∷◌, Option, Some, None, Result, Ok, Err, codes, decimal}
+use Rattle.std.specs.Prelude.{if◌then◌else◌, refl}
 use Rattle.std.specs.Str.{bytes_eq}
 use Rattle.std.proofs.Common.{arith, sym, ap, ◌∙◌}
 use Rattle.bn_base.specs.Number.{greatest, read_number}
@@ -8,9 +10,10 @@ use Rattle.bn_machine.specs.Outcome.{Limits}
 use Rattle.bn_network.specs.Limits.{AreSmall}
 use Rattle.bn_qtable.specs.TapeWords.{TapeWord, Letters, Names, TapeWords, One, Three}
 use Rattle.bn_words.specs.Requests.{HasForm, IsAllowed, Request, word_argument, words_of}
-use Rattle.bn_words.specs.Requests.{Step, Back, Check, Machine, Trace, Moments, ThreeMoments, Reversible, Inverse, Bennett, Realise, Standard}
+use Rattle.bn_words.specs.Requests.{Step, Back, Check, Machine, Trace, Moments, ThreeMoments, Reversible, Inverse}
+use Rattle.bn_words.specs.Requests.{Bennett, Realise, Standard}
 use Rattle.bn_words.specs.Requests.{Build, Compile, Drive, Layout, Run, RunAuto}
-use Rattle.bn_words.specs.Requests.{View, Session, Plan, Migrate, Mirror, Farm, Generate, Erase, EraseRun}
+use Rattle.bn_words.specs.Requests.{View, Session, Look, Play, Plan, Migrate, Mirror, Farm, Generate, Erase, EraseRun}
 use Rattle.bn_words.proofs.Numbers.{read-whole}
 
 -- ---- what one word would say
@@ -50,7 +53,8 @@ tape_words_again u v w =
 abbrev limits : List ℕ → List ℕ → List ℕ → List ℕ → Limits
 limits a b c d = record { left = value a; right = value b; steps = value c; output = value d }
 
-limits_again : (l : Limits) → AreSmall l → limits (decimal l.left) (decimal l.right) (decimal l.steps) (decimal l.output) ≡ l
+limits_again : (l : Limits) → AreSmall l → limits (decimal l.left) (decimal l.right) (decimal l.steps)
+    (decimal l.output) ≡ l
 limits_again l small =
     let left = value_again l.left (omega (arith, small.0)) in
     let right = value_again l.right (omega (arith, small.1)) in
@@ -94,6 +98,7 @@ with_window name a l =
     if bytes_eq name (codes "compile") then Some (Compile (letters a) l)
     else if bytes_eq name (codes "layout") then Some (Layout (letters a) l)
     else if bytes_eq name (codes "build") then Some (Build (One (tape_word a)) l)
+    else if bytes_eq name (codes "play") then Some (Play (One (tape_word a)) l)
     else if bytes_eq name (codes "run") then Some (Run (letters a) l None)
     else Some (Session (letters a) l)
 
@@ -101,7 +106,15 @@ abbrev with_window_and_steps : List ℕ → List ℕ → Limits → List ℕ →
 with_window_and_steps name a l e =
     if bytes_eq name (codes "run") then Some (Run (letters a) l (Some (value e)))
     else if bytes_eq name (codes "drive") then Some (Drive (One (tape_word a)) l (value e))
+    else if bytes_eq name (codes "look") then Some (Look (One (tape_word a)) l (value e))
     else Some (View (letters a) l (value e))
+
+abbrev with_words_and_window : List ℕ → TapeWords → Limits → Option Request
+with_words_and_window name w l = if bytes_eq name (codes "build") then Some (Build w l) else Some (Play w l)
+
+abbrev with_words_and_steps : List ℕ → TapeWords → Limits → List ℕ → Option Request
+with_words_and_steps name w l e =
+    if bytes_eq name (codes "drive") then Some (Drive w l (value e)) else Some (Look w l (value e))
 
 abbrev pub only : List (List ℕ) → Option Request
 only (name ∷ []) = alone name
@@ -110,8 +123,8 @@ only (name ∷ a ∷ b ∷ []) = with_pair name a b
 only (name ∷ a ∷ b ∷ c ∷ d ∷ []) = Some (ThreeMoments (letters a) (letters b) (letters c) (value d))
 only (name ∷ a ∷ b ∷ c ∷ d ∷ e ∷ []) = with_window name a (limits b c d e)
 only (name ∷ a ∷ b ∷ c ∷ d ∷ e ∷ f ∷ []) = with_window_and_steps name a (limits b c d e) f
-only (name ∷ a ∷ b ∷ c ∷ d ∷ e ∷ f ∷ g ∷ []) = Some (Build (tape_words a b c) (limits d e f g))
-only (name ∷ a ∷ b ∷ c ∷ d ∷ e ∷ f ∷ g ∷ h ∷ []) = Some (Drive (tape_words a b c) (limits d e f g) (value h))
+only (name ∷ a ∷ b ∷ c ∷ d ∷ e ∷ f ∷ g ∷ []) = with_words_and_window name (tape_words a b c) (limits d e f g)
+only (name ∷ a ∷ b ∷ c ∷ d ∷ e ∷ f ∷ g ∷ h ∷ []) = with_words_and_steps name (tape_words a b c) (limits d e f g) h
 only _ = None
 
 -- it is that of its own words
@@ -156,6 +169,24 @@ again (View w l e) h =
     let steps = value_again e h.1 in
     λ t. Some (View w (window t) (steps t))
 again (Session w l) h = ap (λ m. Some (Session w m)) (limits_again l h)
+again (Look (One w) l e) h =
+    let word = tape_word_again w in
+    let window = limits_again l h.0 in
+    let steps = value_again e h.1 in
+    λ t. Some (Look (One (word t)) (window t) (steps t))
+again (Look (Three u v w) l e) h =
+    let words = tape_words_again u v w in
+    let window = limits_again l h.0 in
+    let steps = value_again e h.1 in
+    λ t. Some (Look (words t) (window t) (steps t))
+again (Play (One w) l) h =
+    let word = tape_word_again w in
+    let window = limits_again l h in
+    λ t. Some (Play (One (word t)) (window t))
+again (Play (Three u v w) l) h =
+    let words = tape_words_again u v w in
+    let window = limits_again l h in
+    λ t. Some (Play (words t) (window t))
 again (Generate k) h = ap (λ n. Some (Generate n)) (value_again k (omega (arith, h.few)))
 again (EraseRun w n) h = ap (λ m. Some (EraseRun w m)) (value_again n (omega (arith, h)))
 again r h = refl

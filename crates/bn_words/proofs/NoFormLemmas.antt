@@ -8,7 +8,8 @@ use Rattle.bn_base.proofs.NumberLemmas.{decimal-once}
 use Rattle.bn_gen.specs.declared.machine.TheConstants.{MOST_INCREMENTS}
 use Rattle.bn_qtable.specs.TapeWords.{One, Three}
 use Rattle.bn_words.specs.Requests.{HasForm, HasNoForm}
-use Rattle.bn_words.specs.Requests.{Step, Back, Machine, Trace, Moments, ThreeMoments, Realise, Build, Compile, Drive, Layout, Run, RunAuto, View, Session}
+use Rattle.bn_words.specs.Requests.{Step, Back, Machine, Trace, Moments, ThreeMoments, Realise, Build, Compile, Drive}
+use Rattle.bn_words.specs.Requests.{Layout, Run, RunAuto, View, Session, Look, Play}
 use Rattle.bn_words.specs.Requests.{Generate, EraseRun}
 use Rattle.bn_words.specs.Words.{AreNoDriveSteps, IsCount, IsNoCount, IsNumber}
 use Rattle.bn_words.specs.declared.request.TheConstants.{MOST_DRIVE_STEPS}
@@ -34,7 +35,8 @@ no_drive_steps word n is over m h =
     absurd (omega (arith, same, over, h.bound))
 
 -- a number of increments that is out of the limits
-pub no_increments : (name word : List ℕ) (n : ℕ) → name ≡ codes "generate" → IsNumber word n → (n < 1) ⊎ (MOST_INCREMENTS < n) →
+pub no_increments : (name word : List ℕ) (n : ℕ) → name ≡ codes "generate" → IsNumber word n
+    → (n < 1) ⊎ (MOST_INCREMENTS < n) →
     HasNoForm (name ∷ word ∷ [])
 no_increments name word n is number out (Generate k) h =
     let low : k ≤ greatest = omega (arith, h.allowed.few) in
@@ -55,11 +57,13 @@ count_once word m n a b =
     decimal-once m n few low (sym a.spelled ∙ b.spelled)
 
 -- a state or a line that is 0
-pub no_ordinals : (name first second : List ℕ) (q i : ℕ) → name ≡ codes "realise" → IsCount first q → IsCount second i → (q < 1) ⊎ (i < 1) →
+pub no_ordinals : (name first second : List ℕ) (q i : ℕ) → name ≡ codes "realise" → IsCount first q → IsCount second i
+    → (q < 1) ⊎ (i < 1) →
     HasNoForm (name ∷ first ∷ second ∷ [])
 no_ordinals name first second q i is state line out request h =
     let asked = subst (λ n. HasForm (n ∷ first ∷ second ∷ []) request) is h in
-    let one : Some (Realise (value first) (value second)) ≡ Some request = only_form (codes "realise" ∷ first ∷ second ∷ []) request asked in
+    let one : Some (Realise (value first) (value second)) ≡ Some request =
+    only_form (codes "realise" ∷ first ∷ second ∷ []) request asked in
     let request_is : request ≡ Realise (value first) (value second) = cc in
     within (value first) (value second) (subst (λ r. HasForm (name ∷ first ∷ second ∷ []) r) request_is h)
   where
@@ -69,13 +73,16 @@ no_ordinals name first second q i is state line out request h =
 
     within : (p j : ℕ) → HasForm (name ∷ first ∷ second ∷ []) (Realise p j) → ⊥
     within p j k =
-        let p_is = count_once first p q (record { spelled = let words = k.words_are in cc; bound = k.allowed.0.1 }) state in
-        let j_is = count_once second j i (record { spelled = let words = k.words_are in cc; bound = k.allowed.1.1 }) line in
+        let p_is = count_once first p q (record { spelled = let words = k.words_are in cc; bound = k.allowed.0.1 })
+        state in
+        let j_is = count_once second j i (record { spelled = let words = k.words_are in cc; bound = k.allowed.1.1 })
+        line in
         under p j p_is j_is k.allowed.0.0 k.allowed.1.0 out
 
 -- ---- the words of a slice
 
-no_length : (words : List (List ℕ)) → length words ≢ 1 → length words ≢ 2 → length words ≢ 3 → length words ≢ 5 → length words ≢ 6 → length words ≢ 7 → length words ≢ 8 →
+no_length : (words : List (List ℕ)) → length words ≢ 1 → length words ≢ 2 → length words ≢ 3 → length words ≢ 5
+    → length words ≢ 6 → length words ≢ 7 → length words ≢ 8 →
     length words ≢ 9 → HasNoForm words
 no_length words a b c k d e f g (Step n) h = b (ap length h.words_are)
 no_length words a b c k d e f g (Back n) h = b (ap length h.words_are)
@@ -95,43 +102,56 @@ no_length words a b c k d e f g (Run w l (Some n)) h = e (ap length h.words_are)
 no_length words a b c k d e f g (RunAuto w) h = c (ap length h.words_are)
 no_length words a b c k d e f g (View w l n) h = e (ap length h.words_are)
 no_length words a b c k d e f g (Session w l) h = d (ap length h.words_are)
+no_length words a b c k d e f g (Look (One w) l n) h = e (ap length h.words_are)
+no_length words a b c k d e f g (Look (Three u v w) l n) h = g (ap length h.words_are)
+no_length words a b c k d e f g (Play (One w) l) h = d (ap length h.words_are)
+no_length words a b c k d e f g (Play (Three u v w) l) h = f (ap length h.words_are)
 no_length words a b c k d e f g (Generate n) h = b (ap length h.words_are)
 no_length words a b c k d e f g (EraseRun w n) h = c (ap length h.words_are)
 no_length words a b c k d e f g r h = a (ap length h.words_are)
 
 module _ {S : Type 0} (text : S → List ℕ) where
   -- another number of words
-  pub other_length : (ws : List S) → length ws ≢ 1 → length ws ≢ 2 → length ws ≢ 3 → length ws ≢ 5 → length ws ≢ 6 → length ws ≢ 7 →
+  pub other_length : (ws : List S) → length ws ≢ 1 → length ws ≢ 2 → length ws ≢ 3 → length ws ≢ 5 → length ws ≢ 6
+      → length ws ≢ 7 →
       length ws ≢ 8 → length ws ≢ 9 → HasNoForm (map text ws)
   other_length ws a b c k d e f g =
       let all : length (map text ws) ≡ length ws = simp length-map in
-      no_length (map text ws) (λ n. a (sym all ∙ n)) (λ n. b (sym all ∙ n)) (λ n. c (sym all ∙ n)) (λ n. k (sym all ∙ n))
+      no_length (map text ws) (λ n. a (sym all ∙ n)) (λ n. b (sym all ∙ n)) (λ n. c (sym all ∙ n))
+      (λ n. k (sym all ∙ n))
       (λ n. d (sym all ∙ n)) (λ n. e (sym all ∙ n)) (λ n. f (sym all ∙ n)) (λ n. g (sym all ∙ n))
 
-  pub five_texts : (ws : List S) (a b c d e : S) → length ws ≡ 5 → a ≡ get_or ws 0 a → b ≡ get_or ws 1 b → c ≡ get_or ws 2 c →
+  pub five_texts : (ws : List S) (a b c d e : S) → length ws ≡ 5 → a ≡ get_or ws 0 a → b ≡ get_or ws 1 b
+      → c ≡ get_or ws 2 c →
       d ≡ get_or ws 3 d → e ≡ get_or ws 4 e → map text ws ≡ text a ∷ text b ∷ text c ∷ text d ∷ text e ∷ []
   five_texts (u ∷ v ∷ w ∷ x ∷ y ∷ []) a b c d e n p q r s t = cc
   five_texts ws a b c d e n p q r s t = absurd (omega (arith, n))
 
-  pub six_texts : (ws : List S) (a b c d e f : S) → length ws ≡ 6 → a ≡ get_or ws 0 a → b ≡ get_or ws 1 b → c ≡ get_or ws 2 c →
-      d ≡ get_or ws 3 d → e ≡ get_or ws 4 e → f ≡ get_or ws 5 f → map text ws ≡ text a ∷ text b ∷ text c ∷ text d ∷ text e ∷ text f ∷ []
+  pub six_texts : (ws : List S) (a b c d e f : S) → length ws ≡ 6 → a ≡ get_or ws 0 a → b ≡ get_or ws 1 b
+      → c ≡ get_or ws 2 c →
+      d ≡ get_or ws 3 d → e ≡ get_or ws 4 e → f ≡ get_or ws 5 f
+      → map text ws ≡ text a ∷ text b ∷ text c ∷ text d ∷ text e ∷ text f ∷ []
   six_texts (u ∷ v ∷ w ∷ x ∷ y ∷ z ∷ []) a b c d e f n p q r s t o = cc
   six_texts ws a b c d e f n p q r s t o = absurd (omega (arith, n))
 
-  pub seven_texts : (ws : List S) (a b c d e f g : S) → length ws ≡ 7 → a ≡ get_or ws 0 a → b ≡ get_or ws 1 b → c ≡ get_or ws 2 c →
+  pub seven_texts : (ws : List S) (a b c d e f g : S) → length ws ≡ 7 → a ≡ get_or ws 0 a → b ≡ get_or ws 1 b
+      → c ≡ get_or ws 2 c →
       d ≡ get_or ws 3 d → e ≡ get_or ws 4 e → f ≡ get_or ws 5 f → g ≡ get_or ws 6 g →
       map text ws ≡ text a ∷ text b ∷ text c ∷ text d ∷ text e ∷ text f ∷ text g ∷ []
   seven_texts (h ∷ u ∷ v ∷ w ∷ x ∷ y ∷ z ∷ []) a b c d e f g n p q r s t o i = cc
   seven_texts ws a b c d e f g n p q r s t o i = absurd (omega (arith, n))
 
-  pub eight_texts : (ws : List S) (a b c d e f g h : S) → length ws ≡ 8 → a ≡ get_or ws 0 a → b ≡ get_or ws 1 b → c ≡ get_or ws 2 c →
+  pub eight_texts : (ws : List S) (a b c d e f g h : S) → length ws ≡ 8 → a ≡ get_or ws 0 a → b ≡ get_or ws 1 b
+      → c ≡ get_or ws 2 c →
       d ≡ get_or ws 3 d → e ≡ get_or ws 4 e → f ≡ get_or ws 5 f → g ≡ get_or ws 6 g → h ≡ get_or ws 7 h →
       map text ws ≡ text a ∷ text b ∷ text c ∷ text d ∷ text e ∷ text f ∷ text g ∷ text h ∷ []
   eight_texts (j ∷ k ∷ u ∷ v ∷ w ∷ x ∷ y ∷ z ∷ []) a b c d e f g h n p q r s t o i l = cc
   eight_texts ws a b c d e f g h n p q r s t o i l = absurd (omega (arith, n))
 
-  pub nine_texts : (ws : List S) (a b c d e f g h i : S) → length ws ≡ 9 → a ≡ get_or ws 0 a → b ≡ get_or ws 1 b → c ≡ get_or ws 2 c →
-      d ≡ get_or ws 3 d → e ≡ get_or ws 4 e → f ≡ get_or ws 5 f → g ≡ get_or ws 6 g → h ≡ get_or ws 7 h → i ≡ get_or ws 8 i →
+  pub nine_texts : (ws : List S) (a b c d e f g h i : S) → length ws ≡ 9 → a ≡ get_or ws 0 a → b ≡ get_or ws 1 b
+      → c ≡ get_or ws 2 c →
+      d ≡ get_or ws 3 d → e ≡ get_or ws 4 e → f ≡ get_or ws 5 f → g ≡ get_or ws 6 g → h ≡ get_or ws 7 h
+      → i ≡ get_or ws 8 i →
       map text ws ≡ text a ∷ text b ∷ text c ∷ text d ∷ text e ∷ text f ∷ text g ∷ text h ∷ text i ∷ []
   nine_texts (j ∷ k ∷ m ∷ u ∷ v ∷ w ∷ x ∷ y ∷ z ∷ []) a b c d e f g h i n p q r s t o l aa bb = cc
   nine_texts ws a b c d e f g h i n p q r s t o l aa bb = absurd (omega (arith, n))

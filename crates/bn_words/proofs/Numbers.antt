@@ -14,10 +14,12 @@ read-whole n bound =
     ap (λ t. read_number t 0) (sym text) ∙ read ∙ ap (λ p. Ok (n, p)) place
 
 -- a word whose reading fails, or ends before its end, is no number
-pub no_number : (word : List ℕ) (r : Result (ℕ × ℕ) Digits) → r ≡ read_number word 0 → ((n : ℕ) → r ≡ Ok (n, length word) → ⊥) → IsNoNumber word
+pub no_number : (word : List ℕ) (r : Result (ℕ × ℕ) Digits) → r ≡ read_number word 0
+    → ((n : ℕ) → r ≡ Ok (n, length word) → ⊥) → IsNoNumber word
 no_number word r is never number h =
     let read = read-whole number h.bound in
-    let at_word : read_number word 0 ≡ Ok (number, length word) = subst (λ w. read_number w 0 ≡ Ok (number, length w)) (sym h.spelled) read in
+    let at_word : read_number word 0 ≡ Ok (number, length word) =
+    subst (λ w. read_number w 0 ≡ Ok (number, length w)) (sym h.spelled) read in
     never number (is ∙ at_word)
 
 -- the places behind two equal readings are equal

@@ -38,6 +38,8 @@ pub data Request : Type 0 where
   RunAuto : List ℕ → Request
   View : List ℕ → Limits → ℕ → Request
   Session : List ℕ → Limits → Request
+  Look : TapeWords → Limits → ℕ → Request
+  Play : TapeWords → Limits → Request
   Plan : Request
   Migrate : Request
   Mirror : Request
@@ -96,6 +98,8 @@ words_of (Run word l given) = codes "run" ∷ window_words word l (steps_words g
 words_of (RunAuto word) = codes "run" ∷ (61 ∷ word) ∷ codes "auto" ∷ []
 words_of (View word l e) = codes "view" ∷ window_words word l (decimal e ∷ [])
 words_of (Session word l) = codes "session" ∷ window_words word l []
+words_of (Look words l e) = codes "look" ∷ tape_arguments words (limit_words l (decimal e ∷ []))
+words_of (Play words l) = codes "play" ∷ tape_arguments words (limit_words l [])
 words_of Plan = codes "plan" ∷ []
 words_of Migrate = codes "migrate" ∷ []
 words_of Mirror = codes "mirror" ∷ []
@@ -110,8 +114,8 @@ words_of (EraseRun word n) = codes "erase" ∷ (61 ∷ word) ∷ decimal n ∷ [
 abbrev pub IsOrdinal : ℕ → Type 0
 IsOrdinal n = (1 ≤ n) × (n ≤ MOST_COUNT)
 
--- each of its numbers is within its limit: a circuit's steps are at most 2^62, those of a drive 2^61, what is counted of
--- a machine at most the greatest count, and there are from 1 to 4 increments
+-- each of its numbers is within its limit: a circuit's steps are at most 2^62, those of a drive 2^61, what is counted
+-- of a machine at most the greatest count, and there are from 1 to 4 increments
 abbrev pub IsAllowed : Request → Type 0
 IsAllowed (Step e) = e ≤ greatest
 IsAllowed (Back e) = e ≤ greatest
@@ -127,6 +131,8 @@ IsAllowed (Drive words l e) = AreSmall l × (e ≤ MOST_DRIVE_STEPS)
 IsAllowed (Run word l given) = AreSmall l × IfSome given (λ e. e ≤ greatest)
 IsAllowed (View word l e) = AreSmall l × (e ≤ greatest)
 IsAllowed (Session word l) = AreSmall l
+IsAllowed (Look words l e) = AreSmall l × (e ≤ greatest)
+IsAllowed (Play words l) = AreSmall l
 IsAllowed (Generate k) = IsRoundCount k
 IsAllowed (EraseRun word n) = n ≤ MOST_COUNT
 IsAllowed _ = Unit {0}
@@ -174,6 +180,8 @@ of_whole (whole.Run word window given) = Run word.now (limits_of window) given
 of_whole (whole.RunAuto word) = RunAuto word.now
 of_whole (whole.View word window e) = View word.now (limits_of window) e
 of_whole (whole.Session word window) = Session word.now (limits_of window)
+of_whole (whole.Look words window e) = Look (tape_words_of words) (limits_of window) e
+of_whole (whole.Play words window) = Play (tape_words_of words) (limits_of window)
 of_whole whole.Farm = Farm
 of_whole whole.Erase = Erase
 of_whole (whole.EraseRun word n) = EraseRun word.now n

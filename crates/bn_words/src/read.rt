@@ -208,6 +208,7 @@ fn read_window<'a>(
 {
     match name {
         "build" => read_build(word, left, right, steps, output),
+        "play" => read_play(word, left, right, steps, output),
         _ => read_letters_and_window(name, word, left, right, steps, output),
     }
 }
@@ -227,6 +228,21 @@ fn read_build<'a>(
     Some(Request::OnWhole(WholeRequest::Build { words, window }))
 }
 
+// The form of `play` with a word on tape 1.
+fn read_play<'a>(
+    word: &'a str,
+    left: &str,
+    right: &str,
+    steps: &str,
+    output: &str,
+) -> Option<Request<'a>>
+    ensures { AreRead (codes "play" ∷ word.now ∷ left.now ∷ right.now ∷ steps.now ∷ output.now ∷ []) result }
+{
+    let words = TapeWords::One(tape_word(word)?);
+    let window = window_of(left, right, steps, output)?;
+    Some(Request::OnWhole(WholeRequest::Play { words, window }))
+}
+
 // The forms of a name, letters and a window.
 fn read_letters_and_window<'a>(
     name: &str,
@@ -236,7 +252,8 @@ fn read_letters_and_window<'a>(
     steps: &str,
     output: &str,
 ) -> Option<Request<'a>>
-    requires other { name.now ≢ codes "build" }
+    requires build { name.now ≢ codes "build" }
+    requires play { name.now ≢ codes "play" }
     ensures { AreRead (name.now ∷ word.now ∷ left.now ∷ right.now ∷ steps.now ∷ output.now ∷ []) result }
 {
     let word = letters_of(word)?;
@@ -269,6 +286,7 @@ fn read_window_and_steps<'a>(
 {
     match name {
         "drive" => read_drive(word, left, right, steps, output, most_steps),
+        "look" => read_look(word, left, right, steps, output, most_steps),
         _ => read_letters_window_and_steps(name, word, left, right, steps, output, most_steps),
     }
 }
@@ -295,6 +313,28 @@ fn read_drive<'a>(
     }))
 }
 
+// The form of `look` with a word on tape 1.
+fn read_look<'a>(
+    word: &'a str,
+    left: &str,
+    right: &str,
+    steps: &str,
+    output: &str,
+    most_steps: &str,
+) -> Option<Request<'a>>
+    ensures { AreRead (codes "look" ∷ word.now ∷ left.now ∷ right.now ∷ steps.now ∷ output.now ∷ most_steps.now ∷ [])
+        result }
+{
+    let words = TapeWords::One(tape_word(word)?);
+    let window = window_of(left, right, steps, output)?;
+    let most_steps = number_of(most_steps)?;
+    Some(Request::OnWhole(WholeRequest::Look {
+        words,
+        window,
+        most_steps,
+    }))
+}
+
 // The forms of a name, letters, a window and a number.
 fn read_letters_window_and_steps<'a>(
     name: &str,
@@ -305,7 +345,8 @@ fn read_letters_window_and_steps<'a>(
     output: &str,
     most_steps: &str,
 ) -> Option<Request<'a>>
-    requires other { name.now ≢ codes "drive" }
+    requires drive { name.now ≢ codes "drive" }
+    requires look { name.now ≢ codes "look" }
     ensures { AreRead (name.now ∷ word.now ∷ left.now ∷ right.now ∷ steps.now ∷ output.now ∷ most_steps.now ∷ [])
         result }
 {
@@ -345,6 +386,7 @@ fn read_three_and_window<'a>(
     let window = window_of(left, right, steps, output)?;
     match name {
         "build" => Some(Request::OnWhole(WholeRequest::Build { words, window })),
+        "play" => Some(Request::OnWhole(WholeRequest::Play { words, window })),
         _ => None,
     }
 }
@@ -366,12 +408,16 @@ fn read_three_window_and_steps<'a>(
 {
     let words = TapeWords::Three(tape_word(first)?, tape_word(second)?, tape_word(third)?);
     let window = window_of(left, right, steps, output)?;
-    let most_steps = drive_steps_of(most_steps)?;
     match name {
         "drive" => Some(Request::OnWhole(WholeRequest::Drive {
             words,
             window,
-            most_steps,
+            most_steps: drive_steps_of(most_steps)?,
+        })),
+        "look" => Some(Request::OnWhole(WholeRequest::Look {
+            words,
+            window,
+            most_steps: number_of(most_steps)?,
         })),
         _ => None,
     }

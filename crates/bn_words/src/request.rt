@@ -112,9 +112,9 @@ pub enum WholeRequest<'a> {
         /// The window.
         window: Windows,
     },
-    /// `build W l1 r1 r2 r3` and `build W1 W2 W3 l1 r1 r2 r3`: the text of the board of a uniform machine of quadruples in
-    /// a window, with a word on tape 1 or one on each tape. A word is letters behind the byte `=`, or names of symbols
-    /// with commas between behind the byte `:`.
+    /// `build W l1 r1 r2 r3` and `build W1 W2 W3 l1 r1 r2 r3`: the text of the board of a uniform machine of quadruples
+    /// in a window, with a word on tape 1 or one on each tape. A word is letters behind the byte `=`, or names of
+    /// symbols with commas between behind the byte `:`.
     Build {
         /// The words on the tapes.
         words: TapeWords<'a>,
@@ -157,6 +157,23 @@ pub enum WholeRequest<'a> {
     Session {
         /// The letters of the word.
         word: &'a [u8],
+        /// The window.
+        window: Windows,
+    },
+    /// `look` with the words of `drive`: every layer of the board of a uniform machine of quadruples after at most E
+    /// steps.
+    Look {
+        /// The words on the tapes.
+        words: TapeWords<'a>,
+        /// The window.
+        window: Windows,
+        /// The greatest number of steps.
+        most_steps: u64,
+    },
+    /// `play` with the words of `build`: a script, behind the table and a line `%`, played on that board.
+    Play {
+        /// The words on the tapes.
+        words: TapeWords<'a>,
         /// The window.
         window: Windows,
     },

@@ -8,4 +8,5 @@ pub returns : goal.returns
 returns c names numbering =
     let same = c.machine-machine.ensures.value in
     let count = c.state_count.ensures names (subst (λ m. IsNumbering m names) (sym same) numbering) in
-    c.count_elements.ensures ∙ ap (elements_by c.machine-machine.result.now (limits_of c.args.windows.now)) count ∙ ap (λ m. elements_by m (limits_of c.args.windows.now) (length names)) same
+    c.count_elements.ensures ∙ ap (elements_by c.machine-machine.result.now (limits_of c.args.windows.now)) count
+    ∙ ap (λ m. elements_by m (limits_of c.args.windows.now) (length names)) same

@@ -24,9 +24,12 @@ new-requires-clause-faultless c =
     let l = limits_of c.args.windows.now in
     let tables = tables_are m l c.args.control c.in_ok-modules.modules.items c.in_ok-modules.ensures in
     let is = c.requires.control.1 in
-    subst (λ (ws : List Wire). AreFaultless (map module_table c.in_ok-modules.modules.items) ws) (sym (c.as_slice.ensures.value ∙ c.in_ok-wires.ensures))
+    subst (λ (ws : List Wire). AreFaultless (map module_table c.in_ok-modules.modules.items) ws)
+    (sym (c.as_slice.ensures.value ∙ c.in_ok-wires.ensures))
     (subst (λ (ts : List Table). AreFaultless ts (network_wires m l)) (sym tables)
-    (wires-faultless (module_tables m l (machine_table c.args.control.machine)) (IsNetWire m l) (network_wires m l) (network_wires-are m l c.requires.valid.tapes) (wired m l c.requires.valid.tapes c.requires.control.0 (machine_table c.args.control.machine) is.table)))
+    (wires-faultless (module_tables m l (machine_table c.args.control.machine)) (IsNetWire m l) (network_wires m l)
+    (network_wires-are m l c.requires.valid.tapes) (wired m l c.requires.valid.tapes c.requires.control.0
+    (machine_table c.args.control.machine) is.table)))
 
 pub of-requires : goal.of-requires
 of-requires c =

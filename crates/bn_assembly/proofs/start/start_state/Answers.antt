@@ -6,10 +6,13 @@ pub returns-then-cell-left : goal.returns-then-cell-left
 returns-then-cell-left c = sym (left_state c.args.symbols c.args.left c.args.cell c.args.word.now c.if-cell-left.true)
 
 pub returns-then-cell-left-2 : goal.returns-then-cell-left-2
-returns-then-cell-left-2 c = sym (head_state c.args.symbols c.args.left c.args.cell c.args.word.now c.if-cell-left-2.true)
+returns-then-cell-left-2 c = sym (head_state c.args.symbols c.args.left c.args.cell c.args.word.now
+    c.if-cell-left-2.true)
 
 pub returns-then-letter-word : goal.returns-then-letter-word
-returns-then-letter-word c = sym (right_state c.args.symbols c.args.left c.args.cell c.args.word.now c.if-cell-left.false c.if-cell-left-2.false)
+returns-then-letter-word c = sym (right_state c.args.symbols c.args.left c.args.cell c.args.word.now
+    c.if-cell-left.false c.if-cell-left-2.false)
 
 pub returns-else-letter-word : goal.returns-else-letter-word
-returns-else-letter-word c = sym (blank_state c.args.symbols c.args.left c.args.cell c.args.word.now c.if-cell-left.false c.if-cell-left-2.false c.if-letter-word.false)
+returns-else-letter-word c = sym (blank_state c.args.symbols c.args.left c.args.cell c.args.word.now
+    c.if-cell-left.false c.if-cell-left-2.false c.if-letter-word.false)

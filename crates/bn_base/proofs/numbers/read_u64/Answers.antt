@@ -1,4 +1,5 @@
-use Rattle.bn_base.proofs.NumberLemmas.{reading-value, reading-bound, reading-behind, reading-spelled, read_number-no_digit, read_number-leading_zero, read_number-too_large}
+use Rattle.bn_base.proofs.NumberLemmas.{reading-value, reading-bound, reading-behind, reading-spelled}
+use Rattle.bn_base.proofs.NumberLemmas.{read_number-no_digit, read_number-leading_zero, read_number-too_large}
 use Rattle.bn_base.proofs.numbers.read_u64.Goals as goal
 
 pub returns-clause-value : goal.returns-clause-value

@@ -15,8 +15,14 @@ number_of-requires c =
 pub number_of-requires-2 : goal.number_of-requires-2
 number_of-requires-2 c =
     let d = c.args.draft.now in
-    let after : c.number_of.new.names.keys ≡ with_name d.names.keys (made c.args.quad.now).from = c.in_ok-state.ensures.names in
-    rw after (omega (arith, few_names d.names.keys d.quads.items c.requires.draft, length-with_name d.names.keys (made c.args.quad.now).from))
+    let after : c.number_of.new.names.keys ≡ with_name d.names.keys (made c.args.quad.now).from =
+    c.in_ok-state.ensures.names in
+    rw after (omega (
+      arith,
+      few_names d.names.keys d.quads.items c.requires.draft,
+      length-with_name d.names.keys
+          (made c.args.quad.now).from,
+    ))
 
 pub returns : goal.returns
 returns c =
@@ -29,8 +35,12 @@ returns c =
       state_is = c.in_ok-state.ensures.number;
       next_is = c.in_ok-next.ensures.number;
     } in
-    let pushed : c.push.new.self.items ≡ d.quads.items ++ quad_of (numbered_quad c.in_ok-state.state r c.in_ok-next.next) ∷ [] = c.in_ok-push.ensures.items ∙ ap (λ (q : Quad). d.quads.items ++ q ∷ []) c.numbered.ensures in
+    let pushed : c.push.new.self.items ≡ d.quads.items ++ quad_of
+    (numbered_quad c.in_ok-state.state r c.in_ok-next.next) ∷ [] = c.in_ok-push.ensures.items
+    ∙ ap (λ (q : Quad). d.quads.items ++ q ∷ []) c.numbered.ensures in
     record {
-      draft = rw pushed (are_drafted_more d.names.keys d.quads.items r c.in_ok-state.state c.in_ok-next.next c.number_of.new.names.keys names c.requires.draft adds);
-      drafted = rw pushed (drafted_more d.names.keys d.quads.items r c.in_ok-state.state c.in_ok-next.next c.number_of.new.names.keys names c.requires.draft adds);
+      draft = rw pushed (are_drafted_more d.names.keys d.quads.items r c.in_ok-state.state c.in_ok-next.next
+          c.number_of.new.names.keys names c.requires.draft adds);
+      drafted = rw pushed (drafted_more d.names.keys d.quads.items r c.in_ok-state.state c.in_ok-next.next
+          c.number_of.new.names.keys names c.requires.draft adds);
     }

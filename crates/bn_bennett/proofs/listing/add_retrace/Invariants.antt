@@ -5,4 +5,5 @@ use Rattle.bn_bennett.specs.Draft.{Grows}
 use Rattle.bn_bennett.proofs.listing.add_retrace.Given as goal
 
 abbrev pub invariant-loop-index : goal.invariant-loop-index
-invariant-loop-index l = Grows l.initial.draft (flat_map retrace_pair (reverse (drop l.index (numbered_quints l.quints)))) l.draft
+invariant-loop-index l = Grows l.initial.draft (flat_map retrace_pair
+    (reverse (drop l.index (numbered_quints l.quints)))) l.draft

@@ -3,7 +3,8 @@ use Rattle.std.proofs.Common.{◌≡◌, ◌+◌, ◌∙◌, ℕ, arith, length,
 use Rattle.std.specs.Prelude.{Contains}
 use Rattle.bn_quad.specs.Names.{symbols_on}
 use Rattle.bn_bennett.specs.Printed.{number_names, on_tape}
-use Rattle.bn_bennett.proofs.Texts.{length-number_names, number_new, numbers_more, symbol_new, symbols_before, symbols_more}
+use Rattle.bn_bennett.proofs.Texts.{length-number_names, number_new, numbers_more, symbol_new, symbols_before}
+use Rattle.bn_bennett.proofs.Texts.{symbols_more}
 use Rattle.bn_bennett.proofs.naming.add_history_symbols.Goals as goal
 
 pub add_symbol-requires-in-loop-index-clause-new :
@@ -12,19 +13,23 @@ add_symbol-requires-in-loop-index-clause-new c =
     let i = c.loop-index.index in
     let text : c.as_slice.result.now ≡ decimal (i + 1) = c.as_slice.ensures.value ∙ c.in_ok-text.ensures in
     let P : List ℕ → Type 0 = λ t. Contains (number_names i) t in
-    symbol_new c.args.names.now 2 (omega arith) c.loop-index.names c.loop-index.names (number_names i) c.as_slice.result.now c.loop-index.invariant (λ there. number_new i (omega arith) (subst P text there))
+    symbol_new c.args.names.now 2 (omega arith) c.loop-index.names c.loop-index.names (number_names i)
+    c.as_slice.result.now c.loop-index.invariant (λ there. number_new i (omega arith) (subst P text there))
 
 pub add_symbol-requires-in-loop-index-clause-room :
     goal.add_symbol-requires-in-loop-index-clause-room
 add_symbol-requires-in-loop-index-clause-room c =
     let i = c.loop-index.index in
-    let long : length (symbols_on c.loop-index.names 2) ≡ i + 1 = ap length (symbols_before c.args.names.now 2 (omega arith) c.loop-index.names c.loop-index.names (number_names i) c.as_slice.result.now c.loop-index.invariant) ∙ length-number_names i in
+    let long : length (symbols_on c.loop-index.names 2) ≡ i + 1 =
+    ap length (symbols_before c.args.names.now 2 (omega arith) c.loop-index.names c.loop-index.names
+    (number_names i) c.as_slice.result.now c.loop-index.invariant) ∙ length-number_names i in
     omega arith
 
 pub loop-index-preserved : goal.loop-index-preserved
 loop-index-preserved c =
     let i = c.loop-index.index in
     let text : c.as_slice.result.now ≡ decimal (i + 1) = c.as_slice.ensures.value ∙ c.in_ok-text.ensures in
-    symbols_more c.args.names.now 2 (omega arith) c.loop-index.names c.add_symbol-in-loop-index.new.self (number_names i) c.as_slice.result.now c.loop-index.invariant c.in_ok-add_symbol-2.ensures.ok
+    symbols_more c.args.names.now 2 (omega arith) c.loop-index.names c.add_symbol-in-loop-index.new.self
+    (number_names i) c.as_slice.result.now c.loop-index.invariant c.in_ok-add_symbol-2.ensures.ok
     ∙ ap (λ t. on_tape c.args.names.now 2 (number_names i ++ t ∷ [])) text
     ∙ ap (on_tape c.args.names.now 2) (numbers_more i)

@@ -13,10 +13,13 @@ pub add_states-requires-clause-printable : goal.add_states-requires-clause-print
 add_states-requires-clause-printable c =
     let P : List Name → Type 0 = ArePrintable in
     subst P (sym c.names.ensures.value)
-    (printable c.args.table.now.machine c.args.translated.now (subst IsMachine c.machine.ensures.value c.quints.ensures.valid) c.machine.ensures.fits list_has_names list_counts_names c.requires)
+    (printable c.args.table.now.machine c.args.translated.now (subst IsMachine c.machine.ensures.value
+    c.quints.ensures.valid) c.machine.ensures.fits list_has_names list_counts_names c.requires)
 
 pub add_letters-requires-clause-letters : goal.add_letters-requires-clause-letters
-add_letters-requires-clause-letters c = table_letters c.args.table.now c.letters.ensures.valid c.letters.result.now c.letters.ensures.value
+add_letters-requires-clause-letters c = table_letters c.args.table.now c.letters.ensures.valid c.letters.result.now
+    c.letters.ensures.value
 
 pub add_letters-requires-2-clause-letters : goal.add_letters-requires-2-clause-letters
-add_letters-requires-2-clause-letters c = table_letters c.args.table.now c.letters-2.ensures.valid c.letters-2.result.now c.letters-2.ensures.value
+add_letters-requires-2-clause-letters c = table_letters c.args.table.now c.letters-2.ensures.valid
+    c.letters-2.result.now c.letters-2.ensures.value

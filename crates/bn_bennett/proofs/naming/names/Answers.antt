@@ -13,13 +13,19 @@ returns-clause-forms c =
     let t = c.args.table.now in
     let s = c.args.translated.now in
     let P : Naming → Type 0 = HasNames s.machine in
-    let named : HasNames s.machine (translation_names t s) = c.translations_have_names.ensures t s (subst IsMachine c.machine.ensures.value c.quints-quints.ensures.valid) c.machine.ensures.valid c.machine.ensures.fits c.requires in
-    IfOk-weaker c.all_names.result (λ (n : Naming). n ≡ translation_names t s) P (λ n e. subst P (sym e) named) c.all_names.ensures
+    let named : HasNames s.machine (translation_names t s) = c.translations_have_names.ensures t s
+    (subst IsMachine c.machine.ensures.value c.quints-quints.ensures.valid) c.machine.ensures.valid
+    c.machine.ensures.fits c.requires in
+    IfOk-weaker c.all_names.result (λ (n : Naming). n ≡ translation_names t s) P (λ n e. subst P (sym e) named)
+    c.all_names.ensures
 
 pub returns-clause-table : goal.returns-clause-table
 returns-clause-table c =
     let t = c.args.table.now in
     let s = c.args.translated.now in
     let P : Naming → Type 0 = λ n. IsTable (table_of s.machine n) in
-    let written : IsTable (table_of s.machine (translation_names t s)) = c.translations_are_tables.ensures t s (subst IsMachine c.machine.ensures.value c.quints-quints.ensures.valid) c.machine.ensures.valid c.machine.ensures.fits c.requires in
-    IfOk-weaker c.all_names.result (λ (n : Naming). n ≡ translation_names t s) P (λ n e. subst P (sym e) written) c.all_names.ensures
+    let written : IsTable (table_of s.machine (translation_names t s)) =
+    c.translations_are_tables.ensures t s (subst IsMachine c.machine.ensures.value c.quints-quints.ensures.valid)
+    c.machine.ensures.valid c.machine.ensures.fits c.requires in
+    IfOk-weaker c.all_names.result (λ (n : Naming). n ≡ translation_names t s) P (λ n e. subst P (sym e) written)
+    c.all_names.ensures

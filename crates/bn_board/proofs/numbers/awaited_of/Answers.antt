@@ -6,8 +6,10 @@ use Rattle.bn_board.proofs.numbers.awaited_of.Goals as goal
 
 pub loop-state-preserved : goal.loop-state-preserved
 loop-state-preserved c = record {
-  so_far = copy_more c.args.control.now.awaited c.loop-state.awaited.items c.push.new.self.items c.loop-state.state c.awaited.result
+  so_far = copy_more c.args.control.now.awaited c.loop-state.awaited.items c.push.new.self.items c.loop-state.state
+      c.awaited.result
       c.loop-state.invariant.so_far c.awaited.ensures.kept c.in_ok-push.ensures.items;
-  tapes = subst (All IsTapeAwaited) (sym c.in_ok-push.ensures.items) (All-push IsTapeAwaited c.loop-state.awaited.items c.awaited.result
+  tapes = subst (All IsTapeAwaited) (sym c.in_ok-push.ensures.items)
+      (All-push IsTapeAwaited c.loop-state.awaited.items c.awaited.result
       c.loop-state.invariant.tapes c.awaited.ensures.tape);
 }

@@ -5,8 +5,10 @@ use Rattle.bn_board.proofs.wiring.board_draft.Goals as goal
 
 pub loop-number-init : goal.loop-number-init
 loop-number-init c = record {
-  drawn = all_banks_drawn c.args.net.now c.args.bases.now MOST_ELEMENTS c.requires.modules c.requires.few c.requires.bases _ c.in_ok-draft.draft refl c.in_ok-draft.ensures;
+  drawn = all_banks_drawn c.args.net.now c.args.bases.now MOST_ELEMENTS c.requires.modules c.requires.few
+      c.requires.bases _ c.in_ok-draft.draft refl c.in_ok-draft.ensures;
 }
 
 pub returns : goal.returns
-returns c = board_drawn c.args.net.now c.args.bases.now MOST_ELEMENTS c.requires.modules c.requires.few c.requires.bases c.loop-number.number c.loop-number.draft (search rules) c.loop-number.invariant.drawn
+returns c = board_drawn c.args.net.now c.args.bases.now MOST_ELEMENTS c.requires.modules c.requires.few c.requires.bases
+    c.loop-number.number c.loop-number.draft (search rules) c.loop-number.invariant.drawn

@@ -16,5 +16,6 @@ new-requires c =
 pub returns : goal.returns
 returns c =
     let moves = c.in_ok-moves.moves.items in
-    IfOk-weaker c.new.result (λ m. IsMadeOf m (2 * c.args.symbols) (2 * c.args.symbols + 8) moves) (IsCellOf c.args.symbols)
+    IfOk-weaker c.new.result (λ m. IsMadeOf m (2 * c.args.symbols) (2 * c.args.symbols + 8) moves)
+    (IsCellOf c.args.symbols)
     (is_cell c.args.symbols c.requires moves c.in_ok-moves.ensures) c.new.ensures.made

@@ -4,5 +4,7 @@ use Rattle.bn_control.proofs.count.new_reads.Goals as goal
 
 pub returns-clause-new : goal.returns-clause-new
 returns-clause-new c =
-    reads_at c.args.quads.now c.args.index c.args.quad.now c.new_read.result c.new_read-2.result c.new_read-3.result (listed c.symbols.result) (listed c.symbols-2.result) (listed c.symbols-3.result)
-    c.symbols.ensures c.symbols-2.ensures c.symbols-3.ensures c.new_read.ensures.new c.new_read-2.ensures.new c.new_read-3.ensures.new
+    reads_at c.args.quads.now c.args.index c.args.quad.now c.new_read.result c.new_read-2.result c.new_read-3.result
+    (listed c.symbols.result) (listed c.symbols-2.result) (listed c.symbols-3.result)
+    c.symbols.ensures c.symbols-2.ensures c.symbols-3.ensures c.new_read.ensures.new c.new_read-2.ensures.new
+    c.new_read-3.ensures.new

@@ -4,4 +4,5 @@ use Rattle.bn_control.proofs.ShownLemmas.{shifts_at}
 use Rattle.bn_control.proofs.count.shift_count.Goals as goal
 
 pub returns-clause-shifts : goal.returns-clause-shifts
-returns-clause-shifts c n = shifts_at n c.args.quad.now (Write 0) c.shifts_in.result c.shifts_in-2.result c.shifts_in-3.result (search rules) c.shifts_in.ensures c.shifts_in-2.ensures c.shifts_in-3.ensures
+returns-clause-shifts c n = shifts_at n c.args.quad.now (Write 0) c.shifts_in.result c.shifts_in-2.result
+    c.shifts_in-3.result (search rules) c.shifts_in.ensures c.shifts_in-2.ensures c.shifts_in-3.ensures

@@ -8,14 +8,18 @@ pub new-requires : goal.new-requires
 new-requires c =
     let m = c.machine-machine.result.now in
     let limits = subst IsWithinLimits (sym c.machine-machine.ensures.value) c.requires in
-    parts_kept m limits c.in_ok-draft.draft c.in_ok-draft.ensures c.in_ok-rsm.rsm (c.in_ok-rsm.ensures m c.in_ok-draft.ensures)
-    c.in_ok-firsts.firsts.items (c.in_ok-firsts.ensures m c.in_ok-draft.ensures) c.in_ok-awaited.awaited.items (c.in_ok-awaited.ensures.awaited m c.in_ok-draft.ensures) c.in_ok-awaited.ensures.tapes
+    parts_kept m limits c.in_ok-draft.draft c.in_ok-draft.ensures c.in_ok-rsm.rsm
+    (c.in_ok-rsm.ensures m c.in_ok-draft.ensures)
+    c.in_ok-firsts.firsts.items (c.in_ok-firsts.ensures m c.in_ok-draft.ensures) c.in_ok-awaited.awaited.items
+    (c.in_ok-awaited.ensures.awaited m c.in_ok-draft.ensures) c.in_ok-awaited.ensures.tapes
 
 pub returns : goal.returns
 returns c =
     let m = c.machine-machine.result.now in
     let limits = subst IsWithinLimits (sym c.machine-machine.ensures.value) c.requires in
     subst (λ n. (names : List ControlState) × IsControlOf n names c.new.result) c.machine-machine.ensures.value
-    (parts_make m limits c.in_ok-draft.draft c.in_ok-draft.ensures c.in_ok-rsm.rsm (c.in_ok-rsm.ensures m c.in_ok-draft.ensures)
-    c.in_ok-firsts.firsts.items (c.in_ok-firsts.ensures m c.in_ok-draft.ensures) c.in_ok-awaited.awaited.items (c.in_ok-awaited.ensures.awaited m c.in_ok-draft.ensures) c.in_ok-awaited.ensures.tapes
+    (parts_make m limits c.in_ok-draft.draft c.in_ok-draft.ensures c.in_ok-rsm.rsm
+    (c.in_ok-rsm.ensures m c.in_ok-draft.ensures)
+    c.in_ok-firsts.firsts.items (c.in_ok-firsts.ensures m c.in_ok-draft.ensures) c.in_ok-awaited.awaited.items
+    (c.in_ok-awaited.ensures.awaited m c.in_ok-draft.ensures) c.in_ok-awaited.ensures.tapes
     c.new.result c.new.ensures)

@@ -21,24 +21,39 @@ bounds-entries-initial_state c =
 
 pub loop-index-init : goal.loop-index-init
 loop-index-init c = record {
-  moves = move_first c.args.machine.now c.quads-quads.ensures.valid c.args.entries.now c.requires.entries c.requires.uniform c.initial_state.result nothing c.push.new.self.items c.initial_state.ensures (c.in_ok-push.ensures.items ∙ ap (λ (l : List NamedMove). l ++ (record { state = Begin; line = Outside; to = get_or c.args.entries.now c.initial_state.result nothing }) ∷ []) c.new-moves.ensures.items);
+  moves = move_first c.args.machine.now c.quads-quads.ensures.valid c.args.entries.now c.requires.entries
+      c.requires.uniform c.initial_state.result nothing c.push.new.self.items c.initial_state.ensures
+      (c.in_ok-push.ensures.items ∙ ap (λ (l : List NamedMove). l
+      ++ (record { state = Begin; line = Outside; to = get_or c.args.entries.now c.initial_state.result nothing }) ∷ [])
+      c.new-moves.ensures.items);
   few = search rules;
 }
 
 pub bounds-entries-quad : goal.bounds-entries-quad
 bounds-entries-quad c =
-    next_low c.args.machine.now c.quads-quads.ensures.valid c.args.entries.now c.requires.entries c.requires.uniform c.quads-quads.result.now c.quads-quads.ensures.value c.loop-index.index _ c.loop-index-test.true
+    next_low c.args.machine.now c.quads-quads.ensures.valid c.args.entries.now c.requires.entries c.requires.uniform
+    c.quads-quads.result.now c.quads-quads.ensures.value c.loop-index.index _ c.loop-index-test.true
 
 pub loop-index-preserved : goal.loop-index-preserved
 loop-index-preserved c =
-    let value = c.in_ok-push_moves.ensures ∙ ap (λ l. c.loop-index.moves.items ++ moves_by (get_or c.args.entries.now (get_or c.quads-quads.result.now c.loop-index.index (record { state = 0; read = []; act = []; next = 0 })).next nothing) l) c.as_slice.ensures.value in
+    let value = c.in_ok-push_moves.ensures ∙ ap (λ l. c.loop-index.moves.items
+    ++ moves_by (get_or c.args.entries.now (get_or c.quads-quads.result.now c.loop-index.index
+    (record { state = 0; read = []; act = []; next = 0 })).next nothing) l) c.as_slice.ensures.value in
     record {
-      moves = moves_more c.args.machine.now c.quads-quads.ensures.valid c.args.entries.now c.requires.entries c.requires.uniform c.quads-quads.result.now c.quads-quads.ensures.value c.loop-index.index _ c.loop-index-test.true c.in_ok-commands.commands.items c.in_ok-commands.ensures nothing c.loop-index.moves.items c.push_moves.new.moves.items value c.loop-index.invariant.moves;
-      few = moves_few c.args.machine.now c.quads-quads.ensures.valid c.args.entries.now c.requires.entries c.requires.uniform c.quads-quads.result.now c.quads-quads.ensures.value c.loop-index.index _ c.loop-index-test.true c.in_ok-commands.commands.items c.in_ok-commands.ensures nothing c.loop-index.moves.items c.push_moves.new.moves.items value c.loop-index.invariant.few;
+      moves = moves_more c.args.machine.now c.quads-quads.ensures.valid c.args.entries.now c.requires.entries
+          c.requires.uniform c.quads-quads.result.now c.quads-quads.ensures.value c.loop-index.index _
+          c.loop-index-test.true c.in_ok-commands.commands.items c.in_ok-commands.ensures nothing
+          c.loop-index.moves.items c.push_moves.new.moves.items value c.loop-index.invariant.moves;
+      few = moves_few c.args.machine.now c.quads-quads.ensures.valid c.args.entries.now c.requires.entries
+          c.requires.uniform c.quads-quads.result.now c.quads-quads.ensures.value c.loop-index.index _
+          c.loop-index-test.true c.in_ok-commands.commands.items c.in_ok-commands.ensures nothing
+          c.loop-index.moves.items c.push_moves.new.moves.items value c.loop-index.invariant.few;
     }
 
 pub returns-clause-moves : goal.returns-clause-moves
 returns-clause-moves c =
-    let count : length c.quads-quads.result.now ≡ length c.args.machine.now.rules = ap length c.quads-quads.ensures.value ∙ length-map c.args.machine.now.rules quad_of in
+    let count : length c.quads-quads.result.now ≡ length c.args.machine.now.rules =
+    ap length c.quads-quads.ensures.value ∙ length-map c.args.machine.now.rules quad_of in
     let past = c.loop-index-test.false in
-    all_moves c.args.machine.now c.requires.uniform c.loop-index.index c.loop-index.moves.items (omega arith) c.loop-index.invariant.moves
+    all_moves c.args.machine.now c.requires.uniform c.loop-index.index c.loop-index.moves.items (omega arith)
+    c.loop-index.invariant.moves

@@ -14,27 +14,38 @@ nothing = record { state = Begin; line = Outside; to = record { state = Begin; l
 
 pub number_of-requires-clause-known : goal.number_of-requires-clause-known
 number_of-requires-clause-known c =
-    (c.requires.known c.loop-step.step-index (get_or c.args.moves.now c.loop-step.step-index nothing) (slice_get-get_or c.args.moves.now c.loop-step.step-index nothing c.loop-step-test.true)).state
+    (c.requires.known c.loop-step.step-index (get_or c.args.moves.now c.loop-step.step-index nothing)
+    (slice_get-get_or c.args.moves.now c.loop-step.step-index nothing c.loop-step-test.true)).state
 
 pub in_number-requires-clause-within : goal.in_number-requires-clause-within
 in_number-requires-clause-within c =
-    (c.requires.known c.loop-step.step-index (get_or c.args.moves.now c.loop-step.step-index nothing) (slice_get-get_or c.args.moves.now c.loop-step.step-index nothing c.loop-step-test.true)).line
+    (c.requires.known c.loop-step.step-index (get_or c.args.moves.now c.loop-step.step-index nothing)
+    (slice_get-get_or c.args.moves.now c.loop-step.step-index nothing c.loop-step-test.true)).line
 
 pub number_of-requires-in-loop-step-clause-known : goal.number_of-requires-in-loop-step-clause-known
 number_of-requires-in-loop-step-clause-known c =
-    (c.requires.known c.loop-step.step-index (get_or c.args.moves.now c.loop-step.step-index nothing) (slice_get-get_or c.args.moves.now c.loop-step.step-index nothing c.loop-step-test.true)).next
+    (c.requires.known c.loop-step.step-index (get_or c.args.moves.now c.loop-step.step-index nothing)
+    (slice_get-get_or c.args.moves.now c.loop-step.step-index nothing c.loop-step-test.true)).next
 
 pub out_number-requires-clause-within : goal.out_number-requires-clause-within
 out_number-requires-clause-within c =
-    (c.requires.known c.loop-step.step-index (get_or c.args.moves.now c.loop-step.step-index nothing) (slice_get-get_or c.args.moves.now c.loop-step.step-index nothing c.loop-step-test.true)).out
+    (c.requires.known c.loop-step.step-index (get_or c.args.moves.now c.loop-step.step-index nothing)
+    (slice_get-get_or c.args.moves.now c.loop-step.step-index nothing c.loop-step-test.true)).out
 
 pub loop-step-preserved : goal.loop-step-preserved
 loop-step-preserved c =
     let few = c.loop-step.invariant.few in
     let more = c.in_ok-push.ensures.len in
     record {
-      numbers = λ m is. next_numbered m c.args.states.now c.args.moves.now c.loop-step.step-index nothing c.loop-step.numbered.items c.push.new.self.items _ c.loop-step-test.true c.in_ok-push.ensures.items (c.loop-step.invariant.numbers m is)
-          (record { state = c.number_of.ensures; line = c.in_number.ensures m is; next = c.number_of-in-loop-step.ensures; out = c.out_number.ensures m is });
+      numbers = λ m is. next_numbered m c.args.states.now c.args.moves.now c.loop-step.step-index nothing
+          c.loop-step.numbered.items c.push.new.self.items _ c.loop-step-test.true c.in_ok-push.ensures.items
+          (c.loop-step.invariant.numbers m is)
+          (record {
+            state = c.number_of.ensures;
+            line = c.in_number.ensures m is;
+            next = c.number_of-in-loop-step.ensures;
+            out = c.out_number.ensures m is;
+          });
       few = omega arith;
     }
 
@@ -43,5 +54,6 @@ returns-clause-numbers c m is =
     let past = c.loop-step-test.false in
     let end = c.loop-step.auto.step-index-end in
     let all : c.loop-step.step-index ≡ length c.args.moves.now = omega arith in
-    let whole : take c.loop-step.step-index c.args.moves.now ≡ c.args.moves.now = ap (λ n. take n c.args.moves.now) all ∙ take-length c.args.moves.now in
+    let whole : take c.loop-step.step-index c.args.moves.now ≡ c.args.moves.now =
+    ap (λ n. take n c.args.moves.now) all ∙ take-length c.args.moves.now in
     subst (λ l. AreNumbered m c.args.states.now l c.loop-step.numbered.items) whole (c.loop-step.invariant.numbers m is)

@@ -4,4 +4,5 @@ use Rattle.bn_control_names.specs.Listed.{AreOpen}
 use Rattle.bn_control_names.proofs.names.push_open.Given as goal
 
 abbrev pub invariant-loop-state : goal.invariant-loop-state
-invariant-loop-state l = (opened : List StateName) × AreOpen l.machine l.state opened × (l.names.items ≡ l.initial.names.items ++ opened)
+invariant-loop-state l = (opened : List StateName) × AreOpen l.machine l.state opened
+    × (l.names.items ≡ l.initial.names.items ++ opened)

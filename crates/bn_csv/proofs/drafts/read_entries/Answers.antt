@@ -9,13 +9,17 @@ entries-init g c = (c.requires.draft, rw c.new-entries.ensures (taken_none c.req
 
 pub entries-preserved : goal.entries-preserved
 entries-preserved g c =
-    let next = rw c.if-branch.true at c.in_ok-read_entry.ensures.ok in
-    (c.in_ok-add_entry.ensures.ok.0, taken_more c.entries.invariant.1 next c.in_ok-add_entry.ensures.ok.1 (omega arith) c.in_ok-add_entry.ensures.passes)
+    let next = rw c.if-branch.true at c.in_ok-read_entry.ensures.ok in (
+      c.in_ok-add_entry.ensures.ok.0,
+      taken_more c.entries.invariant.1 next c.in_ok-add_entry.ensures.ok.1 (omega arith)
+          c.in_ok-add_entry.ensures.passes,
+    )
 
 pub returns-then-count-MOST_ENTRIES-clause-refused : goal.returns-then-count-MOST_ENTRIES-clause-refused
 returns-then-count-MOST_ENTRIES-clause-refused g c =
     let next = rw c.if-branch.true at c.in_ok-read_entry.ensures.ok in
-    λ n. too_many_next c.entries.invariant.1 next (omega (arith, c.MOST_ENTRIES.ensures)) ∙ ap Some (sym c.too_many.ensures)
+    λ n. too_many_next c.entries.invariant.1 next (omega (arith, c.MOST_ENTRIES.ensures))
+    ∙ ap Some (sym c.too_many.ensures)
 
 pub returns-in_err-add_entry-clause-refused : goal.returns-in_err-add_entry-clause-refused
 returns-in_err-add_entry-clause-refused g c =

@@ -7,7 +7,8 @@ use Rattle.bn_csv.proofs.drafts.read_entries.Given as goal
 abbrev pub invariant-entries : goal.invariant-entries
 invariant-entries g l =
     let t = g.D.TableDraft in
-    t.is_draft l.draft × HasTaken t.MOST_ENTRIES t.too_many t.form_fault (entries_of l.fn.bytes) (t.taken l.draft) l.count l.entries
+    t.is_draft l.draft × HasTaken t.MOST_ENTRIES t.too_many t.form_fault (entries_of l.fn.bytes) (t.taken l.draft)
+    l.count l.entries
 
 abbrev pub decreases-entries : goal.decreases-entries
 decreases-entries g l = length l.entries

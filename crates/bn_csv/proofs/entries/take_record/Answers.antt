@@ -9,6 +9,8 @@ pub returns-in-Ok-clause-more : goal.returns-in-Ok-clause-more
 returns-in-Ok-clause-more c =
     let read = c.in-Ok.ensures.reads c.requires.untrimmed (ready c.args.reader.now c.requires) in
     elim (cases_Bool c.in-Ok.found) [
-      | inl found ↦ rw found (left-read c.args.reader.now c.read_byte_record.new.self (fields_of c.read_byte_record.new.row) c.requires (rw found at read)).0
-      | inr none ↦ rw none (left-end c.args.reader.now c.read_byte_record.new.self (fields_of c.read_byte_record.new.row) c.requires (rw none at read))
+      | inl found ↦ rw found (left-read c.args.reader.now c.read_byte_record.new.self
+          (fields_of c.read_byte_record.new.row) c.requires (rw found at read)).0
+      | inr none ↦ rw none (left-end c.args.reader.now c.read_byte_record.new.self
+          (fields_of c.read_byte_record.new.row) c.requires (rw none at read))
     ]

@@ -16,7 +16,8 @@ overflow_cast-len c =
 
 pub recoded-requires-clause-known : goal.recoded-requires-clause-known
 recoded-requires-clause-known c = λ letter h.
-    subst (λ (ls : List ℕ). IsIn ls letter) (sym (c.as_slice.ensures.value ∙ c.in_ok-letters.ensures.made)) (second_in c.args.first.now.letters c.args.second.now.letters letter h)
+    subst (λ (ls : List ℕ). IsIn ls letter) (sym (c.as_slice.ensures.value ∙ c.in_ok-letters.ensures.made))
+    (second_in c.args.first.now.letters c.args.second.now.letters letter h)
 
 pub invariant_of-result : goal.invariant_of-result
 invariant_of-result c =
@@ -27,5 +28,6 @@ invariant_of-result c =
     let counted : n ≡ length c.in_ok-letters.letters.items = omega arith in
     let is = joined_is t u c.in_ok-first.first c.in_ok-second.second c.in_ok-letters.letters.items n e.made counted
     (c.in_ok-first.ensures ∙ ap (λ (p : Program). with_symbols n p) c.machine.ensures.value)
-    (c.in_ok-second.ensures ∙ ap (λ (ls : List ℕ). recoded (code_among ls u.letters) (length ls) u.machine) c.as_slice.ensures.value) in
+    (c.in_ok-second.ensures ∙ ap (λ (ls : List ℕ). recoded (code_among ls u.letters) (length ls) u.machine)
+    c.as_slice.ensures.value) in
     subst IsJoint (sym is) (tables_joined t u e.first e.second)

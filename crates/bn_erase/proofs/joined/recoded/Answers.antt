@@ -9,7 +9,8 @@ pub unreachable-requires : goal.unreachable-requires
 unreachable-requires c =
     let t = c.args.table.now in
     let own = c.quints.ensures.value ∙ ap (λ (p : Program). p.quints) c.machine-machine.ensures.value in
-    recoded_not_refused t c.args.letters.now c.in_ok-quints.quints.items c.states.result c.in-Err.field-0 c.machine-machine.ensures.valid c.requires.known
+    recoded_not_refused t c.args.letters.now c.in_ok-quints.quints.items c.states.result c.in-Err.field-0
+    c.machine-machine.ensures.valid c.requires.known
     (c.in_ok-quints.ensures ∙ ap (map (recoded_quint (code_among c.args.letters.now t.letters))) own)
     (c.states.ensures ∙ ap (λ (p : Program). p.states) c.machine-machine.ensures.value)
     c.in-Err.ensures.refused

@@ -4,4 +4,5 @@ use Rattle.bn_erase.proofs.JoinedLemmas.{code_among}
 use Rattle.bn_erase.proofs.joined.recoded_quints.Given as goal
 
 abbrev pub invariant-loop-quint : goal.invariant-loop-quint
-invariant-loop-quint l = l.made.items ≡ map (recoded_quint (code_among l.letters l.table.letters)) (take l.quint-index l.quints)
+invariant-loop-quint l = l.made.items ≡ map (recoded_quint (code_among l.letters l.table.letters))
+    (take l.quint-index l.quints)

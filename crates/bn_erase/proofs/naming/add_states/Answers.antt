@@ -12,13 +12,18 @@ add_state-requires c =
     let names = c.args.states.now in
     let i = c.loop-name.name-index in
     let inside : i < length names = omega arith in
-    let is : c.as_slice.result.now ≡ erasing_text (get_or names i (First (Compute 0))) = c.as_slice.ensures.value ∙ c.in_ok-text.ensures in
+    let is : c.as_slice.result.now ≡ erasing_text (get_or names i (First (Compute 0))) =
+    c.as_slice.ensures.value ∙ c.in_ok-text.ensures in
     record {
-      new = state_new names c.requires.printable i (First (Compute 0)) c.loop-name.names c.as_slice.result.now inside c.loop-name.invariant is;
-      room = state_room names c.requires.printable i (First (Compute 0)) c.loop-name.names c.as_slice.result.now inside c.loop-name.invariant is;
+      new = state_new names c.requires.printable i (First (Compute 0)) c.loop-name.names c.as_slice.result.now inside
+          c.loop-name.invariant is;
+      room = state_room names c.requires.printable i (First (Compute 0)) c.loop-name.names c.as_slice.result.now inside
+          c.loop-name.invariant is;
     }
 
 pub loop-name-preserved : goal.loop-name-preserved
 loop-name-preserved c =
-    let is : c.as_slice.result.now ≡ erasing_text (get_or c.args.states.now c.loop-name.name-index (First (Compute 0))) = c.as_slice.ensures.value ∙ c.in_ok-text.ensures in
-    states_more erasing_text c.args.states.now c.loop-name.name-index (First (Compute 0)) c.loop-name.names c.add_state.new.self c.as_slice.result.now (omega arith) c.loop-name.invariant is c.in_ok-add_state.ensures.ok
+    let is : c.as_slice.result.now ≡ erasing_text (get_or c.args.states.now c.loop-name.name-index
+    (First (Compute 0))) = c.as_slice.ensures.value ∙ c.in_ok-text.ensures in
+    states_more erasing_text c.args.states.now c.loop-name.name-index (First (Compute 0)) c.loop-name.names
+    c.add_state.new.self c.as_slice.result.now (omega arith) c.loop-name.invariant is c.in_ok-add_state.ensures.ok

@@ -15,14 +15,18 @@ add_states-requires-clause-printable c =
     let right : IsMachine j.second = subst IsMachine c.second.ensures.value c.quints-2.ensures.valid in
     let P : List ErasingName → Type 0 = ArePrintable in
     subst P (sym c.names.ensures)
-    (printable j.first j.second c.args.erasing.now left right c.first.ensures.valid.first_fits c.first.ensures.valid.second_fits c.requires c.erasing_names.ensures.names c.erasing_names.ensures.count)
+    (printable j.first j.second c.args.erasing.now left right c.first.ensures.valid.first_fits
+    c.first.ensures.valid.second_fits c.requires c.erasing_names.ensures.names c.erasing_names.ensures.count)
 
 -- the joint letters are letters of symbols
 joint_letters : (j : Joint) → IsJoint j → (letters : List ℕ) → letters ≡ j.letters → AreLetters letters
-joint_letters j h letters is = subst AreLetters (sym is) (record { few = omega (arith, h.first_symbols, h.first_fits.symbols); apart = h.alphabet.apart })
+joint_letters j h letters is = subst AreLetters (sym is) (record
+    { few = omega (arith, h.first_symbols, h.first_fits.symbols); apart = h.alphabet.apart })
 
 pub add_letters-requires-clause-letters : goal.add_letters-requires-clause-letters
-add_letters-requires-clause-letters c = joint_letters c.args.joined.now c.letters.ensures.valid c.letters.result.now c.letters.ensures.value
+add_letters-requires-clause-letters c = joint_letters c.args.joined.now c.letters.ensures.valid c.letters.result.now
+    c.letters.ensures.value
 
 pub add_letters-requires-2-clause-letters : goal.add_letters-requires-2-clause-letters
-add_letters-requires-2-clause-letters c = joint_letters c.args.joined.now c.letters-2.ensures.valid c.letters-2.result.now c.letters-2.ensures.value
+add_letters-requires-2-clause-letters c = joint_letters c.args.joined.now c.letters-2.ensures.valid
+    c.letters-2.result.now c.letters-2.ensures.value

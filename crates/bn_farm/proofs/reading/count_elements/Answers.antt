@@ -5,6 +5,8 @@ use Rattle.bn_farm.proofs.reading.count_elements.Goals as goal
 
 pub loop-board-preserved : goal.loop-board-preserved
 loop-board-preserved c =
-    let more = one_counted c.args.boards.now c.loop-board.board-index c.loop-board.count c.board-item.result c.requires.farm c.loop-board-test.true c.loop-board.invariant in
-    let same = ap (λ (x : NetConfig). length x.net.elements) (sym c.board-item.is) ∙ sym c.len.ensures.number ∙ sym c.from-count.ensures in
+    let more = one_counted c.args.boards.now c.loop-board.board-index c.loop-board.count c.board-item.result
+    c.requires.farm c.loop-board-test.true c.loop-board.invariant in
+    let same = ap (λ (x : NetConfig). length x.net.elements) (sym c.board-item.is) ∙ sym c.len.ensures.number
+    ∙ sym c.from-count.ensures in
     subst (λ n. HasCounted c.args.boards.now (c.loop-board.board-index + 1) (c.loop-board.count + n)) same more

@@ -9,5 +9,6 @@ returns-in-Err c =
     record {
       read = tt;
       refused = subst (λ n. IsPartRefusal c.args.part.now n c.refusal_of.result) number
-          (c.refusal_of.ensures c.args.part.now c.in-Err.ensures.refused (λ said b is. c.in-Err.ensures.nothing_else said b.version b.spelling is));
+          (c.refusal_of.ensures c.args.part.now c.in-Err.ensures.refused
+          (λ said b is. c.in-Err.ensures.nothing_else said b.version b.spelling is));
     }

@@ -13,12 +13,14 @@ pub returns-in_err-write_all-clause-front : goal.returns-in_err-write_all-clause
 returns-in_err-write_all-clause-front g c =
     let p = err_from_is_err_and c.from_residual.result c.from_residual.ensures.1 in
     let xs = c.as_slice.result.now in
-    rw p.1 (front_of_piece _ _ c.args.text.now.items (take 4096 xs) (drop 4096 xs) (sym (take-append-drop 4096 xs ∙ c.as_slice.ensures.value)) c.in_err-write_all.ensures.front)
+    rw p.1 (front_of_piece _ _ c.args.text.now.items (take 4096 xs) (drop 4096 xs)
+    (sym (take-append-drop 4096 xs ∙ c.as_slice.ensures.value)) c.in_err-write_all.ensures.front)
 
 pub returns-clause-given : goal.returns-clause-given
 returns-clause-given g c =
     let xs = c.as_slice.result.now in
-    let behind : drop 4096 xs ≡ c.drop_piece.new.text.items = ap (λ (z : List ℕ). drop 4096 z) c.as_slice.ensures.value ∙ sym c.drop_piece.ensures in (
+    let behind : drop 4096 xs ≡ c.drop_piece.new.text.items = ap (λ (z : List ℕ). drop 4096 z) c.as_slice.ensures.value
+    ∙ sym c.drop_piece.ensures in (
       take 4096 xs,
       sym (take-append-drop 4096 xs ∙ c.as_slice.ensures.value) ∙ ap (λ (z : List ℕ). take 4096 xs ++ z) behind,
       c.in_ok-write_all.ensures.whole,

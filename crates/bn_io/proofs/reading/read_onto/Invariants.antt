@@ -1,4 +1,4 @@
-use Rattle.std.proofs.Common.{◌≤◌, ◌+◌, ◌-◌, vec_len}
+use Rattle.std.proofs.Common.{◌≡◌, ◌≤◌, ◌+◌, ◌-◌, vec_len}
 use Rattle.bn_io.specs.Told.{Loses}
 use Rattle.bn_io.proofs.reading.read_onto.Given as goal
 
@@ -7,7 +7,7 @@ abbrev pub invariant-loop : goal.invariant-loop
 invariant-loop g l =
     (vec_len l.bytes ≤ l.limit)
     × Loses (g.I.Input.left l.fn.input) (g.I.Input.left l.input) l.bytes.items
-    × (g.I.Input.faults l.fn.input ≤ g.I.Input.faults l.input)
+    × (g.I.Input.faults l.input ≡ g.I.Input.faults l.fn.input)
 
 abbrev pub decreases-loop : goal.decreases-loop
 decreases-loop g l = l.limit + 1 - vec_len l.bytes

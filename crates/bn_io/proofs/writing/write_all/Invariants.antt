@@ -1,4 +1,4 @@
-use Rattle.std.proofs.Common.{◌≡◌, ◌≤◌, ◌++◌, List, ℕ, length}
+use Rattle.std.proofs.Common.{◌≡◌, ◌++◌, List, ℕ, length}
 use Rattle.bn_io.specs.Told.{Grows}
 use Rattle.bn_io.proofs.writing.write_all.Given as goal
 
@@ -8,7 +8,7 @@ invariant-loop-rest g l =
     (given : List ℕ)
     × (l.bytes ≡ given ++ l.rest)
     × Grows (g.K.Sink.taken l.fn.sink) (g.K.Sink.taken l.sink) given
-    × (g.K.Sink.faults l.fn.sink ≤ g.K.Sink.faults l.sink)
+    × (g.K.Sink.faults l.sink ≡ g.K.Sink.faults l.fn.sink)
 
 abbrev pub decreases-loop-rest : goal.decreases-loop-rest
 decreases-loop-rest g l = length l.rest

@@ -60,4 +60,5 @@ returns-clause-ran g c =
     let all = c.loop-made-test.false in
     stopped-run (rotary_circuit c.args.packed.now.net) (g.S.Stop.stops c.args.stop.now) c.args.e c.loop-made.made
     c.args.packed.now.config c.loop-made.packed.config c.requires.way.board.circuit c.requires.good
-    c.loop-made.invariant.within c.loop-made.invariant.passes (λ fewer. absurd (omega arith)) (λ some. inl (omega arith))
+    c.loop-made.invariant.within c.loop-made.invariant.passes (λ fewer. absurd (omega arith))
+    (λ some. inl (omega arith))

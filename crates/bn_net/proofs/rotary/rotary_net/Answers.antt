@@ -9,5 +9,7 @@ use Rattle.bn_net.proofs.rotary.rotary_net.Goals as goal
 pub new-requires-clause-faultless : goal.new-requires-clause-faultless
 new-requires-clause-faultless c =
     let count : length c.in_ok-elements.elements.items ≡ c.args.count = omega (arith, c.in_ok-elements.ensures.len) in
-    let tables : map (λ _. rotary) c.in_ok-elements.elements.items ≡ replicate c.args.count rotary = rotary-tables c.in_ok-elements.elements.items ∙ ap (λ n. replicate n rotary) count in
-    subst (λ (ts : List Table). AreFaultless ts c.args.wires.now) (sym tables) (apart-AreFaultless c.args.count c.args.wires.now c.requires.apart c.requires.fitting)
+    let tables : map (λ _. rotary) c.in_ok-elements.elements.items ≡ replicate c.args.count rotary =
+    rotary-tables c.in_ok-elements.elements.items ∙ ap (λ n. replicate n rotary) count in
+    subst (λ (ts : List Table). AreFaultless ts c.args.wires.now) (sym tables)
+    (apart-AreFaultless c.args.count c.args.wires.now c.requires.apart c.requires.fitting)

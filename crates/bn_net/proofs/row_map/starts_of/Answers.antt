@@ -12,6 +12,7 @@ loop-width-preserved c =
     let more = take_more ws i 0 c.loop-width-test.true in
     let starts = ap (starts_from 0) more ∙ starts_from-append 0 (take i ws) w in
     let ends = ap (end_from 0) more ∙ end_from-append 0 (take i ws) w in
-    let pushed : c.push-in-loop-width.new.self.items ≡ c.loop-width.starts.items ++ (c.loop-width.total + w) ∷ [] = search rules in
+    let pushed : c.push-in-loop-width.new.self.items ≡ c.loop-width.starts.items ++ (c.loop-width.total + w) ∷ [] =
+    search rules in
     let before = c.loop-width.invariant in
     (cc (pushed, starts, before.0, before.1), cc (ends, before.1), (let bound = c.type_inv.widths i in search rules))

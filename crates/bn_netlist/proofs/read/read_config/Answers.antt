@@ -11,4 +11,5 @@ returns-in-Err-Text-clause-nothing_else c = λ known v s spelled.
     let said = subst (IsFromRefusal t.0) c.in-Err-Text.field-0-is t.3 in
     let ended = c.in-Err-Text.ensures.refused_whole (subst HasWhole (sym c.in-Err-Text.field-0-is) tt) in
     let same = all_given c.new-input.result.rest.now t.0 _ t.1.lost ended ∙ c.new-input.ensures in
-    nothing_spelled c.args.bytes.now c.in-Err-Text.refusal (subst (λ z. IsTextRefusal z c.in-Err-Text.refusal) same said.0) known v s spelled
+    nothing_spelled c.args.bytes.now c.in-Err-Text.refusal (subst (λ z. IsTextRefusal z c.in-Err-Text.refusal) same
+    said.0) known v s spelled

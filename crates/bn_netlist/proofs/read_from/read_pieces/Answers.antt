@@ -1,4 +1,4 @@
-use Rattle.std.proofs.Common.{ℕ, List, ◌++◌, ◌≤◌, length, arith, length-append, sym, ap, subst}
+use Rattle.std.proofs.Common.{ℕ, List, ◌++◌, ◌≤◌, ◌∙◌, length, arith, length-append, sym, ap, subst}
 use Rattle.std.proofs.lemmas.Result.{err_from_is_err_and}
 use Rattle.std.proofs.lemmas.List.{length-take-le}
 use Rattle.bn_netlist.specs.Coming.{HaveCome}
@@ -34,5 +34,5 @@ loop-pieces-preserved g c =
       omega (arith, e.within),
       omega arith,
       subst (λ (z : List ℕ). HaveCome c.in-Ok.next (i.0 ++ z)) (sym t.2) (come i.0 i.5),
-      omega (arith, e.later),
+      e.stays (λ f. cc) ∙ i.6,
     )

@@ -12,7 +12,7 @@ invariant-loop-pieces g l =
     × (l.taken ≤ l.limit)
     × (0 < length l.buffer)
     × HaveCome l.pieces given
-    × (g.I.Input.faults l.fn.input ≤ g.I.Input.faults l.input)
+    × (g.I.Input.faults l.input ≡ g.I.Input.faults l.fn.input)
 
 abbrev pub decreases-loop-pieces : goal.decreases-loop-pieces
 decreases-loop-pieces g l = l.limit - l.taken

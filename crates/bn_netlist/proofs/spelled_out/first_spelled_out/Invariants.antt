@@ -5,4 +5,5 @@ use Rattle.bn_netlist.proofs.spelled_out.first_spelled_out.Given as goal
 
 abbrev pub invariant-loop-element : goal.invariant-loop-element
 invariant-loop-element g l =
-    (m : ℕ) → m < l.element → IsOwnColumn l.own (circuit_of (g.C.Spellable.spelling l.config)) (g.C.Spellable.spelling l.config).config.states m → ⊥
+    (m : ℕ) → m < l.element → IsOwnColumn l.own (circuit_of (g.C.Spellable.spelling l.config))
+    (g.C.Spellable.spelling l.config).config.states m → ⊥

@@ -1,11 +1,13 @@
-use Rattle.std.proofs.lemmas.Result.{err_from_is_err_and}
+use Rattle.std.proofs.lemmas.Result.{IfErr-weaker, on_ok_weaker}
 use Rattle.bn_netlist.proofs.StageLemmas.{entry_taken, entry_refused}
 use Rattle.bn_netlist.proofs.stage.take_entry.Goals as goal
 
-pub returns-in_err-take_line-clause-refused : goal.returns-in_err-take_line-clause-refused
-returns-in_err-take_line-clause-refused c =
-    let p = err_from_is_err_and c.from_residual.result c.from_residual.ensures.1 in
-    rw (p.1, p.2) (λ lines taken. entry_refused c.args.header c.args.entries lines taken c.args.line.now _ c.in_err-take_line.ensures.refused)
+pub returns-clause-refused : goal.returns-clause-refused
+returns-clause-refused c =
+    IfErr-weaker c.take_line.result _ _ (λ r refused lines taken. entry_refused c.args.header.now c.args.entries.now
+    lines taken c.args.line.now r refused) c.take_line.ensures.refused
 
 pub returns-clause-taken : goal.returns-clause-taken
-returns-clause-taken c = λ lines taken. entry_taken c.args.header c.args.entries lines taken c.take_line.new.self c.args.line.now c.in_ok-take_line.ensures.read
+returns-clause-taken c =
+    on_ok_weaker c.take_line.result (λ read lines taken. entry_taken c.args.header.now c.args.entries.now lines taken
+    c.take_line.new.self c.args.line.now read) c.take_line.ensures.read

@@ -8,4 +8,5 @@ returns-in-Ok g c =
     let v = g.C.Spellable.version c.args.config.now in
     let s = g.C.Spellable.spelling c.args.config.now in
     subst (IsTextOf v s) (sym c.into_bytes.ensures)
-    (written_to v s c.new-sink.result.0 c.write_config_to.new.sink.0 c.requires (ap (λ k. k.0) c.new-sink.ensures) c.in-Ok.ensures.whole)
+    (written_to v s c.new-sink.result.0 c.write_config_to.new.sink.0 c.requires (ap (λ k. k.0) c.new-sink.ensures)
+    c.in-Ok.ensures.whole)

@@ -1,13 +1,14 @@
-use Rattle.std.proofs.Common.{◌≡◌, ◌<◌, arith, subst}
+use Rattle.std.proofs.Common.{◌≡◌, ◌<◌, ◌∙◌, refl, arith, subst}
 use Rattle.bn_io.specs.Told.{Grows, GrowsByFront}
-use Rattle.bn_netlist.proofs.GivingLemmas.{given_none, given_more, given_front, given_front_more, given_whole, given_last}
+use Rattle.bn_netlist.proofs.GivingLemmas.{given_none, given_more, given_front, given_front_more, given_whole}
+use Rattle.bn_netlist.proofs.GivingLemmas.{given_last}
 use Rattle.bn_netlist.proofs.write_to.give_entries.Goals as goal
 
 pub loop-line-init : goal.loop-line-init
 loop-line-init g c =
     let v = g.C.Spellable.version c.args.config.now in
     let s = g.C.Spellable.spelling c.args.config.now in
-    (given_none v s (g.K.Sink.taken c.args.sink.now) c.args.text.now.items c.requires.header, omega arith)
+    (given_none v s (g.K.Sink.taken c.args.sink.now) c.args.text.now.items c.requires.header, refl)
 
 pub returns-in_default-clause-front : goal.returns-in_default-clause-front
 returns-in_default-clause-front g c =
@@ -36,7 +37,7 @@ loop-line-preserved g c =
           (g.K.Sink.taken c.give_pieces.new.sink) c.loop-line.text.items c.push_line.new.text.items
           c.give_pieces.new.text.items c.loop-line.line c.loop-line.place.element c.loop-line.place.rows
           c.in-Ok.next.element c.in-Ok.next.rows short i.0 c.in-Ok.ensures c.in-Ok-give_pieces.ensures.given,
-      omega (arith, i.1, c.give_pieces.ensures.later),
+      c.in-Ok-give_pieces.ensures.kept ∙ i.1,
     )
 
 pub returns-in-Ok-write_all-clause-whole : goal.returns-in-Ok-write_all-clause-whole

@@ -9,7 +9,8 @@ use Rattle.bn_packed.proofs.ListedLemmas.{AreFirst, first_none, first_loose, fir
 use Rattle.bn_packed.proofs.wiring.ahead_of.Goals.{in-Some, in_default}
 use Rattle.bn_packed.proofs.wiring.ahead_of.Goals as goal
 
-place_there : (elements : List Rotary) (l : Line) (i : ℕ) → l ≡ nth_line i → i < 4 * length elements → IsLineBelow (length elements) l
+place_there : (elements : List Rotary) (l : Line) (i : ℕ) → l ≡ nth_line i → i < 4 * length elements
+    → IsLineBelow (length elements) l
 place_there elements l i is low = subst (IsLineBelow (length elements)) (sym is) (line_below (length elements) i low)
 
 pub target-requires : goal.target-requires
@@ -17,11 +18,13 @@ target-requires g c =
     let there = place_there c.args.net.now.elements c.nth_line-line.result c.loop-place.place c.nth_line-line.ensures
     (omega (arith, c.loop-place-test.true, c.len-2.ensures.number)) in
     let below = opposite_below (length c.args.net.now.elements) c.nth_line-line.result there in
-    below_output c.args.net.now.elements c.opposite.result (subst (IsLineBelow (length c.args.net.now.elements)) (sym c.opposite.ensures) below)
+    below_output c.args.net.now.elements c.opposite.result (subst (IsLineBelow (length c.args.net.now.elements))
+    (sym c.opposite.ensures) below)
 
 pub loop-place-init : goal.loop-place-init
 loop-place-init g c =
-    first_none (ahead c.args.net.now.wires) (length c.args.net.now.elements) c.in_ok-ends.ends (c.in_ok-ends.ensures.elements ∙ c.len.ensures.number)
+    first_none (ahead c.args.net.now.wires) (length c.args.net.now.elements) c.in_ok-ends.ends
+    (c.in_ok-ends.ensures.elements ∙ c.len.ensures.number)
     (c.in_ok-ends.ensures.ends ∙ ap (λ n. replicate (4 * n) None) c.len.ensures.number)
 
 pub set-requires-clause-there : goal.set-requires-clause-there
@@ -32,27 +35,34 @@ set-requires-clause-there g c =
 
 pub set-requires-clause-below : goal.set-requires-clause-below
 set-requires-clause-below g c =
-    let within = target_within c.args.net.now c.len.ensures.circuit c.opposite.result (Some c.in-Some.to) (sym c.in-Some.is ∙ c.target.ensures) in
+    let within = target_within c.args.net.now c.len.ensures.circuit c.opposite.result (Some c.in-Some.to)
+    (sym c.in-Some.is ∙ c.target.ensures) in
     subst (λ n. IsLineBelow n c.in-Some.to) (sym c.loop-place.invariant.elements) within
 
 pub loop-place-preserved : goal.loop-place-preserved
 loop-place-preserved g c = elim c.match-target.branch [
   | in-Some w ↦
-      let low : c.loop-place.place < 4 * length c.args.net.now.elements = omega (arith, c.loop-place-test.true, c.len-2.ensures.number) in
+      let low : c.loop-place.place < 4 * length c.args.net.now.elements =
+      omega (arith, c.loop-place-test.true, c.len-2.ensures.number) in
       let leads : Some w.in-Some.to ≡ ahead c.args.net.now.wires c.nth_line-line.result =
       sym w.in-Some.is ∙ c.target.ensures ∙ ap (target c.args.net.now.wires) c.opposite.ensures in
-      first_more (ahead c.args.net.now.wires) c.loop-place.place (length c.args.net.now.elements) c.nth_line-line.result w.in-Some.to c.loop-place.ends
+      first_more (ahead c.args.net.now.wires) c.loop-place.place (length c.args.net.now.elements) c.nth_line-line.result
+      w.in-Some.to c.loop-place.ends
       c.match-target.ends c.loop-place.invariant low c.nth_line-line.ensures leads
-      (ap (λ (e : EndList). e.elements) w.ends-is ∙ w.set.ensures.elements) (ap (λ (e : EndList). e.ends) w.ends-is ∙ w.set.ensures.ends)
+      (ap (λ (e : EndList). e.elements) w.ends-is ∙ w.set.ensures.elements)
+      (ap (λ (e : EndList). e.ends) w.ends-is ∙ w.set.ensures.ends)
   | in_default w ↦
       let none : None ≡ ahead c.args.net.now.wires c.nth_line-line.result =
       sym w.in_default.is ∙ c.target.ensures ∙ ap (target c.args.net.now.wires) c.opposite.ensures in
-      subst (AreFirst (ahead c.args.net.now.wires) (c.loop-place.place + 1) (length c.args.net.now.elements)) (sym w.ends-is)
-      (first_loose (ahead c.args.net.now.wires) c.loop-place.place (length c.args.net.now.elements) c.nth_line-line.result c.loop-place.ends
+      subst (AreFirst (ahead c.args.net.now.wires) (c.loop-place.place + 1) (length c.args.net.now.elements))
+      (sym w.ends-is)
+      (first_loose (ahead c.args.net.now.wires) c.loop-place.place (length c.args.net.now.elements)
+      c.nth_line-line.result c.loop-place.ends
       c.loop-place.invariant c.nth_line-line.ensures none)
 ]
 
 pub returns : goal.returns
 returns g c =
-    first_all (ahead c.args.net.now.wires) c.loop-place.place (length c.args.net.now.elements) c.loop-place.ends c.loop-place.invariant
+    first_all (ahead c.args.net.now.wires) c.loop-place.place (length c.args.net.now.elements) c.loop-place.ends
+    c.loop-place.invariant
     (omega (arith, c.loop-place-test.false, c.len-2.ensures.number))

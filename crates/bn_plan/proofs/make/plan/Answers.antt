@@ -14,4 +14,5 @@ returns c =
     let count = c.len-positions.ensures.number in
     let behind = c.loop-position-test.false in
     subst (IsFloorPlan c.args.net.now.wires) (sym c.into_plan.ensures)
-    (net_floor c.args.net.now c.len-positions.ensures.circuit c.len-positions.ensures.order c.loop-position.position c.loop-position.sweep (omega (arith, count, behind)) c.loop-position.invariant.1)
+    (net_floor c.args.net.now c.len-positions.ensures.circuit c.len-positions.ensures.order c.loop-position.position
+    c.loop-position.sweep (omega (arith, count, behind)) c.loop-position.invariant.1)

@@ -17,14 +17,16 @@ gather-requires c =
 made_table : goal.returns-in-Ok-clause-ok
 made_table c =
     let made = c.in-Ok.ensures.made in
-    table-of-draft c.args.draft c.in-Ok.machine c.in_ok-gather-in-Ok.field-0 c.requires.draft c.requires.few made.listed (made.counted ∙ c.state_count.ensures)
+    table-of-draft c.args.draft c.in-Ok.machine c.in_ok-gather-in-Ok.field-0 c.requires.draft c.requires.few made.listed
+    (made.counted ∙ c.state_count.ensures)
     (made.lettered ∙ c.symbol_counts.ensures) c.in-Ok.ensures.valid.some c.in_ok-gather-in-Ok.ensures
 
 pub returns-in-Ok-clause-ok : goal.returns-in-Ok-clause-ok
 returns-in-Ok-clause-ok c = made_table c
 
 pub returns-in-Ok-clause-named : goal.returns-in-Ok-clause-named
-returns-in-Ok-clause-named c = table_has_names (drafted c.args.draft) (table_of c.in-Ok.machine c.in_ok-gather-in-Ok.field-0) (made_table c)
+returns-in-Ok-clause-named c = table_has_names (drafted c.args.draft)
+    (table_of c.in-Ok.machine c.in_ok-gather-in-Ok.field-0) (made_table c)
 
 pub unreachable-requires : goal.unreachable-requires
 unreachable-requires c =

@@ -8,12 +8,22 @@ use Rattle.bn_qtable.proofs.entry.read_fields.Goals as goal
 use Rattle.bn_qtable.proofs.entry.read_fields.Goals.{After-eight_fields}
 
 eight : (c : After-eight_fields) → c.args.entry.now
-    ≡ c.field.result.now ∷ c.field-2.result.now ∷ c.field-3.result.now ∷ c.field-4.result.now ∷ c.field-5.result.now ∷ c.field-6.result.now ∷ c.field-7.result.now ∷ c.field-8.result.now ∷ []
+    ≡ c.field.result.now ∷ c.field-2.result.now ∷ c.field-3.result.now ∷ c.field-4.result.now ∷ c.field-5.result.now
+    ∷ c.field-6.result.now ∷ c.field-7.result.now ∷ c.field-8.result.now ∷ []
 eight c =
     let count = c.len.ensures in
     list_is c.args.entry.now _ (omega (arith, count)) (
       c.field.ensures,
-      (c.field-2.ensures, (c.field-3.ensures, (c.field-4.ensures, (c.field-5.ensures, (c.field-6.ensures, (c.field-7.ensures, (c.field-8.ensures, tt))))))),
+      (
+        c.field-2.ensures,
+        (
+          c.field-3.ensures,
+          (
+            c.field-4.ensures,
+            (c.field-5.ensures, (c.field-6.ensures, (c.field-7.ensures, (c.field-8.ensures, tt)))),
+          ),
+        ),
+      ),
     )
 
 pub returns-clause-says : goal.returns-clause-says

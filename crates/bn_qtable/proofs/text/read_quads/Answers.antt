@@ -11,9 +11,11 @@ use Rattle.bn_qtable.proofs.text.read_quads.Goals as goal
 pub returns-in_err-draft-clause-refused : goal.returns-in_err-draft-clause-refused
 returns-in_err-draft-clause-refused c =
     let p = err_from_is_err_and c.from_residual-in_err-draft.result c.from_residual-in_err-draft.ensures.1 in
-    rw (p.1, p.2) (λ n. first_is refusal.Empty quadruple_entry_fault (entries_of c.args.bytes.now) _ (c.in_err-draft.ensures.refused n))
+    rw (p.1, p.2) (λ n. first_is refusal.Empty quadruple_entry_fault (entries_of c.args.bytes.now) _
+    (c.in_err-draft.ensures.refused n))
 
 pub returns-clause-refused : goal.returns-clause-refused
 returns-clause-refused c =
     MatchResult-weaker c.into_table.result c.into_table.ensures.empty (λ t p. tt)
-    (λ e p n. no_entry refusal.Empty quadruple_entry_fault (entries_of c.args.bytes.now) (sym c.in_ok-draft.ensures.taken ∙ (p n).1) ∙ sym (ap (λ (x : QuadTableRefusal). Some x) (p n).0))
+    (λ e p n. no_entry refusal.Empty quadruple_entry_fault (entries_of c.args.bytes.now)
+    (sym c.in_ok-draft.ensures.taken ∙ (p n).1) ∙ sym (ap (λ (x : QuadTableRefusal). Some x) (p n).0))

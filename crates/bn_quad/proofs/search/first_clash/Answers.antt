@@ -7,7 +7,9 @@ pub returns-in-Some : goal.returns-in-Some
 returns-in-Some c = least_clash _ _ (c.loop-index.index + 1) _ (rw add-one c.loop-index.invariant) c.in-Some.ensures
 
 pub loop-index-preserved : goal.loop-index-preserved
-loop-index-preserved c = no_clash_more _ _ (c.loop-index.index + 1) (rw add-one c.loop-index.invariant) c.in_default.ensures
+loop-index-preserved c = no_clash_more _ _ (c.loop-index.index + 1) (rw add-one c.loop-index.invariant)
+    c.in_default.ensures
 
 pub returns : goal.returns
-returns c = no_clash _ _ (suc c.loop-index.index) (omega (arith, length-rules_of c.args.quads.now)) c.loop-index.invariant
+returns c = no_clash _ _ (suc c.loop-index.index) (omega (arith, length-rules_of c.args.quads.now))
+    c.loop-index.invariant

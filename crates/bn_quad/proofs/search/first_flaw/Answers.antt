@@ -6,11 +6,15 @@ use Rattle.bn_quad.proofs.search.first_flaw.Goals as goal
 
 pub returns-then-is_flawed : goal.returns-then-is_flawed
 returns-then-is_flawed c =
-    rw add-one (first_flaw _ _ (suc c.loop-index.index) _ c.loop-index.invariant (nth-rules_of _ c.loop-index.index _ c.loop-index-test.true) (c.if-is_flawed.ensures.0 refl))
+    rw add-one (first_flaw _ _ (suc c.loop-index.index) _ c.loop-index.invariant
+    (nth-rules_of _ c.loop-index.index _ c.loop-index-test.true) (c.if-is_flawed.ensures.0 refl))
 
 pub loop-index-preserved : goal.loop-index-preserved
 loop-index-preserved c =
-    rw add-one (no_flaw_more _ _ (suc c.loop-index.index) _ c.loop-index.invariant (nth-rules_of _ c.loop-index.index _ c.loop-index-test.true) (λ flawed. false≢true (c.if-is_flawed.ensures.1 flawed)))
+    rw add-one (no_flaw_more _ _ (suc c.loop-index.index) _ c.loop-index.invariant
+    (nth-rules_of _ c.loop-index.index _ c.loop-index-test.true)
+    (λ flawed. false≢true (c.if-is_flawed.ensures.1 flawed)))
 
 pub returns : goal.returns
-returns c = no_flaw _ _ (suc c.loop-index.index) (omega (arith, length-rules_of c.args.quads.now)) c.loop-index.invariant
+returns c = no_flaw _ _ (suc c.loop-index.index) (omega (arith, length-rules_of c.args.quads.now))
+    c.loop-index.invariant

@@ -6,4 +6,5 @@ use Rattle.bn_quad.specs.Kept.{rules_of}
 use Rattle.bn_quad.proofs.search.first_rule.Given as goal
 
 abbrev pub invariant-loop-index : goal.invariant-loop-index
-invariant-loop-index l = AllBefore (λ r. AppliesTo r (configuration l.state l.tapes) → ⊥) (rules_of l.quads) (suc l.index)
+invariant-loop-index l = AllBefore (λ r. AppliesTo r (configuration l.state l.tapes) → ⊥) (rules_of l.quads)
+    (suc l.index)

@@ -5,8 +5,10 @@ use Rattle.bn_reply.proofs.opening.judge_table.Goals as goal
 
 pub returns-in_ok-why_text-in-Err : goal.returns-in_ok-why_text-in-Err
 returns-in_ok-why_text-in-Err c =
-    let first = subst (λ m. IsStandardRefusal m.quints c.in-Err.why) c.machine.ensures.value c.in-Err.ensures.refused in (
+    let first = subst (λ m. IsStandardRefusal m.quints c.in-Err.why) c.machine.ensures.value
+    c.in-Err.ensures.refused in (
       refl,
-      why_told c.args.table.now c.in-Err.why c.in_ok-why_text-in-Err.field-0.items first c.in_ok-why_text-in-Err.ensures.0
+      why_told c.args.table.now c.in-Err.why c.in_ok-why_text-in-Err.field-0.items first
+          c.in_ok-why_text-in-Err.ensures.0
           c.in_ok-why_text-in-Err.ensures.1,
     )

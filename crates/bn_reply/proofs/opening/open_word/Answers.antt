@@ -4,5 +4,6 @@ use Rattle.bn_reply.proofs.opening.open_word.Goals as goal
 
 pub loop-index-preserved : goal.loop-index-preserved
 loop-index-preserved c =
-    rw c.in_ok-push.ensures.items (one_more c.args.table.now c.args.word.now c.loop-index.index c.loop-index.symbols.items c.in-Some.symbol
+    rw c.in_ok-push.ensures.items (one_more c.args.table.now c.args.word.now c.loop-index.index
+    c.loop-index.symbols.items c.in-Some.symbol
     (omega arith) c.loop-index.invariant c.in-Some.ensures)

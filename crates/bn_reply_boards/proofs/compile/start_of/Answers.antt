@@ -20,6 +20,7 @@ returns-in-Refused c =
 pub returns : goal.returns
 returns c =
     let l = limits_of c.args.windows.now in
-    will_compile (boards-spelled read_off) c.args.bytes.now c.args.word.now l c.in-Made.field-0 c.in-Made.field-1 c.in-Made.board
+    will_compile (boards-spelled read_off) c.args.bytes.now c.args.word.now l c.in-Made.field-0 c.in-Made.field-1
+    c.in-Made.board
     (subst (IsOpenedInput c.args.bytes.now c.args.word.now l) c.in-Made.is c.in_ok-reply.ensures) c.board_config.result
     c.board_config.ensures.version c.board_config.ensures.spelling

@@ -16,7 +16,8 @@ pub returns-in-Refused : goal.returns-in-Refused
 returns-in-Refused c =
     let l = limits_of c.args.windows.now in
     let reply = c.in-Refused.reply in
-    machine_refused (λ t. BoardReplies (none t) t.machine l) c.args.bytes.now c.args.word.now reply.status reply.text.items []
+    machine_refused (λ t. BoardReplies (none t) t.machine l) c.args.bytes.now c.args.word.now reply.status
+    reply.text.items []
     (subst (IsOpenedMachine c.args.bytes.now c.args.word.now) c.in-Refused.is c.in_ok-reply.ensures)
 
 pub returns-then-len-windows : goal.returns-then-len-windows
@@ -25,14 +26,17 @@ returns-then-len-windows c =
     let at = c.in-Made in
     let reply = c.in_ok-too_long-in-Made.field-0 in
     long_replies none c.args.bytes.now c.args.word.now l at.table at.translated at.symbols.items reply
-    (subst (IsOpenedMachine c.args.bytes.now c.args.word.now) at.is c.in_ok-reply.ensures) (search rules) (search rules) c.in_ok-too_long-in-Made.ensures.status
+    (subst (IsOpenedMachine c.args.bytes.now c.args.word.now) at.is c.in_ok-reply.ensures) (search rules) (search rules)
+    c.in_ok-too_long-in-Made.ensures.status
 
 pub open_window-requires-clause-within : goal.open_window-requires-clause-within
-open_window-requires-clause-within c = (subst (IsOpenedMachine c.args.bytes.now c.args.word.now) c.in-Made.is c.in_ok-reply.ensures).within
+open_window-requires-clause-within c = (subst (IsOpenedMachine c.args.bytes.now c.args.word.now) c.in-Made.is
+    c.in_ok-reply.ensures).within
 
 pub open_window-requires-clause-word : goal.open_window-requires-clause-word
 open_window-requires-clause-word c =
-    rw c.as_slice.ensures.value (subst (IsOpenedMachine c.args.bytes.now c.args.word.now) c.in-Made.is c.in_ok-reply.ensures).is_word
+    rw c.as_slice.ensures.value (subst (IsOpenedMachine c.args.bytes.now c.args.word.now) c.in-Made.is
+    c.in_ok-reply.ensures).is_word
 
 pub returns-in-Refused-2 : goal.returns-in-Refused-2
 returns-in-Refused-2 c =
@@ -41,8 +45,10 @@ returns-in-Refused-2 c =
     let asked = subst (IsOpenedMachine c.args.bytes.now c.args.word.now) at.is c.in_ok-reply.ensures in
     let symbols = c.as_slice.result.now in
     let fits : length at.symbols.items ≤ l.right = search rules in
-    large_replies none c.args.bytes.now c.args.word.now l at.table at.translated at.symbols.items c.in-Refused-2.reply asked fits
-    (subst (IsOpenedWindow at.table.machine l symbols at.translated) c.in-Refused-2.is (c.in_ok-reply-in-Made.ensures at.table.machine asked.translates))
+    large_replies none c.args.bytes.now c.args.word.now l at.table at.translated at.symbols.items c.in-Refused-2.reply
+    asked fits
+    (subst (IsOpenedWindow at.table.machine l symbols at.translated) c.in-Refused-2.is
+    (c.in_ok-reply-in-Made.ensures at.table.machine asked.translates))
 
 pub returns-in-Made-2 : goal.returns-in-Made-2
 returns-in-Made-2 c =

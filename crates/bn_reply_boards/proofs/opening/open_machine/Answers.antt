@@ -56,6 +56,7 @@ returns-in-Symbols c =
       reads = record { reads = reads; standard = judged.1 };
       spelled = spelled;
       translates = is;
-      within = within_limits c.in-Standard.standard m (subst IsMachine (sym judged.0) facts.0) (subst FitsTable (sym judged.0) facts.1) made.made made.states made.quadruples;
+      within = within_limits c.in-Standard.standard m (subst IsMachine (sym judged.0) facts.0)
+          (subst FitsTable (sym judged.0) facts.1) made.made made.states made.quadruples;
       is_word = word_of t m c.in-Symbols.symbols.items table.symbols is spelled.symbols_known;
     }

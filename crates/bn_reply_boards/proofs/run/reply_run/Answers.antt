@@ -14,21 +14,26 @@ use Rattle.bn_reply_boards.proofs.run.reply_run.Given.{Over}
 use Rattle.bn_reply_boards.proofs.run.reply_run.Goals as goal
 
 asked : (g : Over) (c : goal.After-run_board-arg-1 g)
-    → IsBoardAsked c.args.bytes.now c.args.word.now (limits_of c.args.windows.now) c.in-Made.table c.in-Made.translated c.in-Made.board
-asked g c = subst (IsOpenedInput c.args.bytes.now c.args.word.now (limits_of c.args.windows.now)) c.in-Made.is c.in_ok-reply.ensures
+    → IsBoardAsked c.args.bytes.now c.args.word.now (limits_of c.args.windows.now) c.in-Made.table c.in-Made.translated
+    c.in-Made.board
+asked g c = subst (IsOpenedInput c.args.bytes.now c.args.word.now (limits_of c.args.windows.now)) c.in-Made.is
+    c.in_ok-reply.ensures
 
 pub run_board-requires-clause-names : goal.run_board-requires-clause-names
 run_board-requires-clause-names g c =
-    asked_names c.args.given c.args.bytes.now c.args.word.now (limits_of c.args.windows.now) c.in-Made.table c.in-Made.translated c.in-Made.board (asked g c)
+    asked_names c.args.given c.args.bytes.now c.args.word.now (limits_of c.args.windows.now) c.in-Made.table
+    c.in-Made.translated c.in-Made.board (asked g c)
     exits-one run_to_exit
 
 pub run_board-requires-clause-one : goal.run_board-requires-clause-one
 run_board-requires-clause-one g c =
-    (asked_letters c.args.given c.args.bytes.now c.args.word.now (limits_of c.args.windows.now) c.in-Made.table c.in-Made.translated c.in-Made.board (asked g c)).0
+    (asked_letters c.args.given c.args.bytes.now c.args.word.now (limits_of c.args.windows.now) c.in-Made.table
+    c.in-Made.translated c.in-Made.board (asked g c)).0
 
 pub run_board-requires-clause-three : goal.run_board-requires-clause-three
 run_board-requires-clause-three g c =
-    (asked_letters c.args.given c.args.bytes.now c.args.word.now (limits_of c.args.windows.now) c.in-Made.table c.in-Made.translated c.in-Made.board (asked g c)).1
+    (asked_letters c.args.given c.args.bytes.now c.args.word.now (limits_of c.args.windows.now) c.in-Made.table
+    c.in-Made.translated c.in-Made.board (asked g c)).1
 
 pub returns-in-Refused-clause-replied : goal.returns-in-Refused-clause-replied
 returns-in-Refused-clause-replied g c =

@@ -19,7 +19,8 @@ push_end-requires-clause-three c =
 pub returns-in-End : goal.returns-in-End
 returns-in-End c =
     on_ok_weaker c.push_end.result (λ last f layout.
-    end_rest c.args.table.now f c.args.board.now.config c.args.quadruple_steps c.args.board.now.layout c.in_ok-shown.shown layout c.in_ok-shown.ensures c.args.exit
+    end_rest c.args.table.now f c.args.board.now.config c.args.quadruple_steps c.args.board.now.layout
+    c.in_ok-shown.shown layout c.in_ok-shown.ensures c.args.exit
     c.args.text.now.items c.push_end.new.text.items c.in-End.is last) c.push_end.ensures
 
 pub push_tapes-requires : goal.push_tapes-requires
@@ -33,5 +34,6 @@ push_tapes-requires c = record {
 pub returns : goal.returns
 returns c =
     on_ok_weaker c.push_tapes.result (λ last f layout.
-    other_rest c.args.table.now f c.args.board.now.config c.args.quadruple_steps c.args.board.now.layout c.in_ok-shown.shown layout c.in_ok-shown.ensures c.args.exit
+    other_rest c.args.table.now f c.args.board.now.config c.args.quadruple_steps c.args.board.now.layout
+    c.in_ok-shown.shown layout c.in_ok-shown.ensures c.args.exit
     c.args.text.now.items c.push_tapes.new.text.items c.in_default.not-End last) c.push_tapes.ensures

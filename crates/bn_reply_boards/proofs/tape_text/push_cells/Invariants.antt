@@ -4,4 +4,5 @@ use Rattle.bn_reply_boards.proofs.tape_text.push_cells.Given as goal
 
 abbrev pub invariant-loop-cell : goal.invariant-loop-cell
 invariant-loop-cell l =
-    l.initial.text.items ++ cells_text l.table l.tape l.cells ≡ l.text.items ++ cells_text l.table l.tape (drop l.cell-index l.cells)
+    l.initial.text.items ++ cells_text l.table l.tape l.cells ≡ l.text.items
+    ++ cells_text l.table l.tape (drop l.cell-index l.cells)

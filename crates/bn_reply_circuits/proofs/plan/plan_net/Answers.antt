@@ -5,7 +5,8 @@ use Rattle.bn_reply_circuits.proofs.PlanTextLemmas.{floor_lines}
 use Rattle.bn_reply_circuits.proofs.plan.plan_net.Goals as goal
 
 pub plan_text-requires : goal.plan_text-requires
-plan_text-requires c = floor_lines c.args.net.now.wires c.in_ok-plan.plan (net_rotary c.args.net.now c.len.ensures.circuit c.len.ensures.order) c.in_ok-plan.ensures
+plan_text-requires c = floor_lines c.args.net.now.wires c.in_ok-plan.plan
+    (net_rotary c.args.net.now c.len.ensures.circuit c.len.ensures.order) c.in_ok-plan.ensures
 
 pub returns-clause-text : goal.returns-clause-text
 returns-clause-text c = record {

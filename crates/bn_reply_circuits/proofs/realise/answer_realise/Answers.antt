@@ -7,9 +7,12 @@ give-requires g c = c.in-Ok.ensures.writable
 
 pub returns-in-Ok-clause-ends : goal.returns-in-Ok-clause-ends
 returns-in-Ok-clause-ends g c = λ told.
-    will_ends (RealiseReplies c.args.state c.args.line c.args.bytes.now) c.in-Ok.answer c.give.result (g.K.Sink.taken c.args.sink.now)
-    (g.K.Sink.taken c.give.new.sink) (g.K.Sink.faults c.args.sink.now) (g.K.Sink.faults c.give.new.sink) told c.in-Ok.ensures (c.give.ensures.ends told)
+    will_ends (RealiseReplies c.args.state c.args.line c.args.bytes.now) c.in-Ok.answer c.give.result
+    (g.K.Sink.taken c.args.sink.now)
+    (g.K.Sink.taken c.give.new.sink) (g.K.Sink.faults c.args.sink.now) (g.K.Sink.faults c.give.new.sink) told
+    c.in-Ok.ensures (c.give.ensures.ends told)
 
 pub returns-in-Err-clause-ends : goal.returns-in-Err-clause-ends
 returns-in-Err-clause-ends g c = λ told.
-    none_ends (RealiseReplies c.args.state c.args.line c.args.bytes.now) (g.K.Sink.taken c.args.sink.now) (g.K.Sink.faults c.args.sink.now) told
+    none_ends (RealiseReplies c.args.state c.args.line c.args.bytes.now) (g.K.Sink.taken c.args.sink.now)
+    (g.K.Sink.faults c.args.sink.now) told

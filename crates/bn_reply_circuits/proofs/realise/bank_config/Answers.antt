@@ -16,8 +16,11 @@ returns c =
       end =
           c.exit_line-end.result;
     } in
-    let bank = net_spelling c.args.rsm.now c.args.bank spelled c.args.state c.args.line c.requires.is c.into_net.ensures c.in_ok-config.ensures.start refl
+    let bank = net_spelling c.args.rsm.now c.args.bank spelled c.args.state c.args.line c.requires.is c.into_net.ensures
+    c.in_ok-config.ensures.start refl
     c.exit_line-end.ensures in
-    let circuit = net_circuit spelled c.net.result.now (c.net.ensures.net ∙ sym c.into_net.ensures) c.len-count.ensures.circuit in
-    let admitted = bank-Admits c.args.rsm.now c.args.state c.args.line c.requires.state c.requires.line (spelling_of spelled) bank c.requires.few circuit in
+    let circuit = net_circuit spelled c.net.result.now (c.net.ensures.net ∙ sym c.into_net.ensures)
+    c.len-count.ensures.circuit in
+    let admitted = bank-Admits c.args.rsm.now c.args.state c.args.line c.requires.state c.requires.line
+    (spelling_of spelled) bank c.requires.few circuit in
     record { version = refl; bank = bank; admitted = admitted }

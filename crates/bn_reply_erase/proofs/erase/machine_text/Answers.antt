@@ -18,4 +18,5 @@ returns c =
     let same = c.machine-2.ensures.value ∙ c.machine.ensures.value in
     let named = ap (λ n. lines_of (quadruple_rows_by n e.machine.rules)) c.in_ok-names.ensures.names in
     let quads = ap (λ m. lines_of (quadruple_rows_by c.in_ok-names.names m.rules)) same in
-    IfOk-weaker c.write_quads.result _ _ (λ text written. written ∙ quads ∙ named ∙ erased_text c.args.joined.now e c.requires) c.write_quads.ensures.text
+    IfOk-weaker c.write_quads.result _ _ (λ text written. written ∙ quads ∙ named
+    ∙ erased_text c.args.joined.now e c.requires) c.write_quads.ensures.text

@@ -13,21 +13,29 @@ use Rattle.bn_reply_erase.proofs.erase.reply_erase_run.Goals as goal
 
 pub returns-in-Refused : goal.returns-in-Refused
 returns-in-Refused c =
-    let tells : Named → Named → Status → List ℕ → List Place → Type 0 = λ t u. WordReplies (LongReplies (joined t u) c.args.steps) (lettered (joined t u)) c.args.word.now in
-    refused_replies tells c.args.bytes.now c.in-Refused.reply (subst (IsOpenedPair c.args.bytes.now) c.in-Refused.is c.in_ok-reply.ensures)
+    let tells : Named → Named → Status → List ℕ → List Place → Type 0 =
+    λ t u. WordReplies (LongReplies (joined t u) c.args.steps) (lettered (joined t u)) c.args.word.now in
+    refused_replies tells c.args.bytes.now c.in-Refused.reply (subst (IsOpenedPair c.args.bytes.now) c.in-Refused.is
+    c.in_ok-reply.ensures)
 
 pub returns-in-Refused-2 : goal.returns-in-Refused-2
 returns-in-Refused-2 c =
-    let tells : Named → Named → Status → List ℕ → List Place → Type 0 = λ t u. WordReplies (LongReplies (joined t u) c.args.steps) (lettered (joined t u)) c.args.word.now in
+    let tells : Named → Named → Status → List ℕ → List Place → Type 0 =
+    λ t u. WordReplies (LongReplies (joined t u) c.args.steps) (lettered (joined t u)) c.args.word.now in
     let j : Joint = c.in-Joined.joined in
-    let pair = pair_of c.args.bytes.now j (subst (IsOpenedPair c.args.bytes.now) c.in-Joined.is c.in_ok-reply.ensures) in
-    unfit_replies tells c.args.bytes.now j pair c.in-Refused-2.reply (subst (IsJudgedPair j) c.in-Refused-2.is c.in_ok-reply-in-Joined.ensures)
+    let pair = pair_of c.args.bytes.now j (subst (IsOpenedPair c.args.bytes.now) c.in-Joined.is c.in_ok-reply.ensures)
+    in
+    unfit_replies tells c.args.bytes.now j pair c.in-Refused-2.reply
+    (subst (IsJudgedPair j) c.in-Refused-2.is c.in_ok-reply-in-Joined.ensures)
 
 pub returns : goal.returns
 returns c =
-    let tells : Named → Named → Status → List ℕ → List Place → Type 0 = λ t u. WordReplies (LongReplies (joined t u) c.args.steps) (lettered (joined t u)) c.args.word.now in
+    let tells : Named → Named → Status → List ℕ → List Place → Type 0 =
+    λ t u. WordReplies (LongReplies (joined t u) c.args.steps) (lettered (joined t u)) c.args.word.now in
     let j : Joint = c.in-Joined.joined in
-    let pair = pair_of c.args.bytes.now j (subst (IsOpenedPair c.args.bytes.now) c.in-Joined.is c.in_ok-reply.ensures) in
+    let pair = pair_of c.args.bytes.now j (subst (IsOpenedPair c.args.bytes.now) c.in-Joined.is c.in_ok-reply.ensures)
+    in
     let judged = subst (IsJudgedPair j) c.in-Standard.is c.in_ok-reply-in-Joined.ensures in
     fit_replies tells c.args.bytes.now j pair c.reply_word.result judged.2 judged.3
-    (subst (λ (k : Joint). IfOk c.reply_word.result (λ r. WordReplies (LongReplies k c.args.steps) (lettered k) c.args.word.now r.status r.text.items [])) pair.same c.reply_word.ensures)
+    (subst (λ (k : Joint). IfOk c.reply_word.result (λ r. WordReplies (LongReplies k c.args.steps) (lettered k)
+    c.args.word.now r.status r.text.items [])) pair.same c.reply_word.ensures)

@@ -17,5 +17,7 @@ pub returns-in-Symbols : goal.returns-in-Symbols
 returns-in-Symbols c =
     let j = c.args.joined.now in
     let spelled = subst (IsOpenedWord (lettered j) c.args.word.now) c.in-Symbols.is c.in_ok-reply.ensures in
-    let answered = subst (λ xs. IfOk c.reply_symbols.result (λ r. LongReplies j c.args.steps xs r.status r.text.items [])) c.as_slice.ensures.value c.reply_symbols.ensures in
-    spelled_replies (LongReplies j c.args.steps) (lettered j) c.args.word.now c.in-Symbols.symbols.items c.reply_symbols.result spelled answered
+    let answered = subst (λ xs. IfOk c.reply_symbols.result (λ r. LongReplies j c.args.steps xs r.status r.text.items
+    [])) c.as_slice.ensures.value c.reply_symbols.ensures in
+    spelled_replies (LongReplies j c.args.steps) (lettered j) c.args.word.now c.in-Symbols.symbols.items
+    c.reply_symbols.result spelled answered

@@ -7,4 +7,5 @@ pub loop-symbol-preserved : goal.loop-symbol-preserved
 loop-symbol-preserved c =
     c.in_ok-push.ensures.items
     ∙ ap (λ (front : List ℕ). front ++ c.letter.result ∷ []) c.loop-symbol.invariant
-    ∙ letters_of-next (lettered c.args.joined.now) c.args.text.now.items c.args.symbols.now c.loop-symbol.symbol-index c.letter.result (omega arith) c.letter.ensures
+    ∙ letters_of-next (lettered c.args.joined.now) c.args.text.now.items c.args.symbols.now c.loop-symbol.symbol-index
+    c.letter.result (omega arith) c.letter.ensures

@@ -5,4 +5,5 @@ use Rattle.bn_reply_layout.specs.ControlText.{control_line_line}
 use Rattle.bn_reply_layout.proofs.control_text.push_control_lines.Given as goal
 
 abbrev pub invariant-loop-line : goal.invariant-loop-line
-invariant-loop-line l = l.text.items ≡ l.initial.text.items ++ flat_map (control_line_line (symbols_of l.table.machine)) (range_with_len 0 l.line)
+invariant-loop-line l = l.text.items ≡ l.initial.text.items ++ flat_map (control_line_line (symbols_of l.table.machine))
+    (range_with_len 0 l.line)

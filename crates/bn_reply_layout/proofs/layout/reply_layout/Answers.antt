@@ -20,7 +20,8 @@ layout_text-requires-clause-translation c =
     let t = c.in-Made.table in
     let m = c.in-Made.translated in
     let b = c.in-Made._board in
-    let asked : IsBoardAsked c.args.bytes.now c.args.word.now l t m b = subst (IsOpenedInput c.args.bytes.now c.args.word.now l) c.in-Made.is c.in_ok-reply.ensures in
+    let asked : IsBoardAsked c.args.bytes.now c.args.word.now l t m b =
+    subst (IsOpenedInput c.args.bytes.now c.args.word.now l) c.in-Made.is c.in_ok-reply.ensures in
     translates t l asked.symbols asked.flat m b asked.made
 
 pub layout_text-requires-clause-few : goal.layout_text-requires-clause-few
@@ -29,8 +30,10 @@ layout_text-requires-clause-few c =
     let t = c.in-Made.table in
     let m = c.in-Made.translated in
     let b = c.in-Made._board in
-    let asked : IsBoardAsked c.args.bytes.now c.args.word.now l t m b = subst (IsOpenedInput c.args.bytes.now c.args.word.now l) c.in-Made.is c.in_ok-reply.ensures in
-    few_states t l asked.symbols asked.flat m b asked.made (board_accepted c.args.bytes.now c.args.word.now l t m b asked)
+    let asked : IsBoardAsked c.args.bytes.now c.args.word.now l t m b =
+    subst (IsOpenedInput c.args.bytes.now c.args.word.now l) c.in-Made.is c.in_ok-reply.ensures in
+    few_states t l asked.symbols asked.flat m b asked.made (board_accepted c.args.bytes.now c.args.word.now l t m b
+    asked)
 
 pub returns-in_ok-layout_text-in-Made : goal.returns-in_ok-layout_text-in-Made
 returns-in_ok-layout_text-in-Made c =
@@ -38,6 +41,13 @@ returns-in_ok-layout_text-in-Made c =
     let t = c.in-Made.table in
     let m = c.in-Made.translated in
     let b = c.in-Made._board in
-    let asked : IsBoardAsked c.args.bytes.now c.args.word.now l t m b = subst (IsOpenedInput c.args.bytes.now c.args.word.now l) c.in-Made.is c.in_ok-reply.ensures in
-    board_replies TellsLayout c.args.bytes.now c.args.word.now l t m b asked Done c.in_ok-layout_text-in-Made.field-0.items []
-    (record { text_is = c.in_ok-layout_text-in-Made.ensures asked.flat (has_numbers t l asked.symbols asked.flat m b asked.made); done = refl; silent = refl })
+    let asked : IsBoardAsked c.args.bytes.now c.args.word.now l t m b =
+    subst (IsOpenedInput c.args.bytes.now c.args.word.now l) c.in-Made.is c.in_ok-reply.ensures in
+    board_replies TellsLayout c.args.bytes.now c.args.word.now l t m b asked Done
+    c.in_ok-layout_text-in-Made.field-0.items []
+    (record {
+      text_is = c.in_ok-layout_text-in-Made.ensures asked.flat
+          (has_numbers t l asked.symbols asked.flat m b asked.made);
+      done = refl;
+      silent = refl;
+    })

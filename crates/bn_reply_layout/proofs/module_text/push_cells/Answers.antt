@@ -15,7 +15,8 @@ loop-cell-init c =
 pub loop-cell-preserved : goal.loop-cell-preserved
 loop-cell-preserved c =
     let r = c.args.row.now in
-    line_more (λ j. module_line (cell_bank r.tape r.symbols r.left r.number r.first j)) c.loop-cell.cell c.args.text.now.items c.loop-cell.text.items c.push_module.new.text.items c.loop-cell.invariant
+    line_more (λ j. module_line (cell_bank r.tape r.symbols r.left r.number r.first j)) c.loop-cell.cell
+    c.args.text.now.items c.loop-cell.text.items c.push_module.new.text.items c.loop-cell.invariant
     (c.in_ok-push_module.ensures ∙ ap (λ (b : Bank). c.loop-cell.text.items ++ module_line b) c.bank_of-bank.ensures)
 
 pub returns : goal.returns
@@ -23,5 +24,7 @@ returns c =
     let r = c.args.row.now in
     let bank : ℕ → Bank = cell_bank r.tape r.symbols r.left r.number r.first in
     let end : c.loop-cell.cell ≡ r.count = omega arith in
-    c.loop-cell.invariant ∙ ap (λ n. c.args.text.now.items ++ flat_map (λ j. module_line (cell_bank r.tape r.symbols r.left r.number r.first j)) (range_with_len 0 n)) end
-    ∙ ap (λ l. c.args.text.now.items ++ l) (sym (flat_map-map module_line (cell_bank r.tape r.symbols r.left r.number r.first) (range_with_len 0 r.count)))
+    c.loop-cell.invariant ∙ ap (λ n. c.args.text.now.items ++ flat_map
+    (λ j. module_line (cell_bank r.tape r.symbols r.left r.number r.first j)) (range_with_len 0 n)) end
+    ∙ ap (λ l. c.args.text.now.items ++ l) (sym (flat_map-map module_line
+    (cell_bank r.tape r.symbols r.left r.number r.first) (range_with_len 0 r.count)))

@@ -7,4 +7,5 @@ use Rattle.bn_reply_layout.proofs.module_text.push_cells.Given as goal
 abbrev pub invariant-loop-cell : goal.invariant-loop-cell
 invariant-loop-cell l =
     l.text.items ≡ l.initial.text.items
-    ++ flat_map (λ j. module_line (cell_bank l.row.tape l.row.symbols l.row.left l.row.number l.row.first j)) (range_with_len 0 l.cell)
+    ++ flat_map (λ j. module_line (cell_bank l.row.tape l.row.symbols l.row.left l.row.number l.row.first j))
+    (range_with_len 0 l.cell)

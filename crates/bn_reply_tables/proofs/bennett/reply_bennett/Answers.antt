@@ -9,4 +9,5 @@ use Rattle.bn_reply_tables.proofs.bennett.reply_bennett.Goals as goal
 pub returns-in-Read : goal.returns-in-Read
 returns-in-Read c =
     let reads = subst (IsOpenedTable c.args.bytes.now) c.in-Read.is c.in_ok-reply.ensures in
-    read_replies (λ t. JudgedReplies (IsDone (bennett_text t)) t) c.args.bytes.now c.in-Read.table c.translate_table.result reads c.translate_table.ensures
+    read_replies (λ t. JudgedReplies (IsDone (bennett_text t)) t) c.args.bytes.now c.in-Read.table
+    c.translate_table.result reads c.translate_table.ensures

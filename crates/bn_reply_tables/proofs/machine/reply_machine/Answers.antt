@@ -8,5 +8,6 @@ use Rattle.bn_reply_tables.proofs.machine.reply_machine.Goals as goal
 pub returns-in-Read : goal.returns-in-Read
 returns-in-Read c =
     let reads = subst (IsOpenedTable c.args.bytes.now) c.in-Read.is c.in_ok-reply.ensures in
-    read_replies (λ t. JudgedReplies (WordReplies (TellsMachineRun t c.args.steps) t c.args.word.now) t) c.args.bytes.now c.in-Read.table c.run_table.result reads
+    read_replies (λ t. JudgedReplies (WordReplies (TellsMachineRun t c.args.steps) t c.args.word.now) t)
+    c.args.bytes.now c.in-Read.table c.run_table.result reads
     c.run_table.ensures

@@ -13,7 +13,8 @@ use Rattle.bn_reply_tables.proofs.machine.reply_word.Goals as goal
 pub returns-in-Refused : goal.returns-in-Refused
 returns-in-Refused c =
     let refused = subst (IsOpenedWord c.args.table.now c.args.word.now) c.in-Refused.is c.in_ok-reply.ensures in
-    foreign_replies (TellsMachineRun c.args.table.now c.args.steps) c.args.table.now c.args.word.now c.in-Refused.reply refused
+    foreign_replies (TellsMachineRun c.args.table.now c.args.steps) c.args.table.now c.args.word.now c.in-Refused.reply
+    refused
 
 pub reply_ended-requires : goal.reply_ended-requires
 reply_ended-requires c =
@@ -24,7 +25,8 @@ reply_ended-requires c =
     (ending_of e.ending)) c.as_slice.ensures.value c.in_ok-ended-in-Symbols.ensures in
     let ending : HasEnding c.args.table.now.machine symbols c.args.steps e.steps (ending_of e.ending) = subst
     (λ (p : Program). HasEnding p symbols c.args.steps e.steps (ending_of e.ending)) c.machine.ensures.value run in
-    ending_fits c.args.table.now c.args.word.now symbols c.args.steps e.steps e.ending c.machine.ensures.valid spelled ending
+    ending_fits c.args.table.now c.args.word.now symbols c.args.steps e.steps e.ending c.machine.ensures.valid spelled
+    ending
 
 pub returns-in_ok-ended-in-Symbols : goal.returns-in_ok-ended-in-Symbols
 returns-in_ok-ended-in-Symbols c =
@@ -34,6 +36,8 @@ returns-in_ok-ended-in-Symbols c =
     let e = c.in_ok-ended-in-Symbols.ended in
     let run = subst (λ xs. HasEnding c.machine.result.now xs c.args.steps e.steps
     (ending_of e.ending)) c.as_slice.ensures.value c.in_ok-ended-in-Symbols.ensures in
-    let ending = subst (λ (p : Program). HasEnding p symbols c.args.steps e.steps (ending_of e.ending)) c.machine.ensures.value run in
+    let ending = subst (λ (p : Program). HasEnding p symbols c.args.steps e.steps (ending_of e.ending))
+    c.machine.ensures.value run in
     spelled_replies (TellsMachineRun t c.args.steps) t c.args.word.now symbols c.reply_ended.result spelled
-    (ended_tells t c.args.steps symbols e.steps (ending_of e.ending) c.reply_ended.result ending c.reply_ended.ensures.status c.reply_ended.ensures.text)
+    (ended_tells t c.args.steps symbols e.steps (ending_of e.ending) c.reply_ended.result ending
+    c.reply_ended.ensures.status c.reply_ended.ensures.text)

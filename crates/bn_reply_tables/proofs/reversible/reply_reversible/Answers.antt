@@ -6,7 +6,8 @@ use Rattle.bn_reply_tables.specs.ReversibleReply.{judged, faulty}
 use Rattle.bn_reply_tables.proofs.reversible.reply_reversible.Goals as goal
 
 pub returns-in-Ok : goal.returns-in-Ok
-returns-in-Ok c = judged (table_of c.in-Ok.machine c.in-Ok.field-0-1) c.in-Ok.ensures.ok c.in_ok-verdicts_text-in-Ok.ensures refl refl
+returns-in-Ok c = judged (table_of c.in-Ok.machine c.in-Ok.field-0-1) c.in-Ok.ensures.ok
+    c.in_ok-verdicts_text-in-Ok.ensures refl refl
 
 pub returns : goal.returns
 returns c =

@@ -7,4 +7,5 @@ use Rattle.bn_reply_tables.proofs.standard.reply_standard.Goals as goal
 pub returns-in-Read : goal.returns-in-Read
 returns-in-Read c =
     let reads = subst (IsOpenedTable c.args.bytes.now) c.in-Read.is c.in_ok-reply.ensures in
-    read_replies TellsStandard c.args.bytes.now c.in-Read.table c.standardise_table.result reads c.standardise_table.ensures
+    read_replies TellsStandard c.args.bytes.now c.in-Read.table c.standardise_table.result reads
+    c.standardise_table.ensures

@@ -26,4 +26,5 @@ returns-in-Ok-Refused-clause-ends g c = λ told.
     silent_ends (MomentsReplies c.args.word.now n c.args.bytes.now) (Ok c.in-Ok-Refused.reply)
     c.give_reply.result (g.K.Sink.taken c.args.sink.now) (g.K.Sink.taken c.give_reply.new.sink)
     (g.K.Sink.faults c.args.sink.now) (g.K.Sink.faults c.give_reply.new.sink) told
-    (refused _ c.args.bytes.now c.in-Ok-Refused.reply.status c.in-Ok-Refused.reply.text.items [] opened) c.give_reply.ensures.ends
+    (refused _ c.args.bytes.now c.in-Ok-Refused.reply.status c.in-Ok-Refused.reply.text.items [] opened)
+    c.give_reply.ensures.ends

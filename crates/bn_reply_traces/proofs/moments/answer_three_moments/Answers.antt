@@ -16,7 +16,8 @@ returns-in-Ok-Read-clause-ends g c = λ told.
     ends_as (TapeWordReplies (tape_foreign_line 1) (λ (one : List ℕ). TapeWordReplies (tape_foreign_line 2)
     (λ (two : List ℕ). TapeWordReplies (tape_foreign_line 3) (λ (three : List ℕ). TellsMoments t n one two three)
     t.names.three c.args.third.now) t.names.two c.args.second.now) t.names.one c.args.first.now)
-    (ThreeMomentsReplies c.args.first.now c.args.second.now c.args.third.now n c.args.bytes.now) (λ status text places h. passes t opened.0 opened.1 opened.2 h)
+    (ThreeMomentsReplies c.args.first.now c.args.second.now c.args.third.now n c.args.bytes.now)
+    (λ status text places h. passes t opened.0 opened.1 opened.2 h)
     (g.K.Sink.taken c.args.sink.now) (g.K.Sink.taken c.answer_first.new.sink) told told c.answer_first.result
     (g.K.Sink.faults c.args.sink.now) (g.K.Sink.faults c.answer_first.new.sink) (c.answer_first.ensures.ends told)
 
@@ -24,7 +25,9 @@ pub returns-in-Ok-Refused-clause-ends : goal.returns-in-Ok-Refused-clause-ends
 returns-in-Ok-Refused-clause-ends g c = λ told.
     let n = c.args.most_steps in
     let opened = subst (AreOpenedQuads c.args.bytes.now) c.in-Ok-Refused.field-0-is c.in-Ok-Refused.ensures in
-    silent_ends (ThreeMomentsReplies c.args.first.now c.args.second.now c.args.third.now n c.args.bytes.now) (Ok c.in-Ok-Refused.reply)
+    silent_ends (ThreeMomentsReplies c.args.first.now c.args.second.now c.args.third.now n c.args.bytes.now)
+    (Ok c.in-Ok-Refused.reply)
     c.give_reply.result (g.K.Sink.taken c.args.sink.now) (g.K.Sink.taken c.give_reply.new.sink)
     (g.K.Sink.faults c.args.sink.now) (g.K.Sink.faults c.give_reply.new.sink) told
-    (refused _ c.args.bytes.now c.in-Ok-Refused.reply.status c.in-Ok-Refused.reply.text.items [] opened) c.give_reply.ensures.ends
+    (refused _ c.args.bytes.now c.in-Ok-Refused.reply.status c.in-Ok-Refused.reply.text.items [] opened)
+    c.give_reply.ensures.ends

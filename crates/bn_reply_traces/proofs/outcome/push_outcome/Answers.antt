@@ -14,7 +14,8 @@ returns c = λ e out.
     let s = c.args.stage.now in
     let none : is_some c.args.rule ≡ false = search rules in
     let going : s.state ≢ final_of t.machine.quints = search rules in
-    let name : c.state_name.result.now ≡ slice_index_or t.names s.state [] = sym (get_or_from_slice_get t.names s.state c.state_name.result.now [] c.state_name.ensures) in
+    let name : c.state_name.result.now ≡ slice_index_or t.names s.state [] =
+    sym (get_or_from_slice_get t.names s.state c.state_name.result.now [] c.state_name.ensures) in
     let whole = five_pieces c.args.text.now.items (codes "stuck ") (slice_index_or t.names s.state []) (codes " ")
     (letters_of t (scanned s.tape.tape ∷ [])) (codes " " ++ (decimal c.args.made ++ 10 ∷ []))
     c.push.new.text.items c.push-2.new.text.items c.push-3.new.text.items c.push_letters.new.text.items

@@ -57,18 +57,23 @@ returns c = λ x at.
     in
     let one = tape_told t.names.one c.symbols.result c.symbols.ensures x.one c.push-2.new.text.items
     c.push_numbered.new.text.items (codes " tape 1") (c.in_ok-push_numbered.ensures n i x.one
-    (stage_named t.names.one c.symbols.result c.symbols.ensures r.words.one.now n i s.tapes.one s.extents.one x.one at.one))
+    (stage_named t.names.one c.symbols.result c.symbols.ensures r.words.one.now n i s.tapes.one s.extents.one x.one
+    at.one))
     in
     let two = tape_told t.names.two c.symbols-2.result c.symbols-2.ensures x.two c.push_numbered.new.text.items
     c.push_numbered-2.new.text.items (codes " tape 2") (c.in_ok-push_numbered-2.ensures n i x.two
-    (stage_named t.names.two c.symbols-2.result c.symbols-2.ensures r.words.two.now n i s.tapes.two s.extents.two x.two at.two))
+    (stage_named t.names.two c.symbols-2.result c.symbols-2.ensures r.words.two.now n i s.tapes.two s.extents.two x.two
+    at.two))
     in
     on_ok_weaker c.push_numbered-3.result (λ last.
     configuration_pushed t i x c.state.result.now c.args.text.now.items c.push_u64.new.out.items c.push.new.text.items
-    c.push-2.new.text.items c.push_numbered.new.text.items c.push_numbered-2.new.text.items c.push_numbered-3.new.text.items
-    name (c.in_ok-push_u64.ensures.ok ∙ ap (λ (k : ℕ). c.args.text.now.items ++ decimal k) c.from.ensures) c.in_ok-push.ensures c.in_ok-push-2.ensures one two
+    c.push-2.new.text.items c.push_numbered.new.text.items c.push_numbered-2.new.text.items
+    c.push_numbered-3.new.text.items
+    name (c.in_ok-push_u64.ensures.ok ∙ ap (λ (k : ℕ). c.args.text.now.items ++ decimal k) c.from.ensures)
+    c.in_ok-push.ensures c.in_ok-push-2.ensures one two
     (tape_told t.names.three c.symbols-3.result c.symbols-3.ensures x.three c.push_numbered-2.new.text.items
     c.push_numbered-3.new.text.items (codes " tape 3") last))
     (c.push_numbered-3.ensures n i x.three
-    (stage_named t.names.three c.symbols-3.result c.symbols-3.ensures r.words.three.now n i s.tapes.three s.extents.three x.three
+    (stage_named t.names.three c.symbols-3.result c.symbols-3.ensures r.words.three.now n i s.tapes.three
+    s.extents.three x.three
     at.three))

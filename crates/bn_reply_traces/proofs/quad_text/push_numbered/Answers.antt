@@ -12,12 +12,14 @@ push_tape-requires-clause-few c = c.requires.3.few
 
 pub push_tape-requires-clause-within : goal.push_tape-requires-clause-within
 push_tape-requires-clause-within c =
-    tape_within (length c.args.names.now) c.args.word.now c.requires.0 c.requires.1 c.args.tape.now c.args.extent c.requires.2
+    tape_within (length c.args.names.now) c.args.word.now c.requires.0 c.requires.1 c.args.tape.now c.args.extent
+    c.requires.2
     c.requires.3
 
 pub push_tape-requires-clause-below : goal.push_tape-requires-clause-below
 push_tape-requires-clause-below c =
-    tape_below (length c.args.names.now) c.args.word.now c.requires.0 c.requires.1 c.args.tape.now c.args.extent c.requires.2
+    tape_below (length c.args.names.now) c.args.word.now c.requires.0 c.requires.1 c.args.tape.now c.args.extent
+    c.requires.2
     c.requires.3
 
 pub returns : goal.returns
@@ -36,5 +38,6 @@ returns c = λ n i t at.
         counted = many.1;
         is = refl;
       },
-      last ∙ ap (λ (z : List ℕ). z ++ shown) c.in_ok-push.ensures ∙ append_assoc c.args.text.now.items c.args.number.now shown,
+      last ∙ ap (λ (z : List ℕ). z ++ shown) c.in_ok-push.ensures
+          ∙ append_assoc c.args.text.now.items c.args.number.now shown,
     )) (c.push_tape.ensures t many.0 at.tape many.1)

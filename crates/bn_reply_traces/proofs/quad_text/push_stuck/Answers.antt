@@ -21,10 +21,12 @@ returns c = λ x at.
     ∙ ap (name_in t.names.states) (sym at.state)
     in
     let scan1 : c.scanned.result ≡ scanned x.one =
-    c.scanned.ensures ∙ sym (scans_alike (length t.names.one) r.words.one.now n i s.tapes.one s.extents.one x.one at.one)
+    c.scanned.ensures ∙ sym (scans_alike (length t.names.one) r.words.one.now n i s.tapes.one s.extents.one x.one
+    at.one)
     in
     let scan2 : c.scanned-2.result ≡ scanned x.two =
-    c.scanned-2.ensures ∙ sym (scans_alike (length t.names.two) r.words.two.now n i s.tapes.two s.extents.two x.two at.two)
+    c.scanned-2.ensures ∙ sym (scans_alike (length t.names.two) r.words.two.now n i s.tapes.two s.extents.two x.two
+    at.two)
     in
     let scan3 : c.scanned-3.result ≡ scanned x.three =
     c.scanned-3.ensures
@@ -43,7 +45,8 @@ returns c = λ x at.
     nine_pieces c.args.text.now.items (codes "stuck ") (name_in t.names.states x.state) (codes " ")
     (name_in t.names.one (scanned x.one)) (codes " ") (name_in t.names.two (scanned x.two)) (codes " ")
     (name_in t.names.three (scanned x.three)) (codes " " ++ (decimal i ++ 10 ∷ []))
-    c.push.new.text.items c.push-2.new.text.items c.push-3.new.text.items c.push_symbol.new.text.items c.push-4.new.text.items
+    c.push.new.text.items c.push-2.new.text.items c.push-3.new.text.items c.push_symbol.new.text.items
+    c.push-4.new.text.items
     c.push_symbol-2.new.text.items c.push-5.new.text.items c.push_symbol-3.new.text.items c.push_counted.new.text.items
     c.in_ok-push.ensures (c.in_ok-push-2.ensures ∙ ap (λ (z : List ℕ). c.push.new.text.items ++ z) name)
     c.in_ok-push-3.ensures (c.in_ok-push_symbol.ensures ∙ ap (λ (z : List ℕ). c.push-3.new.text.items ++ z) one)

@@ -21,12 +21,23 @@ loop-index-preserved g c = λ t s.
     let f = to_z-of_z w64 first (search rules) in
     let short : i < count = c.loop-index-test.true in
     let windowed = c.head-head.ensures.valid in
-    let small : i < 2 ^ 63 = omega (arith, ints, short, windowed.left_side, windowed.right_side, c.requires.few, c.requires.begins.le, c.requires.ends.le) in
+    let small : i < 2 ^ 63 = omega (
+      arith,
+      ints,
+      short,
+      windowed.left_side,
+      windowed.right_side,
+      c.requires.few,
+      c.requires.begins.le,
+      c.requires.ends.le,
+    ) in
     let n = to_z_pos w64 i small in
     let z = to_z-of_z w64 (first +ℤ pos i) (search rules) in
-    rw add-one (cell_pushed (g.L.Spells.name c.args.names.now) (cell t) (to_z w64 (of_z w64 c.args.first)) _ c.loop-index.index
+    rw add-one (cell_pushed (g.L.Spells.name c.args.names.now) (cell t) (to_z w64 (of_z w64 c.args.first)) _
+    c.loop-index.index
     c.symbol_at.result c.args.text.now.items c.loop-index.text.items c.push.new.text.items c.push_symbol.new.text.items
-    (c.loop-index.invariant t s) c.in_ok-push.ensures c.in_ok-push_symbol.ensures (c.symbol_at.ensures.value t s) (rw (f, n) z))
+    (c.loop-index.invariant t s) c.in_ok-push.ensures c.in_ok-push_symbol.ensures (c.symbol_at.ensures.value t s)
+    (rw (f, n) z))
 
 pub returns : goal.returns
 returns g c = λ t s.

@@ -25,4 +25,5 @@ returns g c = λ t count s counted.
     c.push-3.new.text.items c.push_u64.new.out.items c.push-4.new.text.items c.push_cells.new.text.items
     c.in_ok-push.ensures (rw (sym f) c.in_ok-push_position.ensures) c.in_ok-push-2.ensures
     (rw (sym head, sym h) c.in_ok-push_position-2.ensures) c.in_ok-push-3.ensures
-    (rw (sym same) c.in_ok-push_u64.ensures.ok) c.in_ok-push-4.ensures (rw (sym same, sym f) last)) (c.push_cells.ensures t s)
+    (rw (sym same) c.in_ok-push_u64.ensures.ok) c.in_ok-push-4.ensures (rw (sym same, sym f) last))
+    (c.push_cells.ensures t s)

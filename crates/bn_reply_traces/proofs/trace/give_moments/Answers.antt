@@ -6,13 +6,17 @@ use Rattle.bn_machine.specs.Machine.{IsLeaving, Program}
 use Rattle.bn_machine.specs.Tape.{scanned}
 use Rattle.bn_reply_traces.specs.Stages.{AreTold, IsRule, IsStageAfter}
 use Rattle.bn_reply_traces.specs.declared.trace.Unfinished.TheVariants.{WriteFault}
-use Rattle.bn_reply_traces.proofs.MomentLemmas.{moment_cut, moment_told, none_of, showable, some_of, stays_inside, told_none}
+use Rattle.bn_reply_traces.proofs.MomentLemmas.{moment_cut, moment_told, none_of, showable, some_of, stays_inside}
+use Rattle.bn_reply_traces.proofs.MomentLemmas.{told_none}
 use Rattle.bn_reply_traces.proofs.trace.give_moments.Goals as goal
 
 pub loop-steps-init : goal.loop-steps-init
 loop-steps-init g c =
-    let t = c.args.table.now in
-    (told_none t c.args.word.now (g.K.Sink.taken c.args.sink.now) c.args.text.now.items c.requires.empty, c.requires.start, omega arith)
+    let t = c.args.table.now in (
+      told_none t c.args.word.now (g.K.Sink.taken c.args.sink.now) c.args.text.now.items c.requires.empty,
+      c.requires.start,
+      omega arith,
+    )
 
 pub tell_moment-requires-clause-stage : goal.tell_moment-requires-clause-stage
 tell_moment-requires-clause-stage g c =
@@ -36,7 +40,8 @@ returns-in_err-rule-clause-write_fault g c = λ is.
     let told = subst (λ r. IsErrOf r WriteFault) p.1 is in
     let failed : p.0 ≡ WriteFault = cc told in
     Rose-late (g.K.Sink.faults c.args.sink.now) (g.K.Sink.faults c.loop-steps.sink)
-    (g.K.Sink.faults c.tell_moment.new.sink) c.loop-steps.invariant.2 (c.in_err-rule.ensures.write_fault (ap (λ z. Err z) (sym p.2 ∙ failed)))
+    (g.K.Sink.faults c.tell_moment.new.sink) c.loop-steps.invariant.2
+    (c.in_err-rule.ensures.write_fault (ap (λ z. Err z) (sym p.2 ∙ failed)))
 
 pub returns-then-is_none-clause-told : goal.returns-then-is_none-clause-told
 returns-then-is_none-clause-told g c =
@@ -69,7 +74,8 @@ go_on-requires-clause-stays g c =
     let stays = stays_inside c.args.table.now c.args.word.now c.args.most_steps c.loop-steps.steps c.loop-steps.stage
     c.requires.few (omega (arith, c.loop-steps-test.true)) c.loop-steps.invariant.1
     in
-    λ side leaving. stays side (subst (λ (p : Program). IsLeaving p c.loop-steps.stage.state c.loop-steps.stage.tape side)
+    λ side leaving. stays side (subst (λ (p : Program). IsLeaving p c.loop-steps.stage.state c.loop-steps.stage.tape
+    side)
     c.machine.ensures.value leaving)
 
 pub loop-steps-preserved : goal.loop-steps-preserved
@@ -99,7 +105,8 @@ returns-in_err-rule-2-clause-front g c =
     (subst (λ k. IsStageAfter c.args.table.now c.args.word.now n k c.loop-steps.stage) all i.1)
     (g.K.Sink.taken c.args.sink.now) (g.K.Sink.taken c.loop-steps.sink) (g.K.Sink.taken c.tell_moment-2.new.sink)
     c.loop-steps.text.items
-    (subst (λ k. AreTold c.args.table.now c.args.word.now (g.K.Sink.taken c.args.sink.now) (g.K.Sink.taken c.loop-steps.sink)
+    (subst (λ k. AreTold c.args.table.now c.args.word.now (g.K.Sink.taken c.args.sink.now)
+    (g.K.Sink.taken c.loop-steps.sink)
     c.loop-steps.text.items k) all i.0) (omega arith) c.in_err-rule-2.ensures.front)
 
 pub returns-in_err-rule-2-clause-later : goal.returns-in_err-rule-2-clause-later
@@ -111,7 +118,8 @@ returns-in_err-rule-2-clause-write_fault g c = λ is.
     let told = subst (λ r. IsErrOf r WriteFault) p.1 is in
     let failed : p.0 ≡ WriteFault = cc told in
     Rose-late (g.K.Sink.faults c.args.sink.now) (g.K.Sink.faults c.loop-steps.sink)
-    (g.K.Sink.faults c.tell_moment-2.new.sink) c.loop-steps.invariant.2 (c.in_err-rule-2.ensures.write_fault (ap (λ z. Err z) (sym p.2 ∙ failed)))
+    (g.K.Sink.faults c.tell_moment-2.new.sink) c.loop-steps.invariant.2
+    (c.in_err-rule-2.ensures.write_fault (ap (λ z. Err z) (sym p.2 ∙ failed)))
 
 pub returns-clause-told : goal.returns-clause-told
 returns-clause-told g c =
@@ -122,7 +130,8 @@ returns-clause-told g c =
     (subst (λ k. IsStageAfter c.args.table.now c.args.word.now n k c.loop-steps.stage) all i.1)
     (g.K.Sink.taken c.args.sink.now) (g.K.Sink.taken c.loop-steps.sink) (g.K.Sink.taken c.tell_moment-2.new.sink)
     c.loop-steps.text.items
-    (subst (λ k. AreTold c.args.table.now c.args.word.now (g.K.Sink.taken c.args.sink.now) (g.K.Sink.taken c.loop-steps.sink)
+    (subst (λ k. AreTold c.args.table.now c.args.word.now (g.K.Sink.taken c.args.sink.now)
+    (g.K.Sink.taken c.loop-steps.sink)
     c.loop-steps.text.items k) all i.0) c.tell_moment-2.new.text.items c.in_ok-rule-2.rule c.in_ok-rule-2.ensures.rule
     c.in_ok-rule-2.ensures.told
 
@@ -131,7 +140,8 @@ returns-clause-at g c =
     let n = c.args.most_steps in
     let all : c.loop-steps.steps ≡ n = omega (arith, c.loop-steps-test.false, c.loop-steps.auto.steps-end) in
     record {
-      stage = subst (λ k. IsStageAfter c.args.table.now c.args.word.now n k c.loop-steps.stage) all c.loop-steps.invariant.1;
+      stage = subst (λ k. IsStageAfter c.args.table.now c.args.word.now n k c.loop-steps.stage) all
+          c.loop-steps.invariant.1;
       next = c.in_ok-rule-2.ensures.rule;
       in_time = omega arith;
       early = λ h. absurd (omega (arith, h));

@@ -21,7 +21,8 @@ give_moments-requires-clause-start g c = c.in-Ok.ensures c.args.table.now (sym c
 pub give_outcome-requires-clause-state : goal.give_outcome-requires-clause-state
 give_outcome-requires-clause-state g c =
     let few : length c.args.word.now < 2 ^ 62 = search rules in
-    let word = word_of c.args.table.now c.requires.spelled.0 c.args.word.now c.machine.ensures.valid c.requires.spelled.1 few in
+    let word = word_of c.args.table.now c.requires.spelled.0 c.args.word.now c.machine.ensures.valid
+    c.requires.spelled.1 few in
     let at = c.in-Ok-give_moments.ensures.at.stage in
     let fits = whole_fits c.args.table.now c.args.word.now c.args.most_steps c.in-Ok-give_moments.ended.steps
     c.give_moments.new.stage c.machine.ensures.valid word at
@@ -31,11 +32,13 @@ give_outcome-requires-clause-state g c =
 pub give_outcome-requires-clause-symbol : goal.give_outcome-requires-clause-symbol
 give_outcome-requires-clause-symbol g c =
     let few : length c.args.word.now < 2 ^ 62 = search rules in
-    let word = word_of c.args.table.now c.requires.spelled.0 c.args.word.now c.machine.ensures.valid c.requires.spelled.1 few in
+    let word = word_of c.args.table.now c.requires.spelled.0 c.args.word.now c.machine.ensures.valid
+    c.requires.spelled.1 few in
     let at = c.in-Ok-give_moments.ensures.at.stage in
     let n = c.args.most_steps in
     let steps = c.in-Ok-give_moments.ended.steps in
-    let fits = whole_fits c.args.table.now c.args.word.now n steps c.give_moments.new.stage c.machine.ensures.valid word at in
+    let fits = whole_fits c.args.table.now c.args.word.now n steps c.give_moments.new.stage c.machine.ensures.valid word
+    at in
     subst (λ z. z < c.args.table.now.machine.symbols)
     (scans c.args.table.now c.args.word.now n steps c.give_moments.new.stage at) (fits.symbols at.whole.tape.head)
 

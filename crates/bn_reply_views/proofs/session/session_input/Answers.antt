@@ -22,11 +22,14 @@ session_board-requires c =
     let t = c.in-Made.table in
     let m = c.in-Made.translated in
     let b = c.in-Made.board in
-    let asked : IsBoardAsked c.args.table.now c.args.word.now l t m b = subst (IsOpenedInput c.args.table.now c.args.word.now l) c.in-Made.is c.in_ok-reply.ensures in
-    may_show_made t l asked.symbols asked.flat m b asked.made (board_accepted c.args.table.now c.args.word.now l t m b asked) exits-one run_to_exit
+    let asked : IsBoardAsked c.args.table.now c.args.word.now l t m b =
+    subst (IsOpenedInput c.args.table.now c.args.word.now l) c.in-Made.is c.in_ok-reply.ensures in
+    may_show_made t l asked.symbols asked.flat m b asked.made (board_accepted c.args.table.now c.args.word.now l t m b
+    asked) exits-one run_to_exit
 
 pub returns-in-Made : goal.returns-in-Made
 returns-in-Made c =
     let l = limits_of c.args.windows.now in
     session_replies c.args.table.now c.args.word.now l c.in-Made.table c.in-Made.translated c.in-Made.board
-    (subst (IsOpenedInput c.args.table.now c.args.word.now l) c.in-Made.is c.in_ok-reply.ensures) c.args.script.now c.session_board.result c.session_board.ensures
+    (subst (IsOpenedInput c.args.table.now c.args.word.now l) c.in-Made.is c.in_ok-reply.ensures) c.args.script.now
+    c.session_board.result c.session_board.ensures

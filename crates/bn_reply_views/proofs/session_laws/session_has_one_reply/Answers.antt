@@ -5,4 +5,5 @@ use Rattle.bn_reply_views.proofs.session_laws.session_has_one_reply.Goals as goa
 
 pub returns : goal.returns
 returns c =
-    session_settled c.tables_are_machines.ensures flats_there flats_one counted c.views_are_one.ensures.one c.views_are_one.ensures.there
+    session_settled c.tables_are_machines.ensures flats_there flats_one counted c.views_are_one.ensures.one
+    c.views_are_one.ensures.there

@@ -23,8 +23,10 @@ layers_text-requires c =
     let t = c.in-Made.table in
     let m = c.in-Made.translated in
     let b = c.in-Made.board in
-    let asked : IsBoardAsked c.args.bytes.now c.args.word.now l t m b = subst (IsOpenedInput c.args.bytes.now c.args.word.now l) c.in-Made.is c.in_ok-reply.ensures in
-    table_board t l asked.symbols asked.flat m b c.run.new.self asked.made (board_accepted c.args.bytes.now c.args.word.now l t m b asked) c.run.ensures.same c.args.steps
+    let asked : IsBoardAsked c.args.bytes.now c.args.word.now l t m b =
+    subst (IsOpenedInput c.args.bytes.now c.args.word.now l) c.in-Made.is c.in_ok-reply.ensures in
+    table_board t l asked.symbols asked.flat m b c.run.new.self asked.made
+    (board_accepted c.args.bytes.now c.args.word.now l t m b asked) c.run.ensures.same c.args.steps
     c.run.ensures.ran.ends exits-one run_to_exit
 
 pub returns-in_ok-layers_text-in-Made : goal.returns-in_ok-layers_text-in-Made
@@ -33,10 +35,13 @@ returns-in_ok-layers_text-in-Made c =
     let t = c.in-Made.table in
     let m = c.in-Made.translated in
     let b = c.in-Made.board in
-    let asked : IsBoardAsked c.args.bytes.now c.args.word.now l t m b = subst (IsOpenedInput c.args.bytes.now c.args.word.now l) c.in-Made.is c.in_ok-reply.ensures in
+    let asked : IsBoardAsked c.args.bytes.now c.args.word.now l t m b =
+    subst (IsOpenedInput c.args.bytes.now c.args.word.now l) c.in-Made.is c.in_ok-reply.ensures in
     let may = board_accepted c.args.bytes.now c.args.word.now l t m b asked in
     let text = c.in_ok-layers_text-in-Made.field-0.items in
     board_replies (TellsView c.args.steps) c.args.bytes.now c.args.word.now l t m b asked Done text []
-    (view_tells t l asked.symbols asked.flat m b c.run.new.self asked.made may c.run.ensures.same c.args.steps c.run.ensures.ran.ends (exits-named run_to_exit) text
+    (view_tells t l asked.symbols asked.flat m b c.run.new.self asked.made may c.run.ensures.same c.args.steps
+    c.run.ensures.ran.ends (exits-named run_to_exit) text
     (c.in_ok-layers_text-in-Made.ensures asked.symbols l asked.flat
-    (made_for t l asked.symbols asked.flat m b c.run.new.self asked.made may c.run.ensures.same c.args.steps c.run.ensures.ran.ends)))
+    (made_for t l asked.symbols asked.flat m b c.run.new.self asked.made may c.run.ensures.same c.args.steps
+    c.run.ensures.ran.ends)))

@@ -9,7 +9,8 @@ pub auto_symbols-requires : goal.auto_symbols-requires
 auto_symbols-requires g c = (
   c.args.bytes.now,
   c.args.word.now,
-  subst (IsMachineAsked c.args.bytes.now c.args.word.now c.in-Made.table c.in-Made.translated) (sym c.as_slice.ensures.value)
+  subst (IsMachineAsked c.args.bytes.now c.args.word.now c.in-Made.table c.in-Made.translated)
+      (sym c.as_slice.ensures.value)
       (subst (IsOpenedMachine c.args.bytes.now c.args.word.now) c.in-Made.is c.in_ok-reply.ensures),
 )
 
@@ -27,7 +28,8 @@ returns-in-Made-clause-replied g c =
     let asked = subst (IsMachineAsked c.args.bytes.now c.args.word.now t m) (sym c.as_slice.ensures.value)
     (subst (IsOpenedMachine c.args.bytes.now c.args.word.now) c.in-Made.is c.in_ok-reply.ensures) in
     (answered_as (FindReplies t c.as_slice.result.now) (AutoReplies c.args.word.now c.args.bytes.now)
-    (machine_replies FindReplies c.args.bytes.now c.args.word.now t m c.as_slice.result.now asked) c.auto_symbols.result (g.W.Watch.told c.args.watch.now)
+    (machine_replies FindReplies c.args.bytes.now c.args.word.now t m c.as_slice.result.now asked) c.auto_symbols.result
+    (g.W.Watch.told c.args.watch.now)
     (g.W.Watch.told c.auto_symbols.new.watch) c.auto_symbols.ensures).replied
 
 pub returns-in-Made-clause-interrupted : goal.returns-in-Made-clause-interrupted
@@ -37,5 +39,6 @@ returns-in-Made-clause-interrupted g c =
     let asked = subst (IsMachineAsked c.args.bytes.now c.args.word.now t m) (sym c.as_slice.ensures.value)
     (subst (IsOpenedMachine c.args.bytes.now c.args.word.now) c.in-Made.is c.in_ok-reply.ensures) in
     (answered_as (FindReplies t c.as_slice.result.now) (AutoReplies c.args.word.now c.args.bytes.now)
-    (machine_replies FindReplies c.args.bytes.now c.args.word.now t m c.as_slice.result.now asked) c.auto_symbols.result (g.W.Watch.told c.args.watch.now)
+    (machine_replies FindReplies c.args.bytes.now c.args.word.now t m c.as_slice.result.now asked) c.auto_symbols.result
+    (g.W.Watch.told c.args.watch.now)
     (g.W.Watch.told c.auto_symbols.new.watch) c.auto_symbols.ensures).interrupted

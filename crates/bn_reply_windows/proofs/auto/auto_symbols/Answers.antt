@@ -8,7 +8,12 @@ pub run_rounds-requires-clause-given : goal.run_rounds-requires-clause-given
 run_rounds-requires-clause-given g c =
     let few : length c.args.symbols.now ≤ MOST_COUNT = search (arith, c.if-letters-gt-MOST_COUNT.false) in
     let asked = c.requires.2 in
-    record { bytes = c.requires.0; letters = c.requires.1; given = record { reads = asked.reads; spelled = asked.spelled; few = few } }
+    record {
+      bytes = c.requires.0;
+      letters = c.requires.1;
+      given = record
+          { reads = asked.reads; spelled = asked.spelled; few = few };
+    }
 
 pub run_rounds-requires-clause-ready : goal.run_rounds-requires-clause-ready
 run_rounds-requires-clause-ready g c =
@@ -19,4 +24,5 @@ pub returns : goal.returns
 returns g c =
     let few : length c.args.symbols.now ≤ MOST_COUNT = search (arith, c.if-letters-gt-MOST_COUNT.false) in
     answered_as (SearchReplies c.args.table.now c.args.symbols.now) (FindReplies c.args.table.now c.args.symbols.now)
-    (λ s text told h. searched few h) c.run_rounds.result (g.W.Watch.told c.args.watch.now) (g.W.Watch.told c.run_rounds.new.watch) c.run_rounds.ensures
+    (λ s text told h. searched few h) c.run_rounds.result (g.W.Watch.told c.args.watch.now)
+    (g.W.Watch.told c.run_rounds.new.watch) c.run_rounds.ensures

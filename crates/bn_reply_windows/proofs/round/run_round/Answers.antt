@@ -13,32 +13,41 @@ use Rattle.bn_reply_windows.proofs.round.run_round.Given.{Over}
 use Rattle.bn_reply_windows.proofs.round.run_round.Goals as goal
 
 opened : (g : Over) (c : goal.After-run_window-arg-1 g)
-    → (f : Flat) × IsMade c.args.table.now.machine (limits_of c.args.windows.now) c.args.symbols.now f c.args.translated.now c.in-Made.board
+    → (f : Flat) × IsMade c.args.table.now.machine (limits_of c.args.windows.now) c.args.symbols.now f
+    c.args.translated.now c.in-Made.board
 opened g c =
-    subst (IsOpenedWindow c.args.table.now.machine (limits_of c.args.windows.now) c.args.symbols.now c.args.translated.now) c.in-Made.is
+    subst (IsOpenedWindow c.args.table.now.machine (limits_of c.args.windows.now) c.args.symbols.now
+    c.args.translated.now) c.in-Made.is
     (c.in_ok-reply.ensures c.args.table.now.machine c.requires.ready.translates)
 
-may : (g : Over) (c : goal.After-run_window-arg-1 g) → IsAccepted c.args.table.now.machine c.args.symbols.now (limits_of c.args.windows.now) (opened g c).0
+may : (g : Over) (c : goal.After-run_window-arg-1 g) → IsAccepted c.args.table.now.machine c.args.symbols.now
+    (limits_of c.args.windows.now) (opened g c).0
 may g c =
-    asked_accepted tables_machines c.args.table.now c.args.symbols.now c.requires.given (limits_of c.args.windows.now) c.requires.windows (opened g c).0 (opened g c).1.comes
+    asked_accepted tables_machines c.args.table.now c.args.symbols.now c.requires.given (limits_of c.args.windows.now)
+    c.requires.windows (opened g c).0 (opened g c).1.comes
 
 pub run_window-requires-clause-names : goal.run_window-requires-clause-names
 run_window-requires-clause-names g c =
-    made_names None c.args.table.now (limits_of c.args.windows.now) c.args.symbols.now (opened g c).0 c.args.translated.now c.in-Made.board (opened g c).1
+    made_names None c.args.table.now (limits_of c.args.windows.now) c.args.symbols.now (opened g c).0
+    c.args.translated.now c.in-Made.board (opened g c).1
     (may g c) exits-one run_to_exit
 
 pub run_window-requires-clause-one : goal.run_window-requires-clause-one
 run_window-requires-clause-one g c =
-    (made_letters c.args.table.now.machine (limits_of c.args.windows.now) c.args.symbols.now (opened g c).0 c.args.translated.now c.in-Made.board (opened g c).1).0
+    (made_letters c.args.table.now.machine (limits_of c.args.windows.now) c.args.symbols.now (opened g c).0
+    c.args.translated.now c.in-Made.board (opened g c).1).0
 
 pub run_window-requires-clause-three : goal.run_window-requires-clause-three
 run_window-requires-clause-three g c =
-    (made_letters c.args.table.now.machine (limits_of c.args.windows.now) c.args.symbols.now (opened g c).0 c.args.translated.now c.in-Made.board (opened g c).1).1
+    (made_letters c.args.table.now.machine (limits_of c.args.windows.now) c.args.symbols.now (opened g c).0
+    c.args.translated.now c.in-Made.board (opened g c).1).1
 
 pub returns-in-Refused : goal.returns-in-Refused
 returns-in-Refused g c =
-    large_ends c.args.table.now c.args.symbols.now (limits_of c.args.windows.now) c.in-Refused.reply (g.W.Watch.told c.args.watch.now)
-    (subst (IsOpenedWindow c.args.table.now.machine (limits_of c.args.windows.now) c.args.symbols.now c.args.translated.now) c.in-Refused.is
+    large_ends c.args.table.now c.args.symbols.now (limits_of c.args.windows.now) c.in-Refused.reply
+    (g.W.Watch.told c.args.watch.now)
+    (subst (IsOpenedWindow c.args.table.now.machine (limits_of c.args.windows.now) c.args.symbols.now
+    c.args.translated.now) c.in-Refused.is
     (c.in_ok-reply.ensures c.args.table.now.machine c.requires.ready.translates))
 
 pub returns-in-Made : goal.returns-in-Made

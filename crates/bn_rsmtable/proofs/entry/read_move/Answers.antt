@@ -6,10 +6,14 @@ use Rattle.bn_rsmtable.specs.Entry.{move_entry}
 use Rattle.bn_rsmtable.proofs.entry.read_move.Goals as goal
 use Rattle.bn_rsmtable.proofs.entry.read_move.Goals.{After-four_fields}
 
-four : (c : After-four_fields) → c.args.entry.now ≡ c.field.result.now ∷ c.field-2.result.now ∷ c.field-3.result.now ∷ c.field-4.result.now ∷ []
+four : (c : After-four_fields) → c.args.entry.now ≡ c.field.result.now ∷ c.field-2.result.now ∷ c.field-3.result.now
+    ∷ c.field-4.result.now ∷ []
 four c =
     let count = c.len.ensures in
-    list_is c.args.entry.now _ (omega (arith, count)) (c.field.ensures, (c.field-2.ensures, (c.field-3.ensures, (c.field-4.ensures, tt))))
+    list_is c.args.entry.now _ (omega (arith, count)) (
+      c.field.ensures,
+      (c.field-2.ensures, (c.field-3.ensures, (c.field-4.ensures, tt))),
+    )
 
 pub returns-clause-says : goal.returns-clause-says
 returns-clause-says c =

@@ -13,24 +13,32 @@ use Rattle.bn_rsmtable.proofs.text.write_rsm.Goals as goal
 abbrev no_step : RsmMove
 no_step = record { state = 0; line = 0; next = 0; out = 0 }
 
-whole : (ms all : List RsmMove) (i : ℕ) (text : List ℕ) → all ≡ ms → length all ≤ i → text ≡ lines_of (entries_by (take i all)) → text ≡ lines_of (entries_by ms)
-whole ms all i text same end is = lines_of-all move_entry all i text end is ∙ ap (λ (xs : List RsmMove). lines_of (entries_by xs)) same
+whole : (ms all : List RsmMove) (i : ℕ) (text : List ℕ) → all ≡ ms → length all ≤ i
+    → text ≡ lines_of (entries_by (take i all)) → text ≡ lines_of (entries_by ms)
+whole ms all i text same end is = lines_of-all move_entry all i text end is
+    ∙ ap (λ (xs : List RsmMove). lines_of (entries_by xs)) same
 
 pub loop-step-init : goal.loop-step-init
 loop-step-init c = c.new-writer.ensures ∙ sym lines_of-nil
 
 pub loop-step-preserved : goal.loop-step-preserved
 loop-step-preserved c =
-    lines_of-more move_entry c.moves-step-items.result.now c.loop-step.step-index no_step c.loop-step.writer c.write_move.new.writer c.loop-step-test.true c.loop-step.invariant c.in_ok-write_move.ensures
+    lines_of-more move_entry c.moves-step-items.result.now c.loop-step.step-index no_step c.loop-step.writer
+    c.write_move.new.writer c.loop-step-test.true c.loop-step.invariant c.in_ok-write_move.ensures
 
 pub returns-clause-text : goal.returns-clause-text
 returns-clause-text c =
-    IfOk-weaker c.into_text.result (λ text. text.items ≡ c.loop-step.writer) (λ text. text.items ≡ lines_of (entries_by c.args.rsm.now.moves))
-    (λ text e. whole c.args.rsm.now.moves c.moves-step-items.result.now c.loop-step.step-index text.items c.moves-step-items.ensures c.loop-step-test.false (e ∙ c.loop-step.invariant))
+    IfOk-weaker c.into_text.result (λ text. text.items ≡ c.loop-step.writer)
+    (λ text. text.items ≡ lines_of (entries_by c.args.rsm.now.moves))
+    (λ text e. whole c.args.rsm.now.moves c.moves-step-items.result.now c.loop-step.step-index text.items
+    c.moves-step-items.ensures c.loop-step-test.false (e ∙ c.loop-step.invariant))
     c.into_text.ensures
 
 pub returns-clause-read_back : goal.returns-clause-read_back
 returns-clause-read_back c =
-    IfOk-weaker c.into_text.result (λ text. text.items ≡ c.loop-step.writer) (λ text. IsTable c.args.rsm.now → ReadsMoves text.items c.args.rsm.now)
-    (λ text e h. read_back c.args.rsm.now text.items h (whole c.args.rsm.now.moves c.moves-step-items.result.now c.loop-step.step-index text.items c.moves-step-items.ensures c.loop-step-test.false (e ∙ c.loop-step.invariant)))
+    IfOk-weaker c.into_text.result (λ text. text.items ≡ c.loop-step.writer)
+    (λ text. IsTable c.args.rsm.now → ReadsMoves text.items c.args.rsm.now)
+    (λ text e h. read_back c.args.rsm.now text.items h (whole c.args.rsm.now.moves c.moves-step-items.result.now
+    c.loop-step.step-index text.items c.moves-step-items.ensures c.loop-step-test.false
+    (e ∙ c.loop-step.invariant)))
     c.into_text.ensures

@@ -9,4 +9,5 @@ invariant-loop-label l =
     (goal.iterator-loop-label).can_next l.label-iterator
     × (goal.iterator-loop-label).is_finite l.label-iterator
     × HaveValues l.conditions l.label-iterator
-    × (first_label l.place l.moment (kept_breaks l.conditions l.keys.entries) ≡ first_label l.place l.moment (kept_breaks l.conditions l.label-iterator))
+    × (first_label l.place l.moment (kept_breaks l.conditions l.keys.entries)
+    ≡ first_label l.place l.moment (kept_breaks l.conditions l.label-iterator))

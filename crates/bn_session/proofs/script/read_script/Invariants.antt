@@ -5,7 +5,12 @@ use Rattle.bn_session.specs.Progress.{HasRead}
 use Rattle.bn_session.proofs.script.read_script.Given as goal
 
 abbrev pub invariant-loop-commands : goal.invariant-loop-commands
-invariant-loop-commands l = record { read : HasRead l.fn.names.states l.fn.bytes l.lines l.commands.items; standing : l.scope.standing ≡ standing_by l.commands.items; states : l.scope.states ≡ l.fn.names.states }
+invariant-loop-commands l = record {
+  read : HasRead l.fn.names.states l.fn.bytes l.lines l.commands.items;
+  standing :
+      l.scope.standing ≡ standing_by l.commands.items;
+  states : l.scope.states ≡ l.fn.names.states;
+}
 
 abbrev pub decreases-loop-commands : goal.decreases-loop-commands
 decreases-loop-commands l = length l.lines

@@ -9,4 +9,12 @@ use Rattle.bn_session.specs.Walks.{once_along, walk}
 use Rattle.bn_session.proofs.walk.walk_on.Given as goal
 
 abbrev pub invariant-loop-made : goal.invariant-loop-made
-invariant-loop-made l = record { left : walk (stops (moment_at l.fn.board.layout) l.breaks) (once_along l.direction (rotary_circuit l.fn.board.net)) (l.count - l._made) l.board.config ≡ walk (stops (moment_at l.fn.board.layout) l.breaks) (once_along l.direction (rotary_circuit l.fn.board.net)) l.count l.fn.board.config; same : IsSameBoard l.fn.board l.board; good : IsConfig (rotary_circuit l.fn.board.net) l.board.config }
+invariant-loop-made l = record {
+  left : walk (stops (moment_at l.fn.board.layout) l.breaks)
+      (once_along l.direction (rotary_circuit l.fn.board.net)) (l.count - l._made) l.board.config
+      ≡ walk (stops (moment_at l.fn.board.layout) l.breaks) (once_along l.direction (rotary_circuit l.fn.board.net))
+      l.count l.fn.board.config;
+  same : IsSameBoard l.fn.board l.board;
+  good : IsConfig (rotary_circuit l.fn.board.net)
+      l.board.config;
+}

@@ -12,6 +12,7 @@ use Rattle.bn_standardise.proofs.laws.texts_are_read.Goals as goal
 pub returns : goal.returns
 returns c = λ t table accepted.
     let fits = (tables_machines t table).1 in (
-      reads-back (standard_table t) (standard_lines t) (is_table t table fits accepted.few) (ap lines_of (sym (rows_are t table fits accepted.few))),
+      reads-back (standard_table t) (standard_lines t) (is_table t table fits accepted.few)
+          (ap lines_of (sym (rows_are t table fits accepted.few))),
       is_standard (numbering_of t.machine) t.machine accepted.loose (tells_apart t.machine),
     )

@@ -9,7 +9,8 @@ loop-letter-init c = back_none c.args.list.now.items c.args.halt
 
 pub loop-letter-preserved : goal.loop-letter-preserved
 loop-letter-preserved c =
-    back_more c.args.list.now.items c.loop-letter.list.items c.push.new.self.items c.args.halt c.loop-letter.letter c.back_over.result c.loop-letter.auto.letter c.loop-letter.invariant
+    back_more c.args.list.now.items c.loop-letter.list.items c.push.new.self.items c.args.halt c.loop-letter.letter
+    c.back_over.result c.loop-letter.auto.letter c.loop-letter.invariant
     c.back_over.ensures c.in_ok-push.ensures.items
 
 pub returns : goal.returns

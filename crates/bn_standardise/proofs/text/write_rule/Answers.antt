@@ -20,17 +20,21 @@ write_row-requires c =
     let r = c.args.rule.now in
     let letters = c.args.table.now.letters in
     record {
-      state = printed r.state c.as_slice.result.now c.requires.writable.state (c.as_slice.ensures.value ∙ c.in_ok-state.ensures);
+      state = printed r.state c.as_slice.result.now c.requires.writable.state
+          (c.as_slice.ensures.value ∙ c.in_ok-state.ensures);
       read = all-at is_symbol_byte letters r.read c.letter.result s.letters_form c.letter.ensures;
       write = all-at is_symbol_byte letters r.write c.letter-2.result s.letters_form c.letter-2.ensures;
-      next = printed r.next c.as_slice-2.result.now c.requires.writable.next (c.as_slice-2.ensures.value ∙ c.in_ok-next.ensures);
+      next = printed r.next c.as_slice-2.result.now c.requires.writable.next
+          (c.as_slice-2.ensures.value ∙ c.in_ok-next.ensures);
     }
 
 pub returns : goal.returns
 returns c =
     let r = c.args.rule.now in
     let letters = c.args.table.now.letters in
-    let P : List (List ℕ) → Type 0 = λ fields. OnOk c.write_row.result (c.write_row.new.writer ≡ c.args.writer.now ++ line_of fields) in
+    let P : List (List ℕ) → Type 0 = λ fields. OnOk c.write_row.result
+    (c.write_row.new.writer ≡ c.args.writer.now ++ line_of fields) in
     subst P (row_is letters r c.as_slice.result.now c.as_slice-2.result.now c.letter.result c.letter-2.result
     (c.as_slice.ensures.value ∙ c.in_ok-state.ensures) (c.as_slice-2.ensures.value ∙ c.in_ok-next.ensures)
-    (get_or_from_slice_get letters r.read c.letter.result 0 c.letter.ensures) (get_or_from_slice_get letters r.write c.letter-2.result 0 c.letter-2.ensures)) c.write_row.ensures
+    (get_or_from_slice_get letters r.read c.letter.result 0 c.letter.ensures)
+    (get_or_from_slice_get letters r.write c.letter-2.result 0 c.letter-2.ensures)) c.write_row.ensures

@@ -17,9 +17,12 @@ loop-rule-init c = c.new-writer.ensures ∙ sym lines_of-nil
 
 pub loop-rule-preserved : goal.loop-rule-preserved
 loop-rule-preserved c =
-    lines_of-more (rule_entry c.args.table.now.letters) c.args.rules.now c.loop-rule.rule-index blank c.loop-rule.writer c.write_rule.new.writer c.loop-rule-test.true c.loop-rule.invariant c.in_ok-write_rule.ensures
+    lines_of-more (rule_entry c.args.table.now.letters) c.args.rules.now c.loop-rule.rule-index blank c.loop-rule.writer
+    c.write_rule.new.writer c.loop-rule-test.true c.loop-rule.invariant c.in_ok-write_rule.ensures
 
 pub returns : goal.returns
 returns c =
-    IfOk-weaker c.into_text.result (λ text. text.items ≡ c.loop-rule.writer) (λ text. text.items ≡ lines_of (map (rule_entry c.args.table.now.letters) c.args.rules.now))
-    (λ text e. lines_of-all (rule_entry c.args.table.now.letters) c.args.rules.now c.loop-rule.rule-index text.items c.loop-rule-test.false (e ∙ c.loop-rule.invariant)) c.into_text.ensures
+    IfOk-weaker c.into_text.result (λ text. text.items ≡ c.loop-rule.writer)
+    (λ text. text.items ≡ lines_of (map (rule_entry c.args.table.now.letters) c.args.rules.now))
+    (λ text e. lines_of-all (rule_entry c.args.table.now.letters) c.args.rules.now c.loop-rule.rule-index text.items
+    c.loop-rule-test.false (e ∙ c.loop-rule.invariant)) c.into_text.ensures

@@ -8,10 +8,14 @@ use Rattle.bn_table.proofs.Passing.{said-forms}
 use Rattle.bn_table.proofs.entry.read_fields.Goals as goal
 use Rattle.bn_table.proofs.entry.read_fields.Goals.{After-five_fields}
 
-five : (c : After-five_fields) → c.args.entry.now ≡ c.field.result.now ∷ c.field-2.result.now ∷ c.field-3.result.now ∷ c.field-4.result.now ∷ c.field-5.result.now ∷ []
+five : (c : After-five_fields) → c.args.entry.now ≡ c.field.result.now ∷ c.field-2.result.now ∷ c.field-3.result.now
+    ∷ c.field-4.result.now ∷ c.field-5.result.now ∷ []
 five c =
     let count = c.len.ensures in
-    list_is c.args.entry.now _ (omega (arith, count)) (c.field.ensures, (c.field-2.ensures, (c.field-3.ensures, (c.field-4.ensures, (c.field-5.ensures, tt)))))
+    list_is c.args.entry.now _ (omega (arith, count)) (
+      c.field.ensures,
+      (c.field-2.ensures, (c.field-3.ensures, (c.field-4.ensures, (c.field-5.ensures, tt)))),
+    )
 
 pub returns-clause-says : goal.returns-clause-says
 returns-clause-says c =
@@ -19,7 +23,9 @@ returns-clause-says c =
     subst P (sym (five (goal.at.returns-clause-says c).After-five_fields)) c.five_fields.ensures.says
 
 pub returns-clause-forms : goal.returns-clause-forms
-returns-clause-forms c = said-forms c.args.number c.field.result.now c.field-2.result.now c.field-3.result.now c.field-4.result.now c.field-5.result.now c.five_fields.result c.five_fields.ensures.says c.five_fields.ensures.fault
+returns-clause-forms c = said-forms c.args.number c.field.result.now c.field-2.result.now c.field-3.result.now
+    c.field-4.result.now c.field-5.result.now c.five_fields.result c.five_fields.ensures.says
+    c.five_fields.ensures.fault
 
 pub returns-clause-fault : goal.returns-clause-fault
 returns-clause-fault c = rw (five (goal.at.returns-clause-fault c).After-five_fields) c.five_fields.ensures.fault

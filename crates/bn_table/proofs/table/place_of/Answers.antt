@@ -9,7 +9,8 @@ pub overflow_cast-result : goal.overflow_cast-result
 overflow_cast-result c =
     let letters = c.args.letters.now in
     let at : position (nat_eq c.args.letter) letters ≡ Some c.in-Some.place = sym c.in-Some.ensures in
-    let within : c.in-Some.place < length letters = slice_get_within letters c.in-Some.place c.args.letter (found_by nat_eq Decides-eqb c.args.letter letters c.in-Some.place at).1 in
+    let within : c.in-Some.place < length letters = slice_get_within letters c.in-Some.place c.args.letter
+    (found_by nat_eq Decides-eqb c.args.letter letters c.in-Some.place at).1 in
     omega arith
 
 pub returns-in-Some-clause-found : goal.returns-in-Some-clause-found

@@ -10,10 +10,13 @@ write_row-requires c =
     let t = c.args.table.now in
     let s = c.requires.table.spelled in
     record {
-      state = all-at is_state_name t.names c.args.quint.now.state c.state_name.result.now s.names_form c.state_name.ensures;
+      state = all-at is_state_name t.names c.args.quint.now.state c.state_name.result.now s.names_form
+          c.state_name.ensures;
       read = all-at is_symbol_byte t.letters c.args.quint.now.read c.letter.result s.letters_form c.letter.ensures;
-      write = all-at is_symbol_byte t.letters c.args.quint.now.write c.letter-2.result s.letters_form c.letter-2.ensures;
-      next = all-at is_state_name t.names c.args.quint.now.next c.state_name-2.result.now s.names_form c.state_name-2.ensures;
+      write = all-at is_symbol_byte t.letters c.args.quint.now.write c.letter-2.result s.letters_form
+          c.letter-2.ensures;
+      next = all-at is_state_name t.names c.args.quint.now.next c.state_name-2.result.now s.names_form
+          c.state_name-2.ensures;
     }
 
 pub returns : goal.returns

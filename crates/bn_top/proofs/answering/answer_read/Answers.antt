@@ -12,7 +12,8 @@ returns-in-Ok g c =
     let left = g.I.Input.left c.args.input.now in
     let after = g.I.Input.left c.read_whole.new.input in
     let within : length bytes ≤ MOST_INPUT_BYTES = omega (arith, c.as_slice.ensures.len, c.in-Ok.ensures.within) in
-    let read = subst (λ z. IfSome left (λ xs. (z ≡ xs) × (after ≡ Some []))) (sym c.as_slice.ensures.value) c.in-Ok.ensures.whole in
+    let read = subst (λ z. IfSome left (λ xs. (z ≡ xs) × (after ≡ Some []))) (sym c.as_slice.ensures.value)
+    c.in-Ok.ensures.whole in
     record {
       input = Whole bytes;
       gives = (gave_read left after bytes read, within);

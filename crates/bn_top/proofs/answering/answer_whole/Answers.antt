@@ -23,4 +23,5 @@ returns g c =
     let after = subst (λ l. StreamEnds replies status (outside (Some c.in-Some.bytes.now) taken told reads before)
     (outside l took heard (g.I.Input.faults c.take_rest.new.self) now)) (sym ended) same in
     subst (λ l. StreamEnds replies status (outside l taken told reads before)
-    (outside (g.I.Input.left c.take_rest.new.self) took heard (g.I.Input.faults c.take_rest.new.self) now)) (sym lent.1) after
+    (outside (g.I.Input.left c.take_rest.new.self) took heard (g.I.Input.faults c.take_rest.new.self) now)) (sym lent.1)
+    after

@@ -11,14 +11,17 @@ pub returns-in-Some-OnConfiguration-clause-ends : goal.returns-in-Some-OnConfigu
 returns-in-Some-OnConfiguration-clause-ends g c =
     let words = map (string_bytes {Z = Global}) c.args.words.now in
     let asked = c.in-Some-OnConfiguration.asked in
-    let form = subst (λ r. HasForm words (request_of r)) c.in-Some-OnConfiguration.field-0-is c.in-Some-OnConfiguration.ensures in
-    stream_call words (of_configuration asked) form (configuration_reads asked) c.answer_configuration.result _ _ c.answer_configuration.ensures
+    let form = subst (λ r. HasForm words (request_of r)) c.in-Some-OnConfiguration.field-0-is
+    c.in-Some-OnConfiguration.ensures in
+    stream_call words (of_configuration asked) form (configuration_reads asked) c.answer_configuration.result _ _
+    c.answer_configuration.ensures
 
 pub returns-in-Some-OnConfiguration-clause-unread : goal.returns-in-Some-OnConfiguration-clause-unread
 returns-in-Some-OnConfiguration-clause-unread g c = λ needs.
     let words = map (string_bytes {Z = Global}) c.args.words.now in
     let asked = c.in-Some-OnConfiguration.asked in
-    let form = subst (λ r. HasForm words (request_of r)) c.in-Some-OnConfiguration.field-0-is c.in-Some-OnConfiguration.ensures in
+    let form = subst (λ r. HasForm words (request_of r)) c.in-Some-OnConfiguration.field-0-is
+    c.in-Some-OnConfiguration.ensures in
     absurd (needs_some words (of_configuration asked) form (configuration_reads asked) needs)
 
 pub returns-in-Some-OnWhole-clause-ends : goal.returns-in-Some-OnWhole-clause-ends
@@ -58,14 +61,17 @@ returns-in-Some-Generate-clause-ends g c =
     let heard = g.W.Watch.told c.reply_generate.new.watch in
     let before = g.K.Sink.faults c.args.sink.now in
     let now = g.K.Sink.faults c.give_reply.new.sink in
-    let ends = given_ends (Replies (Generate k) []) c.reply_generate.result c.give_reply.result taken took before now told heard
+    let ends = given_ends (Replies (Generate k) []) c.reply_generate.result c.give_reply.result taken took before now
+    told heard
     c.reply_generate.ensures.replied c.reply_generate.ensures.interrupted c.give_reply.ensures.ends in
-    inputless_call words (Generate k) form refl c.give_reply.result (g.I.Input.left c.args.input.now) taken took told heard
+    inputless_call words (Generate k) form refl c.give_reply.result (g.I.Input.left c.args.input.now) taken took told
+    heard
     (g.I.Input.faults c.args.input.now) before now ends c.give_reply.ensures.later
 
 pub returns-in-None-clause-ends : goal.returns-in-None-clause-ends
 returns-in-None-clause-ends g c =
-    usage_ends (map (string_bytes {Z = Global}) c.args.words.now) c.in-None.ensures c.finish.result (g.I.Input.left c.args.input.now)
+    usage_ends (map (string_bytes {Z = Global}) c.args.words.now) c.in-None.ensures c.finish.result
+    (g.I.Input.left c.args.input.now)
     (g.K.Sink.taken c.args.sink.now) (g.K.Sink.taken c.finish.new.sink) (g.W.Watch.told c.args.watch.now)
     (g.I.Input.faults c.args.input.now) (g.K.Sink.faults c.args.sink.now) (g.K.Sink.faults c.finish.new.sink)
     c.finish.ensures.ends c.finish.ensures.later

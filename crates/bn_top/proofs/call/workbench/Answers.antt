@@ -3,10 +3,10 @@ use Rattle.std.specs.String.{string_bytes}
 use Rattle.bn_headline_laws.specs.CommandHeadlines.{BackCommand, BennettCommand, MachineCommand, StepCommand}
 use Rattle.bn_reply.specs.Outside.{outside}
 use Rattle.bn_top.specs.Clauses.{CallEnds}
-use Rattle.bn_top.specs.CommandLaws.{TellsCommands}
 use Rattle.bn_top.specs.Outside.{NeedNoInput}
-use Rattle.bn_top.proofs.CallLemmas.{circuit_by, commands_by, found_by, generated_by, machine_by}
-use Rattle.bn_top.proofs.EndLemmas.{by_told}
+use Rattle.bn_top.specs.QuadHeadlines.{BuildHeadline, DriveCircuitHeadline, DriveHeadline, InverseCommand}
+use Rattle.bn_top.proofs.CallLemmas.{circuit_by, command_by, found_by, found_machine_by}
+use Rattle.bn_top.proofs.CallLemmas.{generated_by, machine_by}
 use Rattle.bn_top.proofs.call.workbench.Goals as goal
 
 pub returns-clause-ends : goal.returns-clause-ends
@@ -25,56 +25,78 @@ returns-clause-unread g c =
 
 pub returns-clause-headline : goal.returns-clause-headline
 returns-clause-headline g c = λ is.
-    (machine_by (map (string_bytes {Z = Global}) c.args.words.now.items) c.answer_words.result _ _ (returns-clause-ends g c) is).0
+    (machine_by (map (string_bytes {Z = Global}) c.args.words.now.items) c.answer_words.result _ _
+    (returns-clause-ends g c) is).0
 
 pub returns-clause-headline_within : goal.returns-clause-headline_within
 returns-clause-headline_within g c = λ is.
-    (machine_by (map (string_bytes {Z = Global}) c.args.words.now.items) c.answer_words.result _ _ (returns-clause-ends g c) is).1
+    (machine_by (map (string_bytes {Z = Global}) c.args.words.now.items) c.answer_words.result _ _
+    (returns-clause-ends g c) is).1
 
 pub returns-clause-headline_circuit : goal.returns-clause-headline_circuit
 returns-clause-headline_circuit g c =
-    circuit_by (map (string_bytes {Z = Global}) c.args.words.now.items) c.answer_words.result _ _ (returns-clause-ends g c)
+    circuit_by (map (string_bytes {Z = Global}) c.args.words.now.items) c.answer_words.result _ _
+    (returns-clause-ends g c)
 
 pub returns-clause-found : goal.returns-clause-found
 returns-clause-found g c =
-    found_by (map (string_bytes {Z = Global}) c.args.words.now.items) c.answer_words.result _ _ (returns-clause-ends g c)
+    found_by (map (string_bytes {Z = Global}) c.args.words.now.items) c.answer_words.result _ _
+    (returns-clause-ends g c)
+
+pub returns-clause-found_machine : goal.returns-clause-found_machine
+returns-clause-found_machine g c =
+    found_machine_by (map (string_bytes {Z = Global}) c.args.words.now.items) c.answer_words.result _ _
+    (returns-clause-ends g c)
 
 pub returns-clause-generated : goal.returns-clause-generated
 returns-clause-generated g c =
-    generated_by (map (string_bytes {Z = Global}) c.args.words.now.items) c.answer_words.result _ _ (returns-clause-ends g c)
+    generated_by (map (string_bytes {Z = Global}) c.args.words.now.items) c.answer_words.result _ _
+    (returns-clause-ends g c)
 
 pub returns-clause-machine : goal.returns-clause-machine
 returns-clause-machine g c = λ is.
-    let words = map (string_bytes {Z = Global}) c.args.words.now.items in
-    let taken = g.K.Sink.taken c.args.sink.now in
-    let took = g.K.Sink.taken c.answer_words.new.sink in
-    by_told (g.S.Source.left c.args.source.now) (λ bytes. TellsCommands words bytes c.answer_words.result taken took)
-    (λ bytes. MachineCommand words bytes c.answer_words.result taken took) (λ bytes h. h.machine)
-    (commands_by words c.answer_words.result _ _ (returns-clause-ends g c) is)
+    command_by (map (string_bytes {Z = Global}) c.args.words.now.items) c.answer_words.result _ _
+    (returns-clause-ends g c)
+    is MachineCommand (λ bytes h. h.machine)
 
 pub returns-clause-bennett : goal.returns-clause-bennett
 returns-clause-bennett g c = λ is.
-    let words = map (string_bytes {Z = Global}) c.args.words.now.items in
-    let taken = g.K.Sink.taken c.args.sink.now in
-    let took = g.K.Sink.taken c.answer_words.new.sink in
-    by_told (g.S.Source.left c.args.source.now) (λ bytes. TellsCommands words bytes c.answer_words.result taken took)
-    (λ bytes. BennettCommand words bytes c.answer_words.result taken took) (λ bytes h. h.bennett)
-    (commands_by words c.answer_words.result _ _ (returns-clause-ends g c) is)
+    command_by (map (string_bytes {Z = Global}) c.args.words.now.items) c.answer_words.result _ _
+    (returns-clause-ends g c)
+    is BennettCommand (λ bytes h. h.bennett)
 
 pub returns-clause-step : goal.returns-clause-step
 returns-clause-step g c = λ is.
-    let words = map (string_bytes {Z = Global}) c.args.words.now.items in
-    let taken = g.K.Sink.taken c.args.sink.now in
-    let took = g.K.Sink.taken c.answer_words.new.sink in
-    by_told (g.S.Source.left c.args.source.now) (λ bytes. TellsCommands words bytes c.answer_words.result taken took)
-    (λ bytes. StepCommand words bytes c.answer_words.result taken took) (λ bytes h. h.step)
-    (commands_by words c.answer_words.result _ _ (returns-clause-ends g c) is)
+    command_by (map (string_bytes {Z = Global}) c.args.words.now.items) c.answer_words.result _ _
+    (returns-clause-ends g c)
+    is StepCommand (λ bytes h. h.step)
 
 pub returns-clause-back : goal.returns-clause-back
 returns-clause-back g c = λ is.
-    let words = map (string_bytes {Z = Global}) c.args.words.now.items in
-    let taken = g.K.Sink.taken c.args.sink.now in
-    let took = g.K.Sink.taken c.answer_words.new.sink in
-    by_told (g.S.Source.left c.args.source.now) (λ bytes. TellsCommands words bytes c.answer_words.result taken took)
-    (λ bytes. BackCommand words bytes c.answer_words.result taken took) (λ bytes h. h.back)
-    (commands_by words c.answer_words.result _ _ (returns-clause-ends g c) is)
+    command_by (map (string_bytes {Z = Global}) c.args.words.now.items) c.answer_words.result _ _
+    (returns-clause-ends g c)
+    is BackCommand (λ bytes h. h.back)
+
+pub returns-clause-inverse : goal.returns-clause-inverse
+returns-clause-inverse g c = λ is.
+    command_by (map (string_bytes {Z = Global}) c.args.words.now.items) c.answer_words.result _ _
+    (returns-clause-ends g c)
+    is InverseCommand (λ bytes h. h.inverse)
+
+pub returns-clause-build : goal.returns-clause-build
+returns-clause-build g c = λ is.
+    command_by (map (string_bytes {Z = Global}) c.args.words.now.items) c.answer_words.result _ _
+    (returns-clause-ends g c)
+    is BuildHeadline (λ bytes h. h.build)
+
+pub returns-clause-drive : goal.returns-clause-drive
+returns-clause-drive g c = λ is.
+    command_by (map (string_bytes {Z = Global}) c.args.words.now.items) c.answer_words.result _ _
+    (returns-clause-ends g c)
+    is DriveHeadline (λ bytes h. h.drive)
+
+pub returns-clause-drive_circuit : goal.returns-clause-drive_circuit
+returns-clause-drive_circuit g c = λ is.
+    command_by (map (string_bytes {Z = Global}) c.args.words.now.items) c.answer_words.result _ _
+    (returns-clause-ends g c)
+    is DriveCircuitHeadline (λ bytes h. h.drive_circuit)

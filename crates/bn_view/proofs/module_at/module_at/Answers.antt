@@ -6,7 +6,8 @@ use Rattle.bn_view.proofs.module_at.module_at.Goals as goal
 pub line_of-requires-clause-number : goal.line_of-requires-clause-number
 line_of-requires-clause-number c =
     let at = c.in-Cell-default-default-Some in
-    line_low c.args.board.now.layout c.args.machine.now c.requires c.args.board.now.config.place c.located.result c.located.ensures at.tape at.position at.line' at.is c.symbols.result at.line
+    line_low c.args.board.now.layout c.args.machine.now c.requires c.args.board.now.config.place c.located.result
+    c.located.ensures at.tape at.position at.line' at.is c.symbols.result at.line
     c.symbols.ensures at.line-is
 
 pub returns-in-Control-Some : goal.returns-in-Control-Some
@@ -20,8 +21,10 @@ returns-in-Cell-default-default-Some c =
     let at = c.in-Cell-default-default-Some in (
       c.located.result,
       c.located.ensures,
-      at_line c.args.board.now.layout c.args.machine.now c.requires c.args.board.now.config.place c.located.result c.located.ensures at.tape at.position at.line' at.is c.symbols.result at.line
-          _ c.line_of.result c.symbols.ensures at.line-is c.line_of.ensures.line (to_z-of_z w64 at.position (search rules)),
+      at_line c.args.board.now.layout c.args.machine.now c.requires c.args.board.now.config.place c.located.result
+          c.located.ensures at.tape at.position at.line' at.is c.symbols.result at.line
+          _ c.line_of.result c.symbols.ensures at.line-is c.line_of.ensures.line
+          (to_z-of_z w64 at.position (search rules)),
     )
 
 pub returns-in-Cell-default-default-None : goal.returns-in-Cell-default-default-None
@@ -29,7 +32,8 @@ returns-in-Cell-default-default-None c =
     let at = c.in-Cell-default-default-None in (
       c.located.result,
       c.located.ensures,
-      at_inside c.args.board.now.layout c.args.machine.now c.requires c.args.board.now.config.place c.located.result c.located.ensures at.tape at.position at.line at.is _ at.line-is
+      at_inside c.args.board.now.layout c.args.machine.now c.requires c.args.board.now.config.place c.located.result
+          c.located.ensures at.tape at.position at.line at.is _ at.line-is
           (to_z-of_z w64 at.position (search rules)),
     )
 

@@ -4,15 +4,18 @@ use Rattle.bn_view.proofs.viewer.view.Goals as goal
 
 pub returns-clause-from_start : goal.returns-clause-from_start
 returns-clause-from_start c =
-    IfOk-weaker c.layers_of.result _ _ (λ v h. place_from_start c.args.translated.now c.args.board.now c.layers_of.ensures.kept v h) c.layers_of.ensures.view
+    IfOk-weaker c.layers_of.result _ _ (λ v h. place_from_start c.args.translated.now c.args.board.now
+    c.layers_of.ensures.kept v h) c.layers_of.ensures.view
 
 pub returns-clause-view : goal.returns-clause-view
 returns-clause-view c =
     IfOk-weaker c.layers_of.result _ _ (λ v h p word l f is.
-    view_of p word l f c.args.translated.now c.args.board.now is c.shown_is_found.ensures c.layers_of.ensures.kept v h) c.layers_of.ensures.view
+    view_of p word l f c.args.translated.now c.args.board.now is c.shown_is_found.ensures c.layers_of.ensures.kept v h)
+    c.layers_of.ensures.view
 
 pub returns-clause-machine : goal.returns-clause-machine
 returns-clause-machine c =
     IfOk-weaker c.layers_of.result _ _ (λ v h p word l f is.
-    shows_machine p word l f c.args.translated.now c.args.board.now is c.shown_is_found.ensures c.layers_of.ensures.kept c.views_stand.ensures v h)
+    shows_machine p word l f c.args.translated.now c.args.board.now is c.shown_is_found.ensures c.layers_of.ensures.kept
+    c.views_stand.ensures v h)
     c.layers_of.ensures.view

@@ -1,7 +1,8 @@
 use Rattle.std.proofs.Common.{codes, inl, inr, refl}
 use Rattle.bn_words.proofs.NoFormLemmas.{no_ordinals}
 use Rattle.bn_words.proofs.read.read_realise.Goals as goal
-use Rattle.bn_words.proofs.read.read_realise.Goals.{then-state-lt1-via-then-state-lt1, then-state-lt1-via-else-state-lt1+then-line-lt1}
+use Rattle.bn_words.proofs.read.read_realise.Goals.{then-state-lt1-via-then-state-lt1}
+use Rattle.bn_words.proofs.read.read_realise.Goals.{then-state-lt1-via-else-state-lt1+then-line-lt1}
 
 pub returns-then-state-lt1 : goal.returns-then-state-lt1
 returns-then-state-lt1 c =

@@ -4,13 +4,16 @@ use Rattle.std.proofs.lemmas.Bool.Decides.{nat_tests}
 use Rattle.bn_words.specs.Words.{AreRead}
 use Rattle.bn_words.proofs.NoFormLemmas.{eight_texts, five_texts, nine_texts, other_length, six_texts, seven_texts}
 use Rattle.bn_words.proofs.read.read_words.Goals as goal
-use Rattle.bn_words.proofs.read.read_words.Goals.{in_default-via-then-words-lt6+then-words-lt1, in_default-via-then-words-lt6+else-words-lt1+else-words-lt2+else-words-lt3+else-words-lt4+then-words-lt5, in_default-via-else-words-lt6+else-words-lt7+else-words-lt8+else-words-lt9+else-words-lt10}
+use Rattle.bn_words.proofs.read.read_words.Goals.{in_default-via-then-words-lt6+then-words-lt1}
+use Rattle.bn_words.proofs.read.read_words.Goals.{in_default-via-then-words-lt6+else-words-lt1+else-words-lt2+else-words-lt3+else-words-lt4+then-words-lt5}
+use Rattle.bn_words.proofs.read.read_words.Goals.{in_default-via-else-words-lt6+else-words-lt7+else-words-lt8+else-words-lt9+else-words-lt10}
 
 pub returns-in-len5 : goal.returns-in-len5
 returns-in-len5 c =
     let n : length c.args.words.now ≡ 5 = omega (arith, c.in-len5.len_at_least, c.in-len5.len_below) in
     let texts = five_texts (string_bytes {Z = Global}) c.args.words.now c.name-item-then-words-lt6.result
-    c.first-item-then-words-lt6.result c.second-item-then-words-lt6.result c.third-item.result c.number-item-then-words-lt6.result
+    c.first-item-then-words-lt6.result c.second-item-then-words-lt6.result c.third-item.result
+    c.number-item-then-words-lt6.result
     n c.name-item-then-words-lt6.is c.first-item-then-words-lt6.is c.second-item-then-words-lt6.is c.third-item.is
     c.number-item-then-words-lt6.is in
     subst (λ ws. AreRead ws c.read_three_words.result) (let t = texts in cc) c.read_three_words.ensures
@@ -18,18 +21,23 @@ returns-in-len5 c =
 pub returns-in-len6 : goal.returns-in-len6
 returns-in-len6 c =
     let n : length c.args.words.now ≡ 6 = omega (arith, c.in-len6.len_at_least, c.in-len6.len_below) in
-    let texts = six_texts (string_bytes {Z = Global}) c.args.words.now c.name-item-then-words-lt7.result c.word-item.result c.left-item.result
-    c.right-item.result c.steps-item.result c.output-item.result n c.name-item-then-words-lt7.is c.word-item.is c.left-item.is
+    let texts = six_texts (string_bytes {Z = Global}) c.args.words.now c.name-item-then-words-lt7.result
+    c.word-item.result c.left-item.result
+    c.right-item.result c.steps-item.result c.output-item.result n c.name-item-then-words-lt7.is c.word-item.is
+    c.left-item.is
     c.right-item.is c.steps-item.is c.output-item.is in
     subst (λ ws. AreRead ws c.read_window.result) (let t = texts in cc) c.read_window.ensures
 
 pub returns-in-len7 : goal.returns-in-len7
 returns-in-len7 c =
     let n : length c.args.words.now ≡ 7 = omega (arith, c.in-len7.len_at_least, c.in-len7.len_below) in
-    let texts = seven_texts (string_bytes {Z = Global}) c.args.words.now c.name-item-then-words-lt8.result c.word-item-then-words-lt8.result
-    c.left-item-then-words-lt8.result c.right-item-then-words-lt8.result c.steps-item-then-words-lt8.result c.output-item-then-words-lt8.result
+    let texts = seven_texts (string_bytes {Z = Global}) c.args.words.now c.name-item-then-words-lt8.result
+    c.word-item-then-words-lt8.result
+    c.left-item-then-words-lt8.result c.right-item-then-words-lt8.result c.steps-item-then-words-lt8.result
+    c.output-item-then-words-lt8.result
     c.most_steps-item.result n c.name-item-then-words-lt8.is c.word-item-then-words-lt8.is c.left-item-then-words-lt8.is
-    c.right-item-then-words-lt8.is c.steps-item-then-words-lt8.is c.output-item-then-words-lt8.is c.most_steps-item.is in
+    c.right-item-then-words-lt8.is c.steps-item-then-words-lt8.is c.output-item-then-words-lt8.is c.most_steps-item.is
+    in
     subst (λ ws. AreRead ws c.read_window_and_steps.result) (let t = texts in cc) c.read_window_and_steps.ensures
 
 pub returns-in-len8 : goal.returns-in-len8
@@ -53,7 +61,8 @@ returns-in-len9 c =
     c.first-item-then-words-lt10.is c.second-item-then-words-lt10.is c.third-item-then-words-lt10.is
     c.left-item-then-words-lt10.is c.right-item-then-words-lt10.is c.steps-item-then-words-lt10.is
     c.output-item-then-words-lt10.is c.most_steps-item-then-words-lt10.is in
-    subst (λ ws. AreRead ws c.read_three_window_and_steps.result) (let t = texts in cc) c.read_three_window_and_steps.ensures
+    subst (λ ws. AreRead ws c.read_three_window_and_steps.result) (let t = texts in cc)
+    c.read_three_window_and_steps.ensures
 
 pub returns-in_default : goal.returns-in_default
 returns-in_default c = elim c.in_default.branch [

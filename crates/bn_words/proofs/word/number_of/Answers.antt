@@ -5,10 +5,13 @@ use Rattle.bn_words.proofs.word.number_of.Goals as goal
 
 pub returns-else-end-word : goal.returns-else-end-word
 returns-else-end-word c =
-    no_number c.args.word.now c.read_u64.result (c.read_u64.ensures.reads ∙ ap (λ w. read_number w 0) c.as_bytes.ensures.value)
-    (λ n is. c.if-end-word.false (sym (same_end n c.in-Ok.number (length c.args.word.now) c.in-Ok.end (sym is ∙ c.in-Ok.is))))
+    no_number c.args.word.now c.read_u64.result (c.read_u64.ensures.reads
+    ∙ ap (λ w. read_number w 0) c.as_bytes.ensures.value)
+    (λ n is. c.if-end-word.false (sym (same_end n c.in-Ok.number (length c.args.word.now) c.in-Ok.end
+    (sym is ∙ c.in-Ok.is))))
 
 pub returns-in-Err : goal.returns-in-Err
 returns-in-Err c =
-    no_number c.args.word.now c.read_u64.result (c.read_u64.ensures.reads ∙ ap (λ w. read_number w 0) c.as_bytes.ensures.value)
+    no_number c.args.word.now c.read_u64.result (c.read_u64.ensures.reads
+    ∙ ap (λ w. read_number w 0) c.as_bytes.ensures.value)
     (λ n is. cc)

@@ -26,4 +26,7 @@ returns-in-Control c =
     (c.element.ensures ∙ ap (λ x. Some x) c.in-Control.is) kept.machine kept.start kept.names kept.assembled)
 
 pub returns-in-Cell : goal.returns-in-Cell
-returns-in-Cell c = rw (← c.self.view_is) (first_symbols (record { net = c.self.inside.net; config = c.self.inside.config; limits = limits_of c.self.inside.windows }) c.args.tape c.first_cell.result c.in-Cell.cell (tape_is c.args.tape c.requires.first c.requires.last) c.first_cell.ensures (c.element.ensures ∙ ap (λ x. Some x) c.in-Cell.is))
+returns-in-Cell c = rw (← c.self.view_is) (first_symbols (record
+    { net = c.self.inside.net; config = c.self.inside.config; limits = limits_of c.self.inside.windows }) c.args.tape
+    c.first_cell.result c.in-Cell.cell (tape_is c.args.tape c.requires.first c.requires.last) c.first_cell.ensures
+    (c.element.ensures ∙ ap (λ x. Some x) c.in-Cell.is))

@@ -7,5 +7,6 @@ pub returns-in-Left : goal.returns-in-Left
 returns-in-Left c = left c.in-Left.element c.in-Left.line (sym c.in-Left.ensures) refl
 
 pub returns-in-Enter : goal.returns-in-Enter
-returns-in-Enter c = subst (λ p. IsLocated c.args.self.now.layout p c.located.result) c.in-Enter.ensures (subst (λ l. IsLocated l (Enter
+returns-in-Enter c = subst (λ p. IsLocated c.args.self.now.layout p c.located.result) c.in-Enter.ensures
+    (subst (λ l. IsLocated l (Enter
     c.in-Enter.element c.in-Enter.line) c.located.result) c.layout.ensures.layout c.located.ensures)

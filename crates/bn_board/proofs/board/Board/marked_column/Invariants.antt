@@ -4,4 +4,5 @@ use Rattle.bn_board_spec.specs.Layouts.{is_marked_at}
 use Rattle.bn_board.proofs.board.Board.marked_column.Given as goal
 
 abbrev pub invariant-loop-column : goal.invariant-loop-column
-invariant-loop-column l = (j : ℕ) → j < l.column → is_marked_at l.self.config.states (bottom_at l.first l.rows j) ≡ false
+invariant-loop-column l = (j : ℕ) → j < l.column → is_marked_at l.self.config.states (bottom_at l.first l.rows j)
+    ≡ false

@@ -12,9 +12,11 @@ use Rattle.bn_control.proofs.draft.Draft.awaited.Goals as goal
 
 pub awaited_by-requires : goal.awaited_by-requires
 awaited_by-requires c =
-    let low = subst (λ (l : List State). c.loop-state.state-index < length l) c.deref-state-items.ensures.value c.loop-state-test.true in
+    let low = subst (λ (l : List State). c.loop-state.state-index < length l) c.deref-state-items.ensures.value
+    c.loop-state-test.true in
     let at = state_at c.requires.machine c.args.self.now c.requires.is c.loop-state.state-index Begin low in
-    subst (λ (l : List State). OccursInDraft c.args.self.now (get_or l c.loop-state.state-index Begin)) (sym c.deref-state-items.ensures.value)
+    subst (λ (l : List State). OccursInDraft c.args.self.now (get_or l c.loop-state.state-index Begin))
+    (sym c.deref-state-items.ensures.value)
     (record { machine = c.requires.machine; is = c.requires.is; occurs = at.0; proper = at.1 })
 
 pub loop-state-preserved : goal.loop-state-preserved
@@ -23,11 +25,17 @@ loop-state-preserved c = record {
       (let value = c.deref-state-items.ensures.value in
       let low = subst (λ (l : List State). c.loop-state.state-index < length l) value c.loop-state-test.true in
       let at = state_at m c.args.self.now is c.loop-state.state-index Begin low in
-      let occurs = subst (λ (l : List State). Occurs m (name_of (get_or l c.loop-state.state-index Begin))) (sym value) at.0 in
+      let occurs = subst (λ (l : List State). Occurs m (name_of (get_or l c.loop-state.state-index Begin))) (sym value)
+      at.0 in
       let proper = subst (λ (l : List State). IsProper (get_or l c.loop-state.state-index Begin)) (sym value) at.1 in
-      let tells = subst (λ (l : List State). TellsAwaited m (name_of (get_or l c.loop-state.state-index Begin)) c.awaited_by.result) value (c.awaited_by.ensures.tells m is occurs proper) in
-      one_awaited m c.args.self.now.states.items c.loop-state.state-index Begin c.loop-state.awaited.items c.push.new.self.items c.awaited_by.result low c.in_ok-push.ensures.items tells (c.loop-state.invariant.awaited m is));
-  tapes = subst (All IsTapeAwaited) (sym c.in_ok-push.ensures.items) (All-push IsTapeAwaited c.loop-state.awaited.items c.awaited_by.result c.loop-state.invariant.tapes c.awaited_by.ensures.tape);
+      let tells = subst (λ (l : List State). TellsAwaited m (name_of (get_or l c.loop-state.state-index Begin))
+      c.awaited_by.result) value (c.awaited_by.ensures.tells m is occurs proper) in
+      one_awaited m c.args.self.now.states.items c.loop-state.state-index Begin c.loop-state.awaited.items
+      c.push.new.self.items c.awaited_by.result low c.in_ok-push.ensures.items tells
+      (c.loop-state.invariant.awaited m is));
+  tapes = subst (All IsTapeAwaited) (sym c.in_ok-push.ensures.items)
+      (All-push IsTapeAwaited c.loop-state.awaited.items c.awaited_by.result c.loop-state.invariant.tapes
+      c.awaited_by.ensures.tape);
 }
 
 pub returns-clause-awaited : goal.returns-clause-awaited
@@ -36,5 +44,6 @@ returns-clause-awaited c = λ m is.
     let end = c.loop-state.auto.state-index-end in
     let same = ap length c.deref-state-items.ensures.value in
     let all : c.loop-state.state-index ≡ length c.args.self.now.states.items = omega arith in
-    let whole : take c.loop-state.state-index c.args.self.now.states.items ≡ c.args.self.now.states.items = ap (λ n. take n c.args.self.now.states.items) all ∙ take-length c.args.self.now.states.items in
+    let whole : take c.loop-state.state-index c.args.self.now.states.items ≡ c.args.self.now.states.items =
+    ap (λ n. take n c.args.self.now.states.items) all ∙ take-length c.args.self.now.states.items in
     subst (λ (l : List State). AreAwaited m l c.loop-state.awaited.items) whole (c.loop-state.invariant.awaited m is)

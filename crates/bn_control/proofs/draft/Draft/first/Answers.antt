@@ -10,14 +10,18 @@ returns-in-End c = λ m a is sent. final_first m c.args.self.now is a c.args.ent
 
 pub number_of-number-requires : goal.number_of-number-requires
 number_of-number-requires c = record {
-  known = subst (λ (l : List State). HasNumber l c.args.entry.now.state) (sym c.as_slice.ensures.value) (entry_number c.requires.machine c.args.self.now c.requires.is c.requires.state c.args.entry.now c.requires.sent);
+  known = subst (λ (l : List State). HasNumber l c.args.entry.now.state) (sym c.as_slice.ensures.value)
+      (entry_number c.requires.machine c.args.self.now c.requires.is c.requires.state c.args.entry.now c.requires.sent);
   few = subst (λ (l : List State). length l < 2 ^ 32) (sym c.as_slice.ensures.value) c.requires.is.few_states;
 }
 
 pub out_number-requires-clause-within : goal.out_number-requires-clause-within
-out_number-requires-clause-within c = entry_line c.requires.machine c.args.self.now c.requires.is c.requires.state c.args.entry.now c.requires.sent
+out_number-requires-clause-within c = entry_line c.requires.machine c.args.self.now c.requires.is c.requires.state
+    c.args.entry.now c.requires.sent
 
 pub returns-in_default : goal.returns-in_default
 returns-in_default c = λ m a is sent.
-    let number = subst (λ (l : List State). slice_get (map name_of l) c.number_of-number.result ≡ Some (name_of c.args.entry.now.state)) c.as_slice.ensures.value c.number_of-number.ensures in
-    other_first m c.args.self.now is a c.args.entry.now c.number_of-number.result c.out_number.result sent c.in_default.not-End number (c.out_number.ensures m is.symbols)
+    let number = subst (λ (l : List State). slice_get (map name_of l) c.number_of-number.result
+    ≡ Some (name_of c.args.entry.now.state)) c.as_slice.ensures.value c.number_of-number.ensures in
+    other_first m c.args.self.now is a c.args.entry.now c.number_of-number.result c.out_number.result sent
+    c.in_default.not-End number (c.out_number.ensures m is.symbols)

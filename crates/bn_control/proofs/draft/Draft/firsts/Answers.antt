@@ -13,17 +13,24 @@ nothing = record { state = Begin; line = Outside }
 
 pub first-requires : goal.first-requires
 first-requires c =
-    let low = subst (λ (l : List Sending). c.loop-entry.entry-index < length l) c.deref-entry-items.ensures.value c.loop-entry-test.true in
+    let low = subst (λ (l : List Sending). c.loop-entry.entry-index < length l) c.deref-entry-items.ensures.value
+    c.loop-entry-test.true in
     let sent = entry_at c.requires.machine c.args.self.now c.requires.is c.loop-entry.entry-index nothing low in
-    subst (λ (l : List Sending). IsSomeEntry c.args.self.now (get_or l c.loop-entry.entry-index nothing)) (sym c.deref-entry-items.ensures.value)
+    subst (λ (l : List Sending). IsSomeEntry c.args.self.now (get_or l c.loop-entry.entry-index nothing))
+    (sym c.deref-entry-items.ensures.value)
     (record { machine = c.requires.machine; is = c.requires.is; state = c.loop-entry.entry-index; sent = sent })
 
 pub loop-entry-preserved : goal.loop-entry-preserved
 loop-entry-preserved c = record {
   firsts = λ m is.
-      (let low = subst (λ (l : List Sending). c.loop-entry.entry-index < length l) c.deref-entry-items.ensures.value c.loop-entry-test.true in
-      let sent = subst (λ (l : List Sending). IsFirstSent m c.loop-entry.entry-index (get_or l c.loop-entry.entry-index nothing)) (sym c.deref-entry-items.ensures.value) (entry_at m c.args.self.now is c.loop-entry.entry-index nothing low) in
-      one_first m c.args.self.now.states.items c.loop-entry.entry-index c.loop-entry.firsts.items c.push.new.self.items c.first.result c.in_ok-push.ensures.items (c.first.ensures m c.loop-entry.entry-index is sent) (c.loop-entry.invariant.firsts m is));
+      (let low = subst (λ (l : List Sending). c.loop-entry.entry-index < length l) c.deref-entry-items.ensures.value
+      c.loop-entry-test.true in
+      let sent = subst (λ (l : List Sending). IsFirstSent m c.loop-entry.entry-index
+      (get_or l c.loop-entry.entry-index nothing)) (sym c.deref-entry-items.ensures.value)
+      (entry_at m c.args.self.now is c.loop-entry.entry-index nothing low) in
+      one_first m c.args.self.now.states.items c.loop-entry.entry-index c.loop-entry.firsts.items c.push.new.self.items
+      c.first.result c.in_ok-push.ensures.items (c.first.ensures m c.loop-entry.entry-index is sent)
+      (c.loop-entry.invariant.firsts m is));
 }
 
 pub returns : goal.returns
@@ -33,4 +40,5 @@ returns c = λ m is.
     let same = ap length c.deref-entry-items.ensures.value in
     let count = is.entries.counted in
     let all : c.loop-entry.entry-index ≡ m.states = omega arith in
-    subst (λ n. AreFirsts m c.args.self.now.states.items n c.loop-entry.firsts.items) all (c.loop-entry.invariant.firsts m is)
+    subst (λ n. AreFirsts m c.args.self.now.states.items n c.loop-entry.firsts.items) all
+    (c.loop-entry.invariant.firsts m is)

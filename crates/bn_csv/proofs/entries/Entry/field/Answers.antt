@@ -11,4 +11,5 @@ unreachable-requires c =
     field_within fields c.args.place within (sym (field_at-is fields c.args.place) ∙ sym c.in-None.ensures.value)
 
 pub returns : goal.returns
-returns c = rw (← c.self.view_is) (sym (field_at-is (fields_of c.self.inside.record) c.args.place) ∙ sym c.in-Some.ensures.value)
+returns c = rw (← c.self.view_is) (sym (field_at-is (fields_of c.self.inside.record) c.args.place)
+    ∙ sym c.in-Some.ensures.value)

@@ -7,7 +7,8 @@ use Rattle.bn_machine.proofs.RoomLemmas.{cell-window_of}
 use Rattle.bn_machine.proofs.tape.Tape.symbol.Goals as goal
 
 -- the cell numbered i, where the position is that of the cell
-read : (cells : List ℕ) (left right at i x : ℕ) (p : ℤ) (w : Windowed) → x ≡ get_or cells i x → i < length cells → p ≡ pos i -ℤ pos left → window_of left right cells at ≡ w → x ≡ cell w.tape p
+read : (cells : List ℕ) (left right at i x : ℕ) (p : ℤ) (w : Windowed) → x ≡ get_or cells i x → i < length cells
+    → p ≡ pos i -ℤ pos left → window_of left right cells at ≡ w → x ≡ cell w.tape p
 read cells left right at i x p w found inside place view =
     found
     ∙ get_or_default_zero cells i x inside
@@ -15,4 +16,6 @@ read cells left right at i x p w found inside place view =
     ∙ ap (λ (v : Windowed). cell v.tape p) view
 
 pub returns-clause-value : goal.returns-clause-value
-returns-clause-value c = read c.self.inside.cells.items c.self.inside.left c.self.inside.right c.self.inside.at _ c.index.result.now c.args.position c.args.self.now c.index.ensures (omega (arith, ints, c.self.invariant.cells_number)) (omega (arith, ints)) c.self.view_is
+returns-clause-value c = read c.self.inside.cells.items c.self.inside.left c.self.inside.right c.self.inside.at _
+    c.index.result.now c.args.position c.args.self.now c.index.ensures
+    (omega (arith, ints, c.self.invariant.cells_number)) (omega (arith, ints)) c.self.view_is

@@ -11,26 +11,47 @@ use Rattle.bn_net.proofs.net.Net.back_step.Goals as goal
 
 pub returns-in_default-clause-first : goal.returns-in_default-clause-first
 returns-in_default-clause-first g c =
-    let whole = view-IsCircuit g.E.Element.table g.met.E.Element.reversible c.self.inside.elements.items c.self.inside.targets c.self.inside.sources c.args.self.now c.self.invariant c.self.view_is in
+    let whole = view-IsCircuit g.E.Element.table g.met.E.Element.reversible c.self.inside.elements.items
+    c.self.inside.targets c.self.inside.sources c.args.self.now c.self.invariant c.self.view_is in
     first_by_line (circuit g.E.Element.table c.args.self.now) whole c.args.config.now (sym c.in_default.ensures.line)
 
 pub get-state-requires : goal.get-state-requires
-get-state-requires g c = output-state (circuit g.E.Element.table c.args.self.now) c.args.config.now c.in-Some.field-0 c.requires c.in-Some.ensures.output
+get-state-requires g c = output-state (circuit g.E.Element.table c.args.self.now) c.args.config.now c.in-Some.field-0
+    c.requires c.in-Some.ensures.output
 
 pub returns-in_default-back-clause-first : goal.returns-in_default-back-clause-first
 returns-in_default-back-clause-first g c =
-    let whole = view-IsCircuit g.E.Element.table g.met.E.Element.reversible c.self.inside.elements.items c.self.inside.targets c.self.inside.sources c.args.self.now c.self.invariant c.self.view_is in
-    first_by_move (circuit g.E.Element.table c.args.self.now) whole c.args.config.now c.in-Some.field-0 c.get-state.result (sym c.in-Some.ensures.line) c.get-state.ensures (sym c.in_default-back.ensures)
+    let whole = view-IsCircuit g.E.Element.table g.met.E.Element.reversible c.self.inside.elements.items
+    c.self.inside.targets c.self.inside.sources c.args.self.now c.self.invariant c.self.view_is in
+    first_by_move (circuit g.E.Element.table c.args.self.now) whole c.args.config.now c.in-Some.field-0
+    c.get-state.result (sym c.in-Some.ensures.line) c.get-state.ensures (sym c.in_default-back.ensures)
 
 pub set-requires : goal.set-requires
-set-requires g c = output-state (circuit g.E.Element.table c.args.self.now) c.args.config.now c.in-Some.field-0 c.requires c.in-Some.ensures.output
+set-requires g c = output-state (circuit g.E.Element.table c.args.self.now) c.args.config.now c.in-Some.field-0
+    c.requires c.in-Some.ensures.output
 
-made : (g : Over) (c : goal.After-config-2-1 g) → Goes (circuit g.E.Element.table c.args.self.now) (record { states = c.set.new.self; place = Enter c.in-Some.field-0.element c.in-Some-back.input; steps = c.args.config.now.steps - 1 }) c.args.config.now
+made : (g : Over) (c : goal.After-config-2-1 g) → Goes (circuit g.E.Element.table c.args.self.now)
+    (record {
+      states = c.set.new.self;
+      place = Enter c.in-Some.field-0.element c.in-Some-back.input;
+      steps = c.args.config.now.steps - 1;
+    }) c.args.config.now
 made g c =
-    let whole = view-IsCircuit g.E.Element.table g.met.E.Element.reversible c.self.inside.elements.items c.self.inside.targets c.self.inside.sources c.args.self.now c.self.invariant c.self.view_is in
-    back-Goes (circuit g.E.Element.table c.args.self.now) whole (record { states = c.set.new.self; place = Enter c.in-Some.field-0.element c.in-Some-back.input; steps = c.args.config.now.steps - 1 }) c.args.config.now c.requires c.in-Some.field-0 c.get-state.result c.in-Some-back.before c.in-Some-back.input
+    let whole = view-IsCircuit g.E.Element.table g.met.E.Element.reversible c.self.inside.elements.items
+    c.self.inside.targets c.self.inside.sources c.args.self.now c.self.invariant c.self.view_is in
+    back-Goes (circuit g.E.Element.table c.args.self.now) whole
+    (record {
+      states = c.set.new.self;
+      place = Enter c.in-Some.field-0.element c.in-Some-back.input;
+      steps = c.args.config.now.steps - 1;
+    }) c.args.config.now c.requires c.in-Some.field-0 c.get-state.result
+    c.in-Some-back.before c.in-Some-back.input
     (sym c.in-Some.ensures.line) c.get-state.ensures (sym c.in-Some-back.ensures)
-    (ap (λ xs. let r : Config = record { states = xs; place = Enter c.in-Some.field-0.element c.in-Some-back.input; steps = c.args.config.now.steps - 1 } in r) c.set.ensures)
+    (ap (λ xs. let r : Config = record {
+      states = xs;
+      place = Enter c.in-Some.field-0.element c.in-Some-back.input;
+      steps = c.args.config.now.steps - 1;
+    } in r) c.set.ensures)
     c.if-config-eq0.false
 
 pub returns-clause-made : goal.returns-clause-made
@@ -38,5 +59,11 @@ returns-clause-made g c = made g c
 
 pub returns-clause-good : goal.returns-clause-good
 returns-clause-good g c =
-    let whole = view-IsCircuit g.E.Element.table g.met.E.Element.reversible c.self.inside.elements.items c.self.inside.targets c.self.inside.sources c.args.self.now c.self.invariant c.self.view_is in
-    previous-IsConfig (circuit g.E.Element.table c.args.self.now) whole (record { states = c.set.new.self; place = Enter c.in-Some.field-0.element c.in-Some-back.input; steps = c.args.config.now.steps - 1 }) c.args.config.now c.requires (made g c)
+    let whole = view-IsCircuit g.E.Element.table g.met.E.Element.reversible c.self.inside.elements.items
+    c.self.inside.targets c.self.inside.sources c.args.self.now c.self.invariant c.self.view_is in
+    previous-IsConfig (circuit g.E.Element.table c.args.self.now) whole
+    (record {
+      states = c.set.new.self;
+      place = Enter c.in-Some.field-0.element c.in-Some-back.input;
+      steps = c.args.config.now.steps - 1;
+    }) c.args.config.now c.requires (made g c)

@@ -12,16 +12,19 @@ invariant_of-self g c =
     let table = g.E.Element.table in
     let i = c.self.inside in
     let w = c.args.wire in
-    let none : fault_of (map table i.elements.items) (wires_of 0 i.targets) w ≡ None = subst (λ (n : Parts _). fault_of (map table n.elements) n.wires w ≡ None) (sym c.self.view_is) c.requires in
+    let none : fault_of (map table i.elements.items) (wires_of 0 i.targets) w ≡ None =
+    subst (λ (n : Parts _). fault_of (map table n.elements) n.wires w ≡ None) (sym c.self.view_is) c.requires in
     let free = free_of (map table i.elements.items) (wires_of 0 i.targets) w none in
-    rw (c.set.ensures, c.set-2.ensures) (connected (map table i.elements.items) i.targets i.sources w c.self.invariant free)
+    rw (c.set.ensures, c.set-2.ensures) (connected (map table i.elements.items) i.targets i.sources w c.self.invariant
+    free)
 
 pub returns-clause-targets : goal.returns-clause-targets
 returns-clause-targets g c =
     let table = g.E.Element.table in
     let i = c.self.inside in
     let w = c.args.wire in
-    let none : fault_of (map table i.elements.items) (wires_of 0 i.targets) w ≡ None = subst (λ (n : Parts _). fault_of (map table n.elements) n.wires w ≡ None) (sym c.self.view_is) c.requires in
+    let none : fault_of (map table i.elements.items) (wires_of 0 i.targets) w ≡ None =
+    subst (λ (n : Parts _). fault_of (map table n.elements) n.wires w ≡ None) (sym c.self.view_is) c.requires in
     let free = free_of (map table i.elements.items) (wires_of 0 i.targets) w none in
     λ from.
     ap (λ rows. target (wires_of 0 rows) from) c.set.ensures
@@ -33,7 +36,8 @@ returns-clause-sources g c =
     let table = g.E.Element.table in
     let i = c.self.inside in
     let w = c.args.wire in
-    let none : fault_of (map table i.elements.items) (wires_of 0 i.targets) w ≡ None = subst (λ (n : Parts _). fault_of (map table n.elements) n.wires w ≡ None) (sym c.self.view_is) c.requires in
+    let none : fault_of (map table i.elements.items) (wires_of 0 i.targets) w ≡ None =
+    subst (λ (n : Parts _). fault_of (map table n.elements) n.wires w ≡ None) (sym c.self.view_is) c.requires in
     let free = free_of (map table i.elements.items) (wires_of 0 i.targets) w none in
     λ to.
     ap (λ rows. source (wires_of 0 rows) to) c.set.ensures

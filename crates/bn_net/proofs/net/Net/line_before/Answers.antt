@@ -7,9 +7,12 @@ use Rattle.bn_net.proofs.net.Net.line_before.Goals as goal
 pub returns-in-Enter-clause-output : goal.returns-in-Enter-clause-output
 returns-in-Enter-clause-output g c = by_source c.source.result c.source.ensures
   where
-    by_source : (o : Option Line) → o ≡ source c.args.self.now.wires (record { element = c.in-Enter.element; line = c.in-Enter.line }) → IfSome o (IsOutputOf (map g.E.Element.table c.args.self.now.elements))
+    by_source : (o : Option Line) → o ≡ source c.args.self.now.wires
+        (record { element = c.in-Enter.element; line = c.in-Enter.line })
+        → IfSome o (IsOutputOf (map g.E.Element.table c.args.self.now.elements))
     by_source None is = tt
     by_source (Some from) is =
-        let circuit = view-IsCircuit g.E.Element.table g.met.E.Element.reversible c.self.inside.elements.items c.self.inside.targets c.self.inside.sources c.args.self.now c.self.invariant c.self.view_is in
+        let circuit = view-IsCircuit g.E.Element.table g.met.E.Element.reversible c.self.inside.elements.items
+        c.self.inside.targets c.self.inside.sources c.args.self.now c.self.invariant c.self.view_is in
         let to : Line = record { element = c.in-Enter.element; line = c.in-Enter.line } in
         (circuit.wired from to ((circuit.one_to_one from to).1 (sym is))).0

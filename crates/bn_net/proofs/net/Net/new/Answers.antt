@@ -8,20 +8,38 @@ use Rattle.bn_net.proofs.net.Net.new.Goals as goal
 pub loop-index-init : goal.loop-index-init
 loop-index-init g c = (
   c.in_ok-net.ensures.elements,
-  nothing_built (map g.E.Element.table c.args.elements.items) c.args.wires.now c.in_ok-net.net.wires c.in_ok-net.ensures.wires,
+  nothing_built (map g.E.Element.table c.args.elements.items) c.args.wires.now c.in_ok-net.net.wires
+      c.in_ok-net.ensures.wires,
 )
 
 pub connect-requires : goal.connect-requires
 connect-requires g c =
-    let none = next_faultless (map g.E.Element.table c.args.elements.items) c.args.wires.now c.loop-index.net.wires c.loop-index.index (get_or c.args.wires.now c.loop-index.index (record { from = record { element = 0; line = 0 }; to = record { element = 0; line = 0 } })) c.loop-index.invariant.1 c.loop-index-test.true (slice_get-get_or c.args.wires.now c.loop-index.index _ c.loop-index-test.true) c.requires.faultless in
-    subst (λ xs. fault_of (map g.E.Element.table xs) c.loop-index.net.wires (get_or c.args.wires.now c.loop-index.index (record { from = record { element = 0; line = 0 }; to = record { element = 0; line = 0 } })) ≡ None) (sym c.loop-index.invariant.0) none
+    let none = next_faultless (map g.E.Element.table c.args.elements.items) c.args.wires.now c.loop-index.net.wires
+    c.loop-index.index (get_or c.args.wires.now c.loop-index.index
+    (record { from = record { element = 0; line = 0 }; to = record { element = 0; line = 0 } }))
+    c.loop-index.invariant.1 c.loop-index-test.true (slice_get-get_or c.args.wires.now c.loop-index.index _
+    c.loop-index-test.true) c.requires.faultless in
+    subst (λ xs. fault_of (map g.E.Element.table xs) c.loop-index.net.wires
+    (get_or c.args.wires.now c.loop-index.index (record {
+      from = record { element = 0; line = 0 };
+      to = record
+          { element = 0; line = 0 };
+    })) ≡ None) (sym c.loop-index.invariant.0) none
 
 pub loop-index-preserved : goal.loop-index-preserved
 loop-index-preserved g c =
-    let none = next_faultless (map g.E.Element.table c.args.elements.items) c.args.wires.now c.loop-index.net.wires c.loop-index.index (get_or c.args.wires.now c.loop-index.index (record { from = record { element = 0; line = 0 }; to = record { element = 0; line = 0 } })) c.loop-index.invariant.1 c.loop-index-test.true (slice_get-get_or c.args.wires.now c.loop-index.index _ c.loop-index-test.true) c.requires.faultless in (
+    let none = next_faultless (map g.E.Element.table c.args.elements.items) c.args.wires.now c.loop-index.net.wires
+    c.loop-index.index (get_or c.args.wires.now c.loop-index.index
+    (record { from = record { element = 0; line = 0 }; to = record { element = 0; line = 0 } }))
+    c.loop-index.invariant.1 c.loop-index-test.true (slice_get-get_or c.args.wires.now c.loop-index.index _
+    c.loop-index-test.true) c.requires.faultless in (
       c.connect.ensures.elements ∙ c.loop-index.invariant.0,
-      more_built (map g.E.Element.table c.args.elements.items) c.args.wires.now c.loop-index.net.wires c.connect.new.self.wires c.loop-index.index (get_or c.args.wires.now c.loop-index.index (record { from = record { element = 0; line = 0 }; to = record { element = 0; line = 0 } })) c.loop-index.invariant.1 c.loop-index-test.true
-          (slice_get-get_or c.args.wires.now c.loop-index.index _ c.loop-index-test.true) none c.connect.ensures.targets c.connect.ensures.sources,
+      more_built (map g.E.Element.table c.args.elements.items) c.args.wires.now c.loop-index.net.wires
+          c.connect.new.self.wires c.loop-index.index (get_or c.args.wires.now c.loop-index.index
+          (record { from = record { element = 0; line = 0 }; to = record { element = 0; line = 0 } }))
+          c.loop-index.invariant.1 c.loop-index-test.true
+          (slice_get-get_or c.args.wires.now c.loop-index.index _ c.loop-index-test.true) none c.connect.ensures.targets
+          c.connect.ensures.sources,
     )
 
 pub returns-clause-targets : goal.returns-clause-targets
@@ -31,4 +49,5 @@ pub returns-clause-sources : goal.returns-clause-sources
 returns-clause-sources g c = built_sources c.loop-index.invariant.1 c.loop-index-test.false
 
 pub returns-clause-circuit : goal.returns-clause-circuit
-returns-clause-circuit g c = view-IsCircuit g.E.Element.table g.met.E.Element.reversible c.net.inside.elements.items c.net.inside.targets c.net.inside.sources c.loop-index.net c.net.invariant c.net.view_is
+returns-clause-circuit g c = view-IsCircuit g.E.Element.table g.met.E.Element.reversible c.net.inside.elements.items
+    c.net.inside.targets c.net.inside.sources c.loop-index.net c.net.invariant c.net.view_is

@@ -9,26 +9,40 @@ use Rattle.bn_net.proofs.net.Net.run.Goals as goal
 
 pub returns-then-not-step-clause-run : goal.returns-then-not-step-clause-run
 returns-then-not-step-clause-run g c =
-    c.if-not-step.ensures.kept ∙ sym (run_stops (circuit g.E.Element.table c.args.self.now) c.loop-made.made c.args.e c.args.config.now c.loop-made.config c.loop-made.invariant.0 (omega (arith, c.loop-made-test.true)) (λ _. c.if-not-step.ensures.stuck))
+    c.if-not-step.ensures.kept ∙ sym (run_stops (circuit g.E.Element.table c.args.self.now) c.loop-made.made c.args.e
+    c.args.config.now c.loop-made.config c.loop-made.invariant.0 (omega (arith, c.loop-made-test.true))
+    (λ _. c.if-not-step.ensures.stuck))
 
 pub returns-then-not-step-clause-undone : goal.returns-then-not-step-clause-undone
 returns-then-not-step-clause-undone g c =
-    let whole = view-IsCircuit g.E.Element.table g.met.E.Element.reversible c.self.inside.elements.items c.self.inside.targets c.self.inside.sources c.args.self.now c.self.invariant c.self.view_is in
-    ap (λ x. back (circuit g.E.Element.table c.args.self.now) x c.loop-made.made) c.if-not-step.ensures.kept ∙ Reaches-back (circuit g.E.Element.table c.args.self.now) whole c.loop-made.made c.args.config.now c.loop-made.config c.loop-made.invariant.0
+    let whole = view-IsCircuit g.E.Element.table g.met.E.Element.reversible c.self.inside.elements.items
+    c.self.inside.targets c.self.inside.sources c.args.self.now c.self.invariant c.self.view_is in
+    ap (λ x. back (circuit g.E.Element.table c.args.self.now) x c.loop-made.made) c.if-not-step.ensures.kept
+    ∙ Reaches-back (circuit g.E.Element.table c.args.self.now) whole c.loop-made.made c.args.config.now
+    c.loop-made.config c.loop-made.invariant.0
 
 pub loop-made-preserved : goal.loop-made-preserved
-loop-made-preserved g c =
-    (runs_more (Goes (circuit g.E.Element.table c.args.self.now)) c.loop-made.made c.args.config.now c.loop-made.config c.step.new.config c.loop-made.invariant.0 c.if-not-step.ensures.made, c.step.ensures.good)
+loop-made-preserved g c = (
+  runs_more (Goes (circuit g.E.Element.table c.args.self.now)) c.loop-made.made c.args.config.now c.loop-made.config
+      c.step.new.config c.loop-made.invariant.0 c.if-not-step.ensures.made,
+  c.step.ensures.good,
+)
 
 pub returns-clause-run : goal.returns-clause-run
 returns-clause-run g c =
-    sym (run_stops (circuit g.E.Element.table c.args.self.now) c.loop-made.made c.args.e c.args.config.now c.loop-made.config c.loop-made.invariant.0 c.loop-made.auto.made-end (λ fewer. absurd (omega (arith, c.loop-made-test.false))))
+    sym (run_stops (circuit g.E.Element.table c.args.self.now) c.loop-made.made c.args.e c.args.config.now
+    c.loop-made.config c.loop-made.invariant.0 c.loop-made.auto.made-end
+    (λ fewer. absurd (omega (arith, c.loop-made-test.false))))
 
 pub returns-clause-undone : goal.returns-clause-undone
 returns-clause-undone g c =
-    let whole = view-IsCircuit g.E.Element.table g.met.E.Element.reversible c.self.inside.elements.items c.self.inside.targets c.self.inside.sources c.args.self.now c.self.invariant c.self.view_is in
+    let whole = view-IsCircuit g.E.Element.table g.met.E.Element.reversible c.self.inside.elements.items
+    c.self.inside.targets c.self.inside.sources c.args.self.now c.self.invariant c.self.view_is in
     let all : c.loop-made.made ≡ c.args.e = omega (arith, c.loop-made-test.false, c.loop-made.auto.made-end) in
-    ap (λ n. back (circuit g.E.Element.table c.args.self.now) c.loop-made.config n) (sym all) ∙ Reaches-back (circuit g.E.Element.table c.args.self.now) whole c.loop-made.made c.args.config.now c.loop-made.config c.loop-made.invariant.0
+    ap (λ n. back (circuit g.E.Element.table c.args.self.now) c.loop-made.config n) (sym all)
+    ∙ Reaches-back (circuit g.E.Element.table c.args.self.now) whole c.loop-made.made c.args.config.now
+    c.loop-made.config c.loop-made.invariant.0
 
 pub returns-then-not-step-clause-ended : goal.returns-then-not-step-clause-ended
-returns-then-not-step-clause-ended g c = λ fewer. subst (IsStuck (circuit g.E.Element.table c.args.self.now)) (sym c.if-not-step.ensures.kept) c.if-not-step.ensures.stuck
+returns-then-not-step-clause-ended g c = λ fewer. subst (IsStuck (circuit g.E.Element.table c.args.self.now))
+    (sym c.if-not-step.ensures.kept) c.if-not-step.ensures.stuck

@@ -4,4 +4,5 @@ use Rattle.bn_net.specs.Parts.{circuit}
 use Rattle.bn_net.proofs.net.Net.run.Given as goal
 
 abbrev pub invariant-loop-made : goal.invariant-loop-made
-invariant-loop-made g l = Reaches (Goes (circuit g.E.Element.table l.self)) l.made l.fn.config l.config × IsConfig (circuit g.E.Element.table l.self) l.config
+invariant-loop-made g l = Reaches (Goes (circuit g.E.Element.table l.self)) l.made l.fn.config l.config
+    × IsConfig (circuit g.E.Element.table l.self) l.config

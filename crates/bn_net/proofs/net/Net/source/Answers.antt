@@ -5,4 +5,5 @@ use Rattle.bn_net.proofs.WireLemmas.{source-wires}
 use Rattle.bn_net.proofs.net.Net.source.Goals as goal
 
 pub returns : goal.returns
-returns g c = c.get.ensures ∙ sym (source-wires c.self.inside.targets c.self.inside.sources c.self.invariant.paired c.args.to) ∙ ap (λ (n : Parts _). source n.wires c.args.to) c.self.view_is
+returns g c = c.get.ensures ∙ sym (source-wires c.self.inside.targets c.self.inside.sources c.self.invariant.paired
+    c.args.to) ∙ ap (λ (n : Parts _). source n.wires c.args.to) c.self.view_is

@@ -5,4 +5,5 @@ use Rattle.bn_net.proofs.WireLemmas.{target-wires}
 use Rattle.bn_net.proofs.net.Net.target.Goals as goal
 
 pub returns : goal.returns
-returns g c = c.get.ensures ∙ sym (target-wires c.self.inside.targets c.args.from) ∙ ap (λ (n : Parts _). target n.wires c.args.from) c.self.view_is
+returns g c = c.get.ensures ∙ sym (target-wires c.self.inside.targets c.args.from)
+    ∙ ap (λ (n : Parts _). target n.wires c.args.from) c.self.view_is

@@ -3,4 +3,5 @@ use Rattle.bn_net.proofs.FaultLemmas.{IsBuilt}
 use Rattle.bn_net.proofs.net.Net.try_new.Given as goal
 
 abbrev pub invariant-loop-index : goal.invariant-loop-index
-invariant-loop-index g l = (l.net.elements ≡ l.fn.elements.items) × IsBuilt (map g.E.Element.table l.fn.elements.items) l.wires l.net.wires l.index
+invariant-loop-index g l = (l.net.elements ≡ l.fn.elements.items)
+    × IsBuilt (map g.E.Element.table l.fn.elements.items) l.wires l.net.wires l.index

@@ -9,7 +9,10 @@ use Rattle.bn_netlist.proofs.draft.Draft.connect.Goals as goal
 pub returns-in_err-to-clause-refused : goal.returns-in_err-to-clause-refused
 returns-in_err-to-clause-refused c =
     let p = err_from_is_err_and c.from_residual.result c.from_residual.ensures.1 in
-    rw (p.1, p.2) (tested-Err (wire_fault (header_then c.args.header.now []) c.args.self.now.wires.items c.args.from (named c.args.to)) c.args.line (named c.args.to) _ c.in_err-to.ensures)
+    rw (p.1, p.2) (tested-Err (wire_fault (header_then c.args.header.now []) c.args.self.now.wires.items c.args.from
+    (named c.args.to)) c.args.line (named c.args.to) _ c.in_err-to.ensures)
 
 pub returns-clause-added : goal.returns-clause-added
-returns-clause-added c = connected c.args.header.now c.args.line c.args.from (named c.args.to) c.in_ok-to.to c.args.self.now.wires.items c.push.new.self.items c.args.self.now.fed.items c.requires.fed c.in_ok-to.ensures c.requires.low c.in-Ok.ensures.items
+returns-clause-added c = connected c.args.header.now c.args.line c.args.from (named c.args.to) c.in_ok-to.to
+    c.args.self.now.wires.items c.push.new.self.items c.args.self.now.fed.items c.requires.fed c.in_ok-to.ensures
+    c.requires.low c.in-Ok.ensures.items

@@ -15,7 +15,8 @@ returns-then-number-from-clause-refused c =
     let from_is : c.from.result ≡ c.args.self.now.lines = omega arith in
     λ rows holds.
     refuses_order (fault_of (header_then h rows) x) (c.from-line.result + 7) (length rows + 7)
-    (element_order h rows c.args.number c.args.self.now.lines c.args.state (named_targets c.args.targets.now) (sym holds.lines_are) (λ same. c.if-number-from.true (same ∙ sym from_is)))
+    (element_order h rows c.args.number c.args.self.now.lines c.args.state (named_targets c.args.targets.now)
+    (sym holds.lines_are) (λ same. c.if-number-from.true (same ∙ sym from_is)))
     (ap (λ (n : ℕ). n + 7) (line_is ∙ holds.lines_are))
 
 pub returns-in_err-connect_all-clause-refused : goal.returns-in_err-connect_all-clause-refused
@@ -28,8 +29,11 @@ returns-in_err-connect_all-clause-refused c =
     let from_is : c.from.result ≡ c.args.self.now.lines = omega arith in
     let p = err_from_is_err_and c.from_residual.result c.from_residual.ensures.1 in
     rw (p.1, p.2) (λ rows holds.
-    refuses_same (outputs_fault (header_then h []) ws lines 0 ts) (fault_of (header_then h rows) (Element c.args.number c.args.state ts)) (c.from-line.result + 7) (length rows + 7) _
-    (element_fault_at h rows ws c.args.number lines c.args.state ts (c.if-number-from.false ∙ from_is) (sym holds.lines_are) holds.wires_are)
+    refuses_same (outputs_fault (header_then h []) ws lines 0 ts)
+    (fault_of (header_then h rows) (Element c.args.number c.args.state ts)) (c.from-line.result + 7)
+    (length rows + 7) _
+    (element_fault_at h rows ws c.args.number lines c.args.state ts (c.if-number-from.false ∙ from_is)
+    (sym holds.lines_are) holds.wires_are)
     (ap (λ (n : ℕ). n + 7) (line_is ∙ holds.lines_are))
     c.in_err-connect_all.ensures.refused)
 
@@ -40,5 +44,9 @@ pub returns-clause-read : goal.returns-clause-read
 returns-clause-read c =
     let from_is : c.from.result ≡ c.args.self.now.lines = omega arith in
     λ rows holds.
-    element_read c.args.header.now rows c.args.self.now.lines c.args.self.now.rows (c.args.self.now.lines + 1) c.args.state c.args.number c.args.self.now.states.items c.push.new.self.items c.args.self.now.own.items c.push-2.new.self.items c.args.self.now.ends.wires.items c.connect_all.new.self.wires.items c.args.self.now.ends.fed.items c.connect_all.new.self.fed.items (named_targets c.args.targets.now)
-    (c.if-number-from.false ∙ from_is) refl c.in-Ok.ensures.items c.in-Ok-push.ensures.items holds c.in_ok-connect_all.ensures.added
+    element_read c.args.header.now rows c.args.self.now.lines c.args.self.now.rows (c.args.self.now.lines + 1)
+    c.args.state c.args.number c.args.self.now.states.items c.push.new.self.items c.args.self.now.own.items
+    c.push-2.new.self.items c.args.self.now.ends.wires.items c.connect_all.new.self.wires.items
+    c.args.self.now.ends.fed.items c.connect_all.new.self.fed.items (named_targets c.args.targets.now)
+    (c.if-number-from.false ∙ from_is) refl c.in-Ok.ensures.items c.in-Ok-push.ensures.items holds
+    c.in_ok-connect_all.ensures.added

@@ -18,7 +18,8 @@ returns-in_err-connect_all-clause-refused c =
     let place : c.args.self.now.lines ≡ e + 1 = omega (arith, c.requires.begun) in
     let p = err_from_is_err_and c.from_residual.result c.from_residual.ensures.1 in
     rw (p.1, p.2) (λ rows holds.
-    refuses_same (outputs_fault (header_then h []) ws e 1 (x ∷ None ∷ y ∷ [])) (fault_of (header_then h rows) (Row x y)) (c.from-line.result + 7) (length rows + 7) _
+    refuses_same (outputs_fault (header_then h []) ws e 1 (x ∷ None ∷ y ∷ [])) (fault_of (header_then h rows) (Row x y))
+    (c.from-line.result + 7) (length rows + 7) _
     (sym (row_fault h rows ws e x y (sym holds.lines_are ∙ place) holds.wires_are))
     (ap (λ (n : ℕ). n + 7) (line_is ∙ holds.lines_are))
     c.in_err-connect_all.ensures.refused)
@@ -31,5 +32,8 @@ returns-clause-read c =
     let e = c.args.self.now.lines - 1 in
     let place : c.args.self.now.lines ≡ e + 1 = omega (arith, c.requires.begun) in
     λ rows holds.
-    row_read c.args.header.now rows c.args.self.now.lines c.args.self.now.rows e (c.args.self.now.lines + 1) (c.args.self.now.rows - 1) c.args.self.now.states.items c.args.self.now.own.items c.args.self.now.ends.wires.items c.connect_all.new.self.wires.items c.args.self.now.ends.fed.items c.connect_all.new.self.fed.items (named_target c.args.east) (named_target c.args.west)
+    row_read c.args.header.now rows c.args.self.now.lines c.args.self.now.rows e (c.args.self.now.lines + 1)
+    (c.args.self.now.rows - 1) c.args.self.now.states.items c.args.self.now.own.items
+    c.args.self.now.ends.wires.items c.connect_all.new.self.wires.items c.args.self.now.ends.fed.items
+    c.connect_all.new.self.fed.items (named_target c.args.east) (named_target c.args.west)
     place refl refl holds c.in_ok-connect_all.ensures.added

@@ -2,10 +2,13 @@ use Rattle.bn_netlist.proofs.NetLemmas.{output_there, end_inside, end_low}
 use Rattle.bn_netlist.proofs.net_config.NetConfigSpellable.target.Goals as goal
 
 pub target-requires : goal.target-requires
-target-requires c = output_there c.args.self.now.net.elements c.args.from.element c.args.from.line c.requires.element c.requires.line
+target-requires c = output_there c.args.self.now.net.elements c.args.from.element c.args.from.line c.requires.element
+    c.requires.line
 
 pub returns-clause-inside : goal.returns-clause-inside
-returns-clause-inside c = end_inside c.args.self.now.net c.args.from c.target.result c.len-elements.ensures.circuit c.target.ensures
+returns-clause-inside c = end_inside c.args.self.now.net c.args.from c.target.result c.len-elements.ensures.circuit
+    c.target.ensures
 
 pub returns-clause-low : goal.returns-clause-low
-returns-clause-low c = end_low c.args.self.now.net c.args.from c.target.result c.len-elements.ensures.circuit c.target.ensures
+returns-clause-low c = end_low c.args.self.now.net c.args.from c.target.result c.len-elements.ensures.circuit
+    c.target.ensures

@@ -14,7 +14,8 @@ of-requires g c =
 pub index_mut-requires : goal.index_mut-requires
 index_mut-requires g c =
     let count = ap (λ (e : EndList). e.elements) c.self.view_is in
-    let below : IsLineBelow c.self.inside.elements (line_of c.args.number) = subst (λ n. IsLineBelow n (line_of c.args.number)) (sym count) c.requires.there in
+    let below : IsLineBelow c.self.inside.elements (line_of c.args.number) =
+    subst (λ n. IsLineBelow n (line_of c.args.number)) (sym count) c.requires.there in
     let number = number_low c.self.inside.elements (line_of c.args.number) below in
     let again = number_again c.args.number in
     omega (arith, number, again, c.self.invariant.1)
@@ -24,15 +25,19 @@ returns-clause-ends g c =
     let cells = c.self.inside.cells.items in
     let count = ap (λ (e : EndList). e.elements) c.self.view_is in
     let here = line_of c.args.number in
-    let below : IsLineBelow c.self.inside.elements (line_of c.args.number) = subst (λ n. IsLineBelow n (line_of c.args.number)) (sym count) c.requires.there in
+    let below : IsLineBelow c.self.inside.elements (line_of c.args.number) =
+    subst (λ n. IsLineBelow n (line_of c.args.number)) (sym count) c.requires.there in
     let number = number_low c.self.inside.elements (line_of c.args.number) below in
     let within : number_of (line_of c.args.number) < length (map g.C.Cell.tells cells) =
     omega (arith, number, length-map cells g.C.Cell.tells, c.self.invariant.1) in
     let told : map g.C.Cell.tells (slice_set cells c.args.number c.of.result)
     ≡ slice_set (map g.C.Cell.tells cells) (number_of (line_of c.args.number)) (Some (line_of c.args.end)) =
-    set_told g.C.Cell.tells cells (map g.C.Cell.tells cells) c.args.number (number_of (line_of c.args.number)) c.of.result (line_of c.args.end) refl
+    set_told g.C.Cell.tells cells (map g.C.Cell.tells cells) c.args.number (number_of (line_of c.args.number))
+    c.of.result (line_of c.args.end) refl
     (sym (number_again c.args.number)) c.of.ensures in
     ap (λ xs. ends_in xs c.self.inside.elements) told
-    ∙ ends_in-set (map g.C.Cell.tells cells) c.self.inside.elements (line_of c.args.number) (Some (line_of c.args.end)) below within
-    ∙ ap (λ (e : EndList). slice_set e.ends (4 * (line_of c.args.number).element + (line_of c.args.number).line) (Some (line_of c.args.end)))
+    ∙ ends_in-set (map g.C.Cell.tells cells) c.self.inside.elements (line_of c.args.number) (Some (line_of c.args.end))
+    below within
+    ∙ ap (λ (e : EndList). slice_set e.ends (4 * (line_of c.args.number).element + (line_of c.args.number).line)
+    (Some (line_of c.args.end)))
     c.self.view_is

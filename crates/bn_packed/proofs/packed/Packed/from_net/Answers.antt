@@ -7,5 +7,6 @@ of-requires-2 c = config-AreBars c.args.net.now c.args.config.now c.as_slice.res
 
 pub invariant_of-result : goal.invariant_of-result
 invariant_of-result c =
-    packed-IsConfig c.args.net.now (net_in c.in_ok-wires.wires) c.args.config.now c.in_ok-bars.bars c.as_slice.result.now c.requires
+    packed-IsConfig c.args.net.now (net_in c.in_ok-wires.wires) c.args.config.now c.in_ok-bars.bars
+    c.as_slice.result.now c.requires
     c.in_ok-wires.ensures c.in_ok-bars.ensures c.as_slice.ensures

@@ -7,15 +7,20 @@ use Rattle.bn_packed.proofs.packed.Packed.run_watched.Given.{Over}
 use Rattle.bn_packed.proofs.packed.Packed.run_watched.Goals as goal
 
 all : (g : Over) (c : goal.After-self-1 g)
-    → IsToldRun Forward (rotary_circuit c.args.self.now.net) c.args.self.now.config (config_at c.walk-self-inside.new.bars c.walk-self-inside.result.place
+    → IsToldRun Forward (rotary_circuit c.args.self.now.net) c.args.self.now.config
+    (config_at c.walk-self-inside.new.bars c.walk-self-inside.result.place
     c.walk-self-inside.result.steps)
-    c.args.e (c.walk-self-inside.result.steps - c.self.inside.signal.steps) (g.W.Watch.told c.args.watch.now) (g.W.Watch.told c.walk-self-inside.new.watch)
-all g c =
-    packed-IsToldRun c.args.self.now (net_in c.self.inside.wires) c.self.inside.bars c.walk-self-inside.new.bars c.self.inside.signal.place
-    c.walk-self-inside.result.place
-    c.self.inside.signal.steps c.walk-self-inside.result.steps c.args.e c.min-count.result (g.W.Watch.told c.args.watch.now)
+    c.args.e (c.walk-self-inside.result.steps - c.self.inside.signal.steps) (g.W.Watch.told c.args.watch.now)
     (g.W.Watch.told c.walk-self-inside.new.watch)
-    c.self.view_is c.len-elements.ensures.circuit c.self.invariant.in_time c.min-count.ensures c.walk-self-inside.ensures.forward
+all g c =
+    packed-IsToldRun c.args.self.now (net_in c.self.inside.wires) c.self.inside.bars c.walk-self-inside.new.bars
+    c.self.inside.signal.place
+    c.walk-self-inside.result.place
+    c.self.inside.signal.steps c.walk-self-inside.result.steps c.args.e c.min-count.result
+    (g.W.Watch.told c.args.watch.now)
+    (g.W.Watch.told c.walk-self-inside.new.watch)
+    c.self.view_is c.len-elements.ensures.circuit c.self.invariant.in_time c.min-count.ensures
+    c.walk-self-inside.ensures.forward
     c.walk-self-inside.ensures.limit
     c.walk-self-inside.ensures.walked c.walk-self-inside.ensures.ended
 

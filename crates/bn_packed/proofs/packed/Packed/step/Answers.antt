@@ -5,12 +5,15 @@ use Rattle.bn_packed.proofs.packed.Packed.step.Goals as goal
 
 pub returns-clause-made : goal.returns-clause-made
 returns-clause-made c =
-    made_one Forward (rotary_circuit c.args.self.now.net) c.run.result c.args.self.now.config c.run.new.self.config c.run.ensures.ran
+    made_one Forward (rotary_circuit c.args.self.now.net) c.run.result c.args.self.now.config c.run.new.self.config
+    c.run.ensures.ran
 
 pub returns-clause-kept : goal.returns-clause-kept
 returns-clause-kept c =
-    kept_none Forward (rotary_circuit c.args.self.now.net) c.run.result c.args.self.now.config c.run.new.self.config c.run.ensures.ran
+    kept_none Forward (rotary_circuit c.args.self.now.net) c.run.result c.args.self.now.config c.run.new.self.config
+    c.run.ensures.ran
 
 pub returns-clause-stuck : goal.returns-clause-stuck
 returns-clause-stuck c =
-    ended_none Forward (rotary_circuit c.args.self.now.net) c.run.result c.args.self.now.config c.run.new.self.config c.run.ensures.ran
+    ended_none Forward (rotary_circuit c.args.self.now.net) c.run.result c.args.self.now.config c.run.new.self.config
+    c.run.ensures.ran

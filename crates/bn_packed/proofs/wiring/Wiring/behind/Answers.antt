@@ -7,5 +7,6 @@ use Rattle.bn_packed.proofs.wiring.Wiring.behind.Goals as goal
 pub returns : goal.returns
 returns g c =
     behind-HasEnds g.C.Cell.tells c.self.inside.ahead c.self.inside.behind c.args.self.now.net c.as_slice.result.now
-    (way_back-IsWiring c.self.inside.room _ _ (ap (λ (w : Ways). w.goes_back) c.self.view_is ∙ c.requires) c.self.invariant.1)
+    (way_back-IsWiring c.self.inside.room _ _ (ap (λ (w : Ways). w.goes_back) c.self.view_is ∙ c.requires)
+    c.self.invariant.1)
     (ap (λ (w : Ways). w.net) c.self.view_is) c.as_slice.ensures.ends c.as_slice.ensures.whole

@@ -11,5 +11,6 @@ invariant_of-result g c = (
   subst AreTargets (sym c.in_ok-ahead.ensures) c.self.invariant.0,
   subst (λ (e : EndList). IsWiring (targets_by e) (sources_by c.in_ok-copy.field-0)) (sym c.in_ok-ahead.ensures)
       (subst (λ (s : EndList). IsWiring (targets_by c.self.inside.ahead) (sources_by s)) (sym c.in_ok-copy.ensures)
-      (way_back-IsWiring c.self.inside.room _ _ (none_left c.self.inside.room (sym c.is_some.ensures ∙ c.if-is_some.false)) c.self.invariant.1)),
+      (way_back-IsWiring c.self.inside.room _ _ (none_left c.self.inside.room
+      (sym c.is_some.ensures ∙ c.if-is_some.false)) c.self.invariant.1)),
 )

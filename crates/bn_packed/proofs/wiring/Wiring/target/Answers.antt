@@ -6,7 +6,8 @@ use Rattle.bn_packed.proofs.wiring.Wiring.target.Goals as goal
 
 pub get-requires : goal.get-requires
 get-requires g c =
-    across_there c.self.inside.ahead c.args.self.now.net c.args.from c.opposite.result (ap (λ (w : Ways). w.net) c.self.view_is) c.opposite.ensures
+    across_there c.self.inside.ahead c.args.self.now.net c.args.from c.opposite.result
+    (ap (λ (w : Ways). w.net) c.self.view_is) c.opposite.ensures
     c.requires
 
 pub returns : goal.returns

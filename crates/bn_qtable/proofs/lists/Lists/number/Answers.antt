@@ -30,14 +30,16 @@ returns-clause-adds c =
     } in
     let states1 : c.number_of.new.self ≡ with_name l.states s.state = c.in_ok-state.ensures.names in
     let states2 : c.number_of-2.new.self ≡ with_name c.number_of.new.self s.next = c.in_ok-next.ensures.names in
-    let l2 : Naming = naming_of c.number_of-2.new.self c.number_text.new.symbols c.number_text-2.new.symbols c.number_text-3.new.symbols in
+    let l2 : Naming = naming_of c.number_of-2.new.self c.number_text.new.symbols c.number_text-2.new.symbols
+    c.number_text-3.new.symbols in
     let P : Naming → Type 0 = λ n. Adds n s (rule_of q) l2 in
     subst P c.self.view_is (record {
       states_after = rw (← states1) states2;
       one_after = c.in_ok-read1.ensures.symbols;
       two_after = c.in_ok-read2.ensures.symbols;
       three_after = c.in_ok-read3.ensures.symbols;
-      from = rw states2 (new_stays bytes_eq c.number_of.new.self s.next s.state c.in_ok-state.state c.in_ok-state.ensures.number);
+      from = rw states2 (new_stays bytes_eq c.number_of.new.self s.next s.state c.in_ok-state.state
+          c.in_ok-state.ensures.number);
       one = c.in_ok-read1.ensures.stands;
       two = c.in_ok-read2.ensures.stands;
       three = c.in_ok-read3.ensures.stands;

@@ -9,7 +9,8 @@ use Rattle.bn_quad.proofs.indexed.IndexedMachine.step.Goals as goal
 
 pub first_rule-found-requires-clause-index : goal.first_rule-found-requires-clause-index
 first_rule-found-requires-clause-index c =
-    let same : rules_of c.quads.result.now ≡ c.self.inside.machine.now.rules = ap rules_of c.quads.ensures.value ∙ rules_of-quads c.self.inside.machine.now.rules in
+    let same : rules_of c.quads.result.now ≡ c.self.inside.machine.now.rules =
+    ap rules_of c.quads.ensures.value ∙ rules_of-quads c.self.inside.machine.now.rules in
     subst (λ rs. IsIndexOf rs c.self.inside.index) (sym same) c.self.invariant
 
 pub first_rule-found-requires-clause-unmixed : goal.first_rule-found-requires-clause-unmixed
@@ -17,6 +18,9 @@ first_rule-found-requires-clause-unmixed c = rw c.quads.ensures.value (rules_unm
 
 pub step_by-requires-clause-first : goal.step_by-requires-clause-first
 step_by-requires-clause-first c =
-    let same : rules_of c.quads.result.now ≡ c.self.inside.machine.now.rules = ap rules_of c.quads.ensures.value ∙ rules_of-quads c.self.inside.machine.now.rules in
-    subst (λ (rs : List (Rule ℕ)). MatchOption c.first_rule-found.result (HasNoRule rs (configuration c.args.state.now c.args.tapes.now))
-    (λ f. IsFirstRule rs (configuration c.args.state.now c.args.tapes.now) f.0 (rule_of f.1))) same c.first_rule-found.ensures.first
+    let same : rules_of c.quads.result.now ≡ c.self.inside.machine.now.rules =
+    ap rules_of c.quads.ensures.value ∙ rules_of-quads c.self.inside.machine.now.rules in
+    subst (λ (rs : List (Rule ℕ)). MatchOption c.first_rule-found.result
+    (HasNoRule rs (configuration c.args.state.now c.args.tapes.now))
+    (λ f. IsFirstRule rs (configuration c.args.state.now c.args.tapes.now) f.0 (rule_of f.1))) same
+    c.first_rule-found.ensures.first

@@ -11,4 +11,5 @@ try_new-requires-clause-states c =
 
 pub invariant_of-result : goal.invariant_of-result
 invariant_of-result c =
-    subst (λ rs. IsIndexOf rs c.in_ok-index.index) (ap rules_of c.quads.ensures.value ∙ rules_of-quads c.args.machine.now.rules) c.in_ok-index.ensures
+    subst (λ rs. IsIndexOf rs c.in_ok-index.index) (ap rules_of c.quads.ensures.value
+    ∙ rules_of-quads c.args.machine.now.rules) c.in_ok-index.ensures

@@ -15,5 +15,6 @@ returns-in-Some-clause-one_to_one c =
     let least : IsLeastClash Range c.args.self.now.rules c.in-Some.pair.0 c.in-Some.pair.1 = search rules in
     λ deterministic. (
       λ no. absurd (false≢true no),
-      λ one. absurd (((reversible_is_one_to_one c.args.self.now.rules deterministic).1 one).none c.in-Some.pair.0 c.in-Some.pair.1 least.holds),
+      λ one. absurd (((reversible_is_one_to_one c.args.self.now.rules deterministic).1 one).none c.in-Some.pair.0
+          c.in-Some.pair.1 least.holds),
     )

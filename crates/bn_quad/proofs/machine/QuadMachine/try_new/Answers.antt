@@ -8,4 +8,5 @@ returns-clause-made c = made_of _ _ _ (rw (← c.as_slice.ensures.value) c.in_de
 pub returns-clause-valid : goal.returns-clause-valid
 returns-clause-valid c =
     let some : 0 < length c.args.quads.items = search rules in
-    kept-machine _ _ _ (kept_if _ _ _ some c.requires c.in_default.ensures.tapes (rw (← c.as_slice.ensures.value) c.in_default.ensures.none))
+    kept-machine _ _ _ (kept_if _ _ _ some c.requires c.in_default.ensures.tapes
+    (rw (← c.as_slice.ensures.value) c.in_default.ensures.none))

@@ -12,21 +12,26 @@ pub loop-next-init : goal.loop-next-init
 loop-next-init c =
     let rs = rules_of c.args.quads.now in
     let d = configuration c.args.state c.args.tapes.now in
-    searched_first rs d c.first-next.result (subst (IsNextLeaving rs c.args.state 0) (sym c.first-next.ensures) (c.requires.index.first c.args.state))
+    searched_first rs d c.first-next.result (subst (IsNextLeaving rs c.args.state 0) (sym c.first-next.ensures)
+    (c.requires.index.first c.args.state))
 
 pub returns-then-applies-clause-first : goal.returns-then-applies-clause-first
 returns-then-applies-clause-first c =
     let rs = rules_of c.args.quads.now in
     let d = configuration c.args.state c.args.tapes.now in
     let at : IsSearchedTo rs d c.in-Some.number = subst (IsSearched rs d) c.in-Some.is c.loop-next.invariant in
-    let within : c.in-Some.number ≤ length c.args.quads.now = omega (arith, at.within, length-rules_of c.args.quads.now) in
-    first_rule_at rs d c.in-Some.number _ at.before (nth-rules_of_back c.args.quads.now c.in-Some.number _ at.counted within) (c.if-applies.ensures.0 refl)
+    let within : c.in-Some.number ≤ length c.args.quads.now = omega (arith, at.within, length-rules_of c.args.quads.now)
+    in
+    first_rule_at rs d c.in-Some.number _ at.before (nth-rules_of_back c.args.quads.now c.in-Some.number _ at.counted
+    within) (c.if-applies.ensures.0 refl)
 
 pub loop-next-preserved : goal.loop-next-preserved
 loop-next-preserved c =
     let rs = rules_of c.args.quads.now in
     let d = configuration c.args.state c.args.tapes.now in
     let at : IsSearchedTo rs d c.in-Some.number = subst (IsSearched rs d) c.in-Some.is c.loop-next.invariant in
-    let within : c.in-Some.number ≤ length c.args.quads.now = omega (arith, at.within, length-rules_of c.args.quads.now) in
-    searched_more rs d c.in-Some.number c.args.self.now _ c.index-next.result.now c.requires.index at (nth-rules_of_back c.args.quads.now c.in-Some.number _ at.counted within)
+    let within : c.in-Some.number ≤ length c.args.quads.now = omega (arith, at.within, length-rules_of c.args.quads.now)
+    in
+    searched_more rs d c.in-Some.number c.args.self.now _ c.index-next.result.now c.requires.index at
+    (nth-rules_of_back c.args.quads.now c.in-Some.number _ at.counted within)
     (λ applies. false≢true (c.if-applies.ensures.1 applies)) c.index-next.ensures

@@ -11,7 +11,8 @@ returns-clause-first c = λ t u word s inside steps f.
     let blank = blank_there c.letter_at.result c.is_none-is_blank.result c.args.tape.now u word c.args.left
     c.is_none-is_blank.ensures (rw (sym l) c.letter_at.ensures) s inside
     in
-    let m = steps_move t u c.args.left c.head-head.result c.is_none-is_blank.result steps (s.head ∙ sym c.head-head.ensures.value)
+    let m = steps_move t u c.args.left c.head-head.result c.is_none-is_blank.result steps
+    (s.head ∙ sym c.head-head.ensures.value)
     blank
     in
     c.after.ensures.first t u (rw (l, h) m) f
@@ -23,7 +24,8 @@ returns-clause-last c = λ t u word s inside steps f.
     let blank = blank_there c.letter_at.result c.is_none-is_blank.result c.args.tape.now u word c.args.left
     c.is_none-is_blank.ensures (rw (sym l) c.letter_at.ensures) s inside
     in
-    let m = steps_move t u c.args.left c.head-head.result c.is_none-is_blank.result steps (s.head ∙ sym c.head-head.ensures.value)
+    let m = steps_move t u c.args.left c.head-head.result c.is_none-is_blank.result steps
+    (s.head ∙ sym c.head-head.ensures.value)
     blank
     in
     c.after.ensures.last t u (rw (l, h) m) f

@@ -14,7 +14,8 @@ answer_third-requires-clause-two g c =
     let names = c.args.self.now.names.now.two in
     let few : length c.as_slice.result.now < 2 ^ 62 = search rules in
     let is = subst (IsSpelling c.symbols.result c.args.second.now) c.in-Ok-Symbols.field-0-is c.in-Ok-Symbols.ensures in
-    word_on names c.args.second.now c.as_slice.result.now (subst IsAlphabet c.symbols.ensures.names c.symbols.ensures.alphabet) few
+    word_on names c.args.second.now c.as_slice.result.now (subst IsAlphabet c.symbols.ensures.names
+    c.symbols.ensures.alphabet) few
     (spelled_on names c.symbols.result c.args.second.now _ c.as_slice.result.now c.symbols.ensures.names
     c.as_slice.ensures.value is)
 
@@ -23,7 +24,8 @@ returns-in-Ok-Symbols-clause-ends g c = λ told.
     let names = c.args.self.now.names.now.two in
     let t = asked_table c.args.self.now in
     let n = c.args.self.now.most_steps in
-    let tells = (λ (two : List ℕ). TapeWordReplies (tape_foreign_line 3) (λ (three : List ℕ). TellsMoments t n c.args.one.now two three)
+    let tells = (λ (two : List ℕ). TapeWordReplies (tape_foreign_line 3)
+    (λ (three : List ℕ). TellsMoments t n c.args.one.now two three)
     c.args.self.now.names.now.three c.args.third.now) in
     let is = subst (IsSpelling c.symbols.result c.args.second.now) c.in-Ok-Symbols.field-0-is c.in-Ok-Symbols.ensures in
     let here = spelled_on names c.symbols.result c.args.second.now _ c.as_slice.result.now c.symbols.ensures.names
@@ -39,11 +41,14 @@ returns-in-Ok-Foreign-clause-ends g c = λ told.
     let names = c.args.self.now.names.now.two in
     let t = asked_table c.args.self.now in
     let n = c.args.self.now.most_steps in
-    let tells = (λ (two : List ℕ). TapeWordReplies (tape_foreign_line 3) (λ (three : List ℕ). TellsMoments t n c.args.one.now two three)
+    let tells = (λ (two : List ℕ). TapeWordReplies (tape_foreign_line 3)
+    (λ (three : List ℕ). TellsMoments t n c.args.one.now two three)
     c.args.self.now.names.now.three c.args.third.now) in
     let is = subst (IsSpelling c.symbols.result c.args.second.now) c.in-Ok-Foreign.field-0-is c.in-Ok-Foreign.ensures in
-    silent_ends (TapeWordReplies (tape_foreign_line 2) tells names c.args.second.now) c.foreign_on_tape.result c.give_reply.result
+    silent_ends (TapeWordReplies (tape_foreign_line 2) tells names c.args.second.now) c.foreign_on_tape.result
+    c.give_reply.result
     (g.K.Sink.taken c.args.sink.now) (g.K.Sink.taken c.give_reply.new.sink) (g.K.Sink.faults c.args.sink.now)
     (g.K.Sink.faults c.give_reply.new.sink) told
-    (foreign_told (tape_foreign_line 2) tells names c.symbols.result c.args.second.now _ c.symbols.ensures.names is c.foreign_on_tape.result
+    (foreign_told (tape_foreign_line 2) tells names c.symbols.result c.args.second.now _ c.symbols.ensures.names is
+    c.foreign_on_tape.result
     c.foreign_on_tape.ensures.status c.foreign_on_tape.ensures.text) c.give_reply.ensures.ends

@@ -15,7 +15,8 @@ give-requires-clause-one g c =
     let names = c.args.self.now.names.now.one in
     let few : length c.as_slice.result.now < 2 ^ 62 = search rules in
     let is = subst (IsSpelling c.symbols.result c.args.word.now) c.in-Ok-Symbols.field-0-is c.in-Ok-Symbols.ensures in
-    word_on names c.args.word.now c.as_slice.result.now (subst IsAlphabet c.symbols.ensures.names c.symbols.ensures.alphabet) few
+    word_on names c.args.word.now c.as_slice.result.now (subst IsAlphabet c.symbols.ensures.names
+    c.symbols.ensures.alphabet) few
     (spelled_on names c.symbols.result c.args.word.now _ c.as_slice.result.now c.symbols.ensures.names
     c.as_slice.ensures.value is)
 
@@ -23,13 +24,15 @@ pub give-requires-clause-two : goal.give-requires-clause-two
 give-requires-clause-two g c =
     let asked = c.requires in
     no_word c.args.self.now.names.now.two
-    (some_symbol c.args.self.now.names.now.two (read_alphabet asked.bytes (asked_table c.args.self.now) 2 asked.read (omega arith)))
+    (some_symbol c.args.self.now.names.now.two (read_alphabet asked.bytes (asked_table c.args.self.now) 2 asked.read
+    (omega arith)))
 
 pub give-requires-clause-three : goal.give-requires-clause-three
 give-requires-clause-three g c =
     let asked = c.requires in
     no_word c.args.self.now.names.now.three
-    (some_symbol c.args.self.now.names.now.three (read_alphabet asked.bytes (asked_table c.args.self.now) 3 asked.read (omega arith)))
+    (some_symbol c.args.self.now.names.now.three (read_alphabet asked.bytes (asked_table c.args.self.now) 3 asked.read
+    (omega arith)))
 
 pub returns-in-Ok-Symbols-clause-ends : goal.returns-in-Ok-Symbols-clause-ends
 returns-in-Ok-Symbols-clause-ends g c = λ told.
@@ -56,5 +59,6 @@ returns-in-Ok-Foreign-clause-ends g c = λ told.
     silent_ends (TapeWordReplies foreign_line tells names c.args.word.now) c.foreign_letter.result c.give_reply.result
     (g.K.Sink.taken c.args.sink.now) (g.K.Sink.taken c.give_reply.new.sink) (g.K.Sink.faults c.args.sink.now)
     (g.K.Sink.faults c.give_reply.new.sink) told
-    (foreign_told foreign_line tells names c.symbols.result c.args.word.now _ c.symbols.ensures.names is c.foreign_letter.result
+    (foreign_told foreign_line tells names c.symbols.result c.args.word.now _ c.symbols.ensures.names is
+    c.foreign_letter.result
     c.foreign_letter.ensures.status c.foreign_letter.ensures.text) c.give_reply.ensures.ends

@@ -7,4 +7,5 @@ use Rattle.bn_reply_traces.proofs.moments.Asked.symbols.Goals as goal
 pub returns-clause-alphabet : goal.returns-clause-alphabet
 returns-clause-alphabet c =
     subst IsAlphabet (sym c.of.ensures)
-    (read_alphabet c.requires.asked.bytes (asked_table c.args.self.now) c.args.tape c.requires.asked.read c.requires.first)
+    (read_alphabet c.requires.asked.bytes (asked_table c.args.self.now) c.args.tape c.requires.asked.read
+    c.requires.first)

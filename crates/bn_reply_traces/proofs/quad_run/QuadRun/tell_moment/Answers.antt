@@ -43,7 +43,8 @@ returns-in-Ok-give_pieces-clause-told g c =
     let given = c.in-Ok-give_pieces.ensures.given in (
       said.0 ++ end,
       given.0,
-      line_by r run c.args.steps c.args.stage.now at.0 at.1 c.step-rule.new.self c.step-rule.result said.0 said.1 stepped,
+      line_by r run c.args.steps c.args.stage.now at.0 at.1 c.step-rule.new.self c.step-rule.result said.0 said.1
+          stepped,
       sym whole ∙ given.1,
       given.2,
     )
@@ -63,7 +64,9 @@ returns-in-Err-clause-front g c =
     c.in-Ok-push_line_end.ensures ∙ ap (λ (z : List ℕ). z ++ end) said.2 ∙ append_assoc old said.0 end
     in (
       said.0 ++ end,
-      line_by r run c.args.steps c.args.stage.now at.0 at.1 c.step-rule.new.self c.step-rule.result said.0 said.1 stepped,
-      subst (λ (z : List ℕ). GrowsByFront (g.K.Sink.taken c.args.sink.now) (g.K.Sink.taken c.give_pieces.new.sink) z) whole
+      line_by r run c.args.steps c.args.stage.now at.0 at.1 c.step-rule.new.self c.step-rule.result said.0 said.1
+          stepped,
+      subst (λ (z : List ℕ). GrowsByFront (g.K.Sink.taken c.args.sink.now) (g.K.Sink.taken c.give_pieces.new.sink) z)
+          whole
           c.in-Err.ensures.front,
     )

@@ -4,4 +4,5 @@ use Rattle.bn_rsm.specs.Pairs.{AreNumbers}
 use Rattle.bn_rsm.proofs.index.Index.new.Given as goal
 
 abbrev pub invariant-loop-n : goal.invariant-loop-n
-invariant-loop-n l = (states lines : ℕ) → AreSound states lines l.moves → AreNumbers l.index.from l.index.to (take l.n l.moves)
+invariant-loop-n l = (states lines : ℕ) → AreSound states lines l.moves
+    → AreNumbers l.index.from l.index.to (take l.n l.moves)

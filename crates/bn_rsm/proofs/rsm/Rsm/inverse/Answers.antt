@@ -9,9 +9,15 @@ use Rattle.bn_rsm.proofs.rsm.Rsm.inverse.Goals as goal
 pub new-requires : goal.new-requires
 new-requires c =
     let m = c.self.inside in
-    let moves : c.in_ok-moves.moves.items ≡ map turned m.moves.items = c.in_ok-moves.ensures ∙ ap (map turned) c.as_slice.ensures.value in
-    let few : length (map turned m.moves.items) < 2 ^ 32 = omega (arith, length-map m.moves.items turned, c.self.invariant.few) in
-    record { sound = subst (AreSound m.states m.lines) (sym moves) (sound-turned m.states m.lines m.moves.items m.sound); few = subst (λ ms. length ms < 2 ^ 32) (sym moves) few }
+    let moves : c.in_ok-moves.moves.items ≡ map turned m.moves.items =
+    c.in_ok-moves.ensures ∙ ap (map turned) c.as_slice.ensures.value in
+    let few : length (map turned m.moves.items) < 2 ^ 32 = omega
+    (arith, length-map m.moves.items turned, c.self.invariant.few) in
+    record {
+      sound = subst (AreSound m.states m.lines) (sym moves)
+          (sound-turned m.states m.lines m.moves.items m.sound);
+      few = subst (λ ms. length ms < 2 ^ 32) (sym moves) few;
+    }
 
 pub returns-clause-backward : goal.returns-clause-backward
 returns-clause-backward c =

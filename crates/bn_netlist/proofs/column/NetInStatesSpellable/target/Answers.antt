@@ -1,0 +1,14 @@
+use Rattle.bn_netlist.proofs.NetLemmas.{output_there, end_inside, end_low}
+use Rattle.bn_netlist.proofs.column.NetInStatesSpellable.target.Goals as goal
+
+pub target-requires : goal.target-requires
+target-requires c = output_there c.args.self.now.net.now.elements c.args.from.element c.args.from.line
+    c.requires.element c.requires.line
+
+pub returns-clause-inside : goal.returns-clause-inside
+returns-clause-inside c = end_inside c.args.self.now.net.now c.args.from c.target.result c.len-elements.ensures.circuit
+    c.target.ensures
+
+pub returns-clause-low : goal.returns-clause-low
+returns-clause-low c = end_low c.args.self.now.net.now c.args.from c.target.result c.len-elements.ensures.circuit
+    c.target.ensures

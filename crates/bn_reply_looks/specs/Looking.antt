@@ -1,0 +1,32 @@
+-- What is shown of a board that was built of a table of quadruples, where it has come to in its run from the start
+-- (this project's own profile).
+use Rattle.std.specs.Prelude.{◌≡◌, ℕ, List, []}
+use Rattle.bn_circuits.specs.declared.config.Config.{Config}
+use Rattle.bn_circuits.specs.declared.place.Place.{Place}
+use Rattle.bn_circuits.specs.declared.place.Place.TheVariants.{Enter}
+use Rattle.bn_quad.specs.Quadruples.{Configuration, initial_of}
+use Rattle.bn_qtable.specs.Rows.{QuadTable}
+use Rattle.bn_build_laws.specs.Builds.{Build, start_of}
+use Rattle.bn_build_laws.specs.Runs.{HasLeft}
+use Rattle.bn_drive_laws.specs.DriveText.{drive_exit_line}
+use Rattle.bn_view.specs.Viewed.{IsFoundView}
+use Rattle.bn_view.specs.declared.layers.BoardLayers.{BoardLayers}
+use Rattle.bn_reply_looks.specs.LookText.{look_text}
+
+-- The line of the exit by which the signal has left, which is that of the machine's own run from c in the window; and
+-- none where it is inside.
+pub data IsExitLine (t : QuadTable) (f : Build) (c : Configuration ℕ) (p : Place) (states : List ℕ)
+    (line : List ℕ) : Type 0 where
+  inside : (e l : ℕ) → p ≡ Enter e l → line ≡ [] → IsExitLine t f c p states line
+  outside : (left : HasLeft f c p states) → line ≡ drive_exit_line t left.final left.exit
+      → IsExitLine t f c p states line
+
+-- The text shows the board of f, started at c, where it has come to d: where the signal is, or by which exit it has
+-- left; and of the last moment that its layout finds, or of the start where there is none, the state and what the cells
+-- show then.
+pub record ShowsBuild (t : QuadTable) (f : Build) (c : Configuration ℕ) (d : Config) (text : List ℕ) : Type 0 where
+  pub layers : BoardLayers
+  pub view : IsFoundView f.layout f.circuit (start_of f c) (initial_of f.machine.rules) d layers
+  pub exit : List ℕ
+  pub is_exit : IsExitLine t f c d.place d.states exit
+  pub written : text ≡ look_text t exit layers

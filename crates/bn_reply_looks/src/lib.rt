@@ -1,0 +1,13 @@
+//! What the commands `look` and `play` answer: the layers of the board of any uniform machine of quadruples, and a
+//! script that is played on it.
+#![tactic(auto)]
+
+mod laws;
+mod look;
+mod look_text;
+mod play;
+mod viewer;
+
+pub use laws::{look_has_one_reply, looks_tell_their_machine, play_has_one_reply};
+pub use look::reply_look;
+pub use play::reply_play;

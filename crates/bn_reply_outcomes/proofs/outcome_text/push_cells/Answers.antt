@@ -1,0 +1,17 @@
+use Rattle.std.proofs.Common.{None, get_or, refl}
+use Rattle.bn_quad.specs.Names.{symbols_on}
+use Rattle.bn_reply_outcomes.proofs.CellLemmas.{cell_pushed, cells_pushed}
+use Rattle.bn_reply_outcomes.proofs.outcome_text.push_cells.Goals as goal
+
+pub loop-cell-preserved : goal.loop-cell-preserved
+loop-cell-preserved c =
+    cell_pushed (symbols_on c.args.names.now.names.now c.args.tape) c.args.cells.now c.loop-cell.cell-index None
+    (get_or c.args.cells.now c.loop-cell.cell-index None) c.args.text.now.items c.loop-cell.text.items
+    c.push_cell.new.text.items c.loop-cell-test.true refl
+    c.loop-cell.invariant (c.in_ok-push_cell.ensures)
+
+pub returns : goal.returns
+returns c =
+    cells_pushed (symbols_on c.args.names.now.names.now c.args.tape) c.args.cells.now c.loop-cell.cell-index
+    c.args.text.now.items c.loop-cell.text.items
+    c.loop-cell-test.false c.loop-cell.invariant

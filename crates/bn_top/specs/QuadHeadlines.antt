@@ -1,0 +1,73 @@
+-- What `inverse`, `build` and `drive` print of a table of quadruples (Bennett 1973 for the quadruples, Morita 2017 for
+-- the elements; words, windows and texts are this project's own profile). Each speaks of an input within the limit.
+use Rattle.std.specs.Prelude.{◌≡◌, ◌↔◌, ℕ, ◌≤◌, List, [], ◌∷◌, length, Option, codes}
+use Rattle.bn_lists.specs.Runs.{Reaches}
+use Rattle.bn_circuits.specs.declared.place.Place.{Place}
+use Rattle.bn_io.specs.Told.{Grows}
+use Rattle.bn_machine.specs.Outcome.{Limits}
+use Rattle.bn_net.specs.declared.net.TheConstants.{MOST_ELEMENTS}
+use Rattle.bn_quad.specs.Calls.{IsUniformMachine}
+use Rattle.bn_quad.specs.Overlap.{IsDeterministic, IsReversible}
+use Rattle.bn_quad.specs.Quadruples.{Configuration, Quadruples, Follows, inverse_of}
+use Rattle.bn_qtable.specs.Reading.{ReadsQuadruples}
+use Rattle.bn_qtable.specs.Rows.{QuadTable}
+use Rattle.bn_qtable.specs.TapeWords.{TapeWords}
+use Rattle.bn_named_laws.specs.Renumbering.{ReadsBack}
+use Rattle.bn_bennett_laws.specs.Steps.{Exit}
+use Rattle.bn_network.specs.Starts.{words_on}
+use Rattle.bn_assembly.specs.Assembled.{CountsElements}
+use Rattle.bn_reply.specs.declared.limits.TheConstants.{MOST_INPUT_BYTES}
+use Rattle.bn_reply.specs.declared.status.Status.{Status}
+use Rattle.bn_reply.specs.declared.status.Status.TheVariants.{Done}
+use Rattle.bn_reply_tables.specs.InverseReply.{inverse_text}
+use Rattle.bn_reply_drives.specs.DriveCircuits.{TellsBoards, TellsRuns}
+use Rattle.bn_reply_drives.specs.DriveHeadline.{IsGiven, IsOwnRun, TellsDriven}
+use Rattle.bn_words.specs.Requests.{Build, Drive, HasForm}
+
+-- Each step of m is a step back of w, so n steps are n steps back; where the one is deterministic the other is
+-- reversible, and the other way round; and where the one is uniform, so is the other.
+pub record TakesBack (m w : Quadruples) : Type 0 where
+  pub follows : (n : ℕ) (c d : Configuration ℕ) → Reaches (Follows m.rules) n c d ↔ Reaches (Follows w.rules) n d c
+  pub deterministic : IsDeterministic m.rules ↔ IsReversible w.rules
+  pub reversible : IsReversible m.rules ↔ IsDeterministic w.rules
+  pub uniform : IsUniformMachine m ↔ IsUniformMachine w
+
+-- Where the word is `inverse`, and the bytes read as a table of quadruples: the sink took the table of the inverse,
+-- which takes the machine's steps back. That text is read as a table again, whose machine is the inverse but for the
+-- numbers of its states and symbols, each name kept.
+unfoldable pub InverseCommand : List (List ℕ) → List ℕ → Status → Option (List ℕ) → Option (List ℕ) → Type 0
+InverseCommand words bytes status taken took =
+    words ≡ codes "inverse" ∷ [] → length bytes ≤ MOST_INPUT_BYTES → (t : QuadTable) → ReadsQuadruples bytes t
+    → (status ≡ Done) × Grows taken took (inverse_text t) × TakesBack t.machine (inverse_of t.machine)
+    × ((u : QuadTable) × ReadsQuadruples (inverse_text t) u × ReadsBack (inverse_of t.machine) t.names u)
+
+-- Where the words ask for a drive, and whatever words, window and table of a uniform machine are given: however the
+-- machine's own run in the window ends, the sink took the text that tells it, or that the signal is inside after the
+-- greatest number of element steps. No circuit stands in what is said.
+unfoldable pub DriveHeadline : List (List ℕ) → List ℕ → Status → Option (List ℕ) → Option (List ℕ) → Type 0
+DriveHeadline words bytes status taken took =
+    (asked : TapeWords) (l : Limits) (most : ℕ) → HasForm words (Drive asked l most) → length bytes ≤ MOST_INPUT_BYTES
+    → (t : QuadTable) (one two three : List ℕ) → IsGiven asked bytes l t one two three
+    → (n : ℕ) (d : Configuration ℕ) (e : Exit) → IsOwnRun t l one two three n d e
+    → (text : List ℕ) × Grows taken took text × TellsDriven most t l n d e status text
+
+-- By the circuit: the sink took the text of the run of what the machine is built to, within the greatest number of
+-- element steps. That run comes in exactly its cost to the exit that the machine's own run names, where the clock has
+-- room, and so many steps back lead back.
+unfoldable pub DriveCircuitHeadline : List (List ℕ) → List ℕ → Status → Option (List ℕ) → Option (List ℕ) → Type 0
+DriveCircuitHeadline words bytes status taken took =
+    (asked : TapeWords) (l : Limits) (most : ℕ) → HasForm words (Drive asked l most) → length bytes ≤ MOST_INPUT_BYTES
+    → (t : QuadTable) (one two three : List ℕ) → IsGiven asked bytes l t one two three
+    → (count : ℕ) → CountsElements t.machine l count → count ≤ MOST_ELEMENTS
+    → (text : List ℕ) × (told : List Place) × Grows taken took text
+    × TellsRuns most t l (words_on t.machine one two three) status text told
+
+-- Where the words ask for a build: the sink took the text of a board at its start, which runs in exactly its cost to
+-- the exit that the machine's own run in the window names, where the clock has room, and whose steps can be taken back.
+unfoldable pub BuildHeadline : List (List ℕ) → List ℕ → Status → Option (List ℕ) → Option (List ℕ) → Type 0
+BuildHeadline words bytes status taken took =
+    (asked : TapeWords) (l : Limits) → HasForm words (Build asked l) → length bytes ≤ MOST_INPUT_BYTES
+    → (t : QuadTable) (one two three : List ℕ) → IsGiven asked bytes l t one two three
+    → (count : ℕ) → CountsElements t.machine l count → count ≤ MOST_ELEMENTS
+    → (text : List ℕ) × (told : List Place) × Grows taken took text
+    × TellsBoards t l (words_on t.machine one two three) status text told
