@@ -7,7 +7,7 @@ extern "C" {
 #endif
 
 /* Answers words, between which stands a byte 0, on an input: writes the answer's text to the front of `output`, and
-   gives the code of its status, as docs/FORMATS.md lists them. `*taken` tells how many bytes the whole text has.
+   gives the code of its status, as docs/use/formats.md lists them. `*taken` tells how many bytes the whole text has.
 
    8: `output` has room for fewer, and is filled with the text's front. A call with room for `*taken` bytes gives the
       answer. It comes exactly where `*taken` is greater than `output_length`.

@@ -123,23 +123,29 @@ function readRun(text, window) {
           output: output === undefined ? null : behind(output, "="), text};
 }
 
-function readView(lines) {
+const LOOK_LINES = 6, VIEW_LINES = 7;
+
+function readLook(lines) {
   const element = /^element (at|left) (\S+) steps (\d+)$/.exec(lines[0]);
-  const layer = behind(lines[6], "machine "), cut = layer.indexOf(" ");
   return {place: element[2], hasLeft: element[1] === "left", steps: counted(element[3]), module: lines[1],
           quadruple: behind(lines[2], "quadruple "), tapes: lines.slice(3, 6).map(readTape),
-          stage: cut < 0 ? layer : layer.slice(0, cut), machine: cut < 0 ? "" : layer.slice(cut + 1),
-          text: lines.slice(0, 7).map(line => `${line}\n`).join("")};
+          text: lines.map(line => `${line}\n`).join("")};
 }
 
-// The answers to a script, one an entry, in order: read as they are asked for.
-function* readSession(text) {
+function readView(lines) {
+  const layer = behind(lines[6], "machine "), cut = layer.indexOf(" ");
+  return {...readLook(lines.slice(0, LOOK_LINES)), stage: cut < 0 ? layer : layer.slice(0, cut),
+          machine: cut < 0 ? "" : layer.slice(cut + 1), text: lines.map(line => `${line}\n`).join("")};
+}
+
+// The answers to a script, one an entry, in order, read as they are asked for; `read` reads so many lines as are shown.
+function* readSession(text, count, read) {
   const lines = linesOf(text);
   for (let at = 0; at < lines.length; at++) {
     if (!lines[at].startsWith("element ")) yield lines[at];
     else {
-      yield readView(lines.slice(at, at + 7));
-      at += 6;
+      yield read(lines.slice(at, at + count));
+      at += count - 1;
     }
   }
 }
@@ -156,6 +162,13 @@ function machineClasses(answer) {
       const {status, text} = answer(words, input);
       if (!statuses.includes(status)) throw new Refused(status, text);
       return text;
+    }
+
+    // The table, the line %, and a script: its commands as a sequence, or as one text.
+    withScript(script) {
+      const lines = typeof script === "string" ? script : Array.from(script, line => `${line}\n`).join("");
+      const table = this.table.endsWith("\n") ? this.table : `${this.table}\n`;
+      return `${table}%\n${lines}`;
     }
   }
 
@@ -203,11 +216,10 @@ function machineClasses(answer) {
       return readView(linesOf(this.ask(["view", `=${word}`, ...windowWords(window), spelled(steps)])));
     }
 
-    // The answers to a script: its commands as a sequence, or as one text.
+    // The answers to a script.
     session(word, window, script) {
-      const lines = typeof script === "string" ? script : Array.from(script, line => `${line}\n`).join("");
-      const table = this.table.endsWith("\n") ? this.table : `${this.table}\n`;
-      return [...readSession(this.ask(["session", `=${word}`, ...windowWords(window)], [DONE], `${table}%\n${lines}`))];
+      const words = ["session", `=${word}`, ...windowWords(window)];
+      return [...readSession(this.ask(words, [DONE], this.withScript(script)), VIEW_LINES, readView)];
     }
 
     compile(word, window) {
@@ -249,6 +261,17 @@ function machineClasses(answer) {
     drive(words, window, steps = MOST_DRIVE_STEPS) {
       const list = ["drive", ...tapeWords(words), ...windowWords(window), spelled(steps)];
       return readRun(this.ask(list, [DONE, STUCK, WINDOW, INSIDE]), list.slice(-5, -1).map(Number));
+    }
+
+    // Every layer of that circuit after at most so many element steps.
+    look(words, window, steps) {
+      return readLook(linesOf(this.ask(["look", ...tapeWords(words), ...windowWords(window), spelled(steps)])));
+    }
+
+    // The answers to a script that is played on that circuit.
+    play(words, window, script) {
+      const list = ["play", ...tapeWords(words), ...windowWords(window)];
+      return [...readSession(this.ask(list, [DONE], this.withScript(script)), LOOK_LINES, readLook)];
     }
   }
 

@@ -121,4 +121,12 @@ test("a machine of quadruples is run, turned round and built", () => {
   assert.equal(counter.moments(["110", "", ""]).length, 15);
   assert.throws(() => counter.moments(["110", ""]), TypeError);
   assert.equal(least.reversible().build("", [0, 2, 2, 1]), least.compile("", [0, 2, 2, 1]));
+  const adder = new ReversibleMachine(example("adder.csv")), words = ["11", {names: ["1", "1", "0"]}, ""];
+  const look = adder.look(words, [0, 3, 4, 3], 50000);
+  assert.deepEqual([look.place, look.hasLeft, look.module, look.quadruple, look.tapes[2].word, "stage" in look],
+                   ["1660.s", false, "module tape 1 cell 1 inside", "F", "1", false]);
+  assert.equal(look.text.split("\n").length, 7);
+  const play = adder.play(words, [0, 3, 4, 3], ["break turn state L1", "go 1000000", "view", "rev 1000000"]);
+  assert.deepEqual([play.length, play[1], play[2].quadruple, play[3]],
+                   [4, "at 1487.w steps 76538 break turn", "L1", "at 0.w steps 0"]);
 });

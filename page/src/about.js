@@ -62,6 +62,9 @@ const PAGES_ABOUT = {
   plan: ["The elements stand in one line. Each wire goes up to its track, along it, and down again.",
     "Two wires share a track where they cover no place both. The broken line marks the place that most wires cover: " +
       "so many tracks are needed, and no more are used."],
+  command: ["Any command of the program, with the same words and the same input as in a terminal. The text is the " +
+      "program's answer.",
+    "Each command that the documents show has a link that opens it here."],
 };
 
 const STEP_WORDS = {machine: "machine step", quadruple: "row step: one row of Bennett's table is followed", module: "move of a module", element: "step of the signal"};

@@ -14,6 +14,7 @@ import {showButtons} from "./play.js";
 import {beginTask, endTask, taskAtHand} from "./sheet.js";
 import {byId, current, escaped, state} from "./state.js";
 import {render} from "./view.js";
+import {openWorkshop, pageOf} from "./workshop.js";
 
 export function start() {
   byId("tooold").remove();
@@ -49,9 +50,14 @@ function begin() {
   chips();
   showButtons();
   const asked = new URLSearchParams(location.hash.slice(1)), task = Number(asked.get("x")), lesson = asked.get("learn");
+  const command = asked.get("c");
   const isFirst = !location.hash && !current.run && isFirstVisit();
   // What a link asks for is known before the lesson, which has a layer of its own.
   if (link && !task) Object.assign(state, link);
+  if (command !== null) {
+    openWorkshop("command");
+    pageOf("command").take?.(command, asked.get("i") ?? "");
+  }
   if (lesson !== null || isFirst) openLearn(lesson || undefined, !asked.has("e"));
   if (task) {
     beginTask(task);

@@ -1,6 +1,7 @@
-// Two dialogs: the window by hand; keys and colours.
+// Two dialogs: the window by hand; keys, colours and words.
+import {GLOSSARY} from "./glossary.js";
 import {typed} from "./machine.js";
-import {byId, current, dialog, state} from "./state.js";
+import {byId, current, dialog, escaped, state} from "./state.js";
 
 const MOST_CELLS = 1048576;
 const ENDS = ["work tape, to the left", "work tape, to the right", "history", "output tape"];
@@ -41,6 +42,7 @@ export function openHelp() {
   const rows = keys.map(([key, words]) => `<tr><td>${key}</td><td>${words}</td></tr>`);
   const samples = colours.map(([colour, words]) =>
     `<span class="key" style="background:var(--${colour})"></span>${words}`);
+  const words = GLOSSARY.map(([word, sentence]) => `<dt>${word}</dt><dd>${escaped(sentence)}</dd>`);
   dialog(`<h2>Keys and colours</h2><table>${rows.join("")}</table><p class="samples">${samples.join(" ")}</p>
     <p class="quiet">In the time line each row is a cell and each column a moment: the history grows, stands while the
     output is
@@ -50,5 +52,6 @@ export function openHelp() {
     the bar. No two moves end alike, so each can be undone.</p>
     <p class="quiet">Every step that is shown is an answer of a program that is proved to give it. It runs in this
     page, and
-    nothing is sent anywhere.</p>`);
+    nothing is sent anywhere.</p>
+    <details aria-label="Words"><summary>Words</summary><dl class="words">${words.join("")}</dl></details>`);
 }

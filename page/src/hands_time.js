@@ -2,6 +2,7 @@
 import {stopAll} from "./answer.js";
 import {dropBreak} from "./breaks.js";
 import {dropWantedTime, onFilm} from "./hands_film.js";
+import {stepSentence} from "./glossary.js";
 import {on} from "./listen.js";
 import {giveUp} from "./machine.js";
 import {chooseLayer, goTo, goToEnd, goToKnown, pause, runBreak, speedWords, step, togglePlay} from "./play.js";
@@ -24,6 +25,9 @@ export function onTime() {
     byId("speedtext").textContent = speedWords();
     byId("speed").setAttribute("aria-valuetext", speedWords());
   });
+  for (const it of byId("layers").querySelectorAll("[data-layer]")) {
+    it.setAttribute("title", stepSentence(it.dataset.layer ?? ""));
+  }
   on("layers", "click", event => {
     const it = event.target.closest("[data-layer]");
     if (it) chooseLayer(it.dataset.layer);

@@ -1,12 +1,14 @@
 // Three short hints at a first visit, each at its place. That they were seen is kept in the browser; where nothing can
 // be kept, none is shown.
+import {stepSentence} from "./glossary.js";
 import {byId, state} from "./state.js";
 
 const KEPT_AS = "hithwelor hints", HINT_GAP = 10;
 const HINTS = [
   {at: "#stages", words: "A step that forgets what was there costs heat, and can't be taken back. This machine forgets nothing: it keeps a " +
     "history, copies its output, and takes every step back."},
-  {at: "#play", words: "Play it, and play it back: space and shift space. → and ← make one step; beside them you choose what a step is."},
+  {at: "#play", words: "Play it, and play it back: space and shift space. → and ← make one step; beside them you choose what a step is. " +
+    `Now it is a ${stepSentence("quadruple")}`},
   {at: ".editor", words: "Paste or type a machine of your own here, in a book's notation too. What the program says of it stands below."},
   {at: "#map", words: "The same step in the circuit. A click on a state, a cell or an element tells what it is; ? says what is seen."},
 ];

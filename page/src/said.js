@@ -53,7 +53,8 @@ export async function openSaid(title, calls) {
 const button = (what, k) =>
   `<button data-copy="${what}" data-call="${k}">Copy ${what === "text" ? "the text" : `the ${what}`}</button>`;
 // The first lines of a long text.
-function front(text) {
+/** @type {(text: string) => string} */
+export function front(text) {
   const lines = text.split("\n"), count = lines.length - 1;
   if (count <= MOST_LINES) return text;
   return `${lines.slice(0, MOST_LINES).join("\n")}\n… ${number(count - MOST_LINES)} more lines`;

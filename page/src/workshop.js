@@ -1,6 +1,7 @@
 // The workshop: a dialog with pages of one kind, each with something of its own to type, to step and to look at. A page
 // says how it is made, and what is done as it comes and goes.
 import {openAboutPage} from "./about.js";
+import {commandPage} from "./command.js";
 import {elementsPage} from "./elements.js";
 import {erasePage} from "./erase.js";
 import {farmPage} from "./farm.js";
@@ -13,7 +14,7 @@ import {byId, partOf} from "./state.js";
 import {markTab, takeTabs} from "./tabs.js";
 
 /** @type {WorkshopPage[]} */
-const PAGES = [elementsPage, mirrorPage, farmPage, erasePage, reversiblePage, planPage];
+const PAGES = [elementsPage, mirrorPage, farmPage, erasePage, reversiblePage, planPage, commandPage];
 // The box is there once the workshop was opened, and the page that is shown.
 const workshop = /** @type {{box: HTMLDialogElement, page: WorkshopPage, made: Set<WorkshopPage>}} */ ({made: new Set()});
 const part = id => partOf(workshop.box, id);
@@ -63,6 +64,7 @@ function choosePage(page) {
   workshop.page = page;
   for (const it of PAGES) pageBox(it).hidden = it !== page;
   markTab(workshop.box, pageTab(page));
+  part("e-picture").disabled = page === commandPage;
   if (workshop.made.has(page)) {
     page.open();
     return;
@@ -77,6 +79,9 @@ export function openWorkshop(key = workshop.page?.key ?? PAGES[0].key) {
   if (!workshop.box.open) workshop.box.showModal();
   choosePage(pageOf(key));
 }
+// Whether the workshop stands open at this page.
+/** @type {(key: string) => boolean} */
+export const isWorkshopAt = key => Boolean(workshop.box?.open) && workshop.page.key === key;
 /** @type {() => HTMLDialogElement | undefined} */
 export const workshopBox = () => workshop.box;
 /** @type {(key: string) => WorkshopPage} */

@@ -7,10 +7,11 @@ from __future__ import annotations
 
 from .answers import NoMemory, Unavailable, answer, way
 from .machine import Machine, Names, ReversibleMachine
-from .texts import Exit, Outcome, Refused, Run, Session, Tape, View, Window
+from .texts import Exit, Look, Outcome, Refused, Run, Session, Tape, View, Window
 
 __all__ = [
     "Exit",
+    "Look",
     "Machine",
     "Names",
     "NoMemory",

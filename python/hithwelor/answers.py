@@ -181,7 +181,7 @@ def answer(words: Sequence[Bytes], input: Bytes = b"") -> tuple[int, bytes]:
     """The status and the text, as bytes, of the program's answer to words and an input.
 
     The words are a sequence of str or bytes, as behind ./workbench; the input is str or bytes. A str is taken in UTF-8. The
-    statuses are those of docs/FORMATS.md. A word with a byte 0 is a ValueError; want of memory is NoMemory.
+    statuses are those of docs/use/formats.md. A word with a byte 0 is a ValueError; want of memory is NoMemory.
     """
     if isinstance(words, (str, bytes)):
         raise TypeError("words is a sequence of words, and not one text")

@@ -53,4 +53,5 @@ def commands(mark: str = "") -> list[str]:
 
 def quoted(names: list[str]) -> str:
     """A list of names as a sentence has it."""
-    return " and ".join(f"`{name}`" for name in names)
+    names = [f"`{name}`" for name in names]
+    return " and ".join([", ".join(names[:-1]), names[-1]] if names[1:] else names)

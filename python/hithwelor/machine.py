@@ -7,7 +7,7 @@ from collections.abc import Iterable
 from typing import ClassVar, TypeVar, Union
 
 from .answers import answer
-from .texts import Outcome, Refused, Run, Session, View, Window, checked
+from .texts import Look, Outcome, Refused, Run, Session, View, Window, checked
 
 DONE, TEXT, MACHINE, STUCK, WINDOW, INSIDE = 0, 3, 4, 10, 11, 12
 # The greatest number of element steps of a drive.
@@ -57,6 +57,12 @@ class Table:
             *answer([str(word) for word in words], self.table if data is None else data), *(statuses or (DONE,))
         )
 
+    def with_script(self, script: str | Iterable[str]) -> str:
+        """The table, the line %, and a script: its commands as a sequence, or as one text."""
+        script = script if isinstance(script, str) else "".join(f"{line}\n" for line in script)
+        table = self.table if self.table.endswith("\n") else self.table + "\n"
+        return f"{table}%\n{script}"
+
     @staticmethod
     def window(window: Iterable[int]) -> Window:
         numbers = tuple(window)
@@ -78,7 +84,7 @@ class Table:
 
 
 class Machine(Table):
-    """A machine, by its table: a quintuple a line, `state,read,write,shift,next`, as docs/FORMATS.md has it."""
+    """A machine, by its table: a quintuple a line, `state,read,write,shift,next`, as docs/use/formats.md has it."""
 
     HEADS = ("state", "read", "write", "move", "next")
 
@@ -128,11 +134,10 @@ class Machine(Table):
         """Every layer after at most so many element steps."""
         return View.read(self.ask(["view", f"={word}", *self.window(window), steps]).splitlines())
 
-    def session(self, word: str, window: Iterable[int], script: str | Iterable[str]) -> Session:
+    def session(self, word: str, window: Iterable[int], script: str | Iterable[str]) -> Session[View]:
         """The answers to a script: its commands as a sequence, or as one text."""
-        script = script if isinstance(script, str) else "".join(f"{line}\n" for line in script)
-        table = self.table if self.table.endswith("\n") else self.table + "\n"
-        return Session.read(self.ask(["session", f"={word}", *self.window(window)], data=f"{table}%\n{script}"))
+        words = ["session", f"={word}", *self.window(window)]
+        return Session.read(self.ask(words, data=self.with_script(script)), View)
 
     def compile(self, word: str, window: Iterable[int]) -> str:
         """The configuration text of the machine's circuit at its start."""
@@ -145,7 +150,7 @@ class Machine(Table):
 
 class ReversibleMachine(Table):
     """A machine of quadruples, by its table: `state`, what is read on three tapes, what is done there, and `next`, as
-    docs/FORMATS.md has it."""
+    docs/use/formats.md has it."""
 
     HEADS = ("state", "read 1", "read 2", "read 3", "act 1", "act 2", "act 3", "next")
 
@@ -179,3 +184,12 @@ class ReversibleMachine(Table):
         chosen = self.window(window)
         told = self.ask(["drive", *spelled(words), *chosen, steps], DONE, STUCK, WINDOW, INSIDE)
         return Run.read(told, chosen)
+
+    def look(self, words: Word | Iterable[Word], window: Iterable[int], steps: int) -> Look:
+        """Every layer of that circuit after at most so many element steps."""
+        return Look.read(self.ask(["look", *spelled(words), *self.window(window), steps]).splitlines())
+
+    def play(self, words: Word | Iterable[Word], window: Iterable[int], script: str | Iterable[str]) -> Session[Look]:
+        """The answers to a script that is played on that circuit: its commands as a sequence, or as one text."""
+        asked = ["play", *spelled(words), *self.window(window)]
+        return Session.read(self.ask(asked, data=self.with_script(script)), Look)

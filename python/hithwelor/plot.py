@@ -4,7 +4,7 @@
     elements   elements against the window's cells
     exits      how each word came out, in each form and window
 
-docs/MANY.md has examples. For the picture of the growth of `generate`, in docs/BENCHMARKS.md, there is tools/plot.
+docs/use/many.md has examples. For the picture of the growth of `generate`, in docs/use/benchmarks.md, there is tools/plot.
 """
 from __future__ import annotations
 

@@ -8,7 +8,7 @@ import html
 import re
 from collections.abc import Iterable, Iterator, Sequence
 from dataclasses import dataclass, field
-from typing import ClassVar, overload
+from typing import Any, ClassVar, Generic, TypeVar, overload
 
 STATUSES = {
     2: "usage",
@@ -196,10 +196,10 @@ class Run:
 
 
 @dataclass(frozen=True)
-class View:
-    """Every layer at one step: `place` is the line of the element (as `12.w`), and `has_left` says whether the signal has
-    left by it; then the `module`, the state of Bennett's machine, the `tapes`, the `stage` and what the machine itself does.
-    """
+class Look:
+    """Every layer of the circuit of a machine of quadruples at one step: `place` is the line of the element (as
+    `12.w`), and `has_left` says whether the signal has left by it; then the `module`, the machine's state and the
+    `tapes`."""
 
     place: str
     has_left: bool
@@ -207,87 +207,123 @@ class View:
     module: str
     quadruple: str
     tapes: tuple[Tape, ...]
-    stage: str
-    machine: str
-    text: str = field(default="", repr=False)
+    text: str = field(repr=False)
 
-    MACHINE: ClassVar[re.Pattern[str]] = re.compile(
-        r"machine (compute|copy|retrace) ((?:state \S+|quintuple \d+) step (?:\d+|\?))"
-    )
+    LINES: ClassVar[int] = 6
 
     @classmethod
-    def read(cls, lines: Sequence[str]) -> View:
-        if len(lines) < 7:
-            raise ValueError(f"{len(lines)} lines, and a view has seven")
+    def read(cls, lines: Sequence[str]) -> Look:
+        if len(lines) < cls.LINES:
+            raise ValueError(f"{len(lines)} lines, and {cls.LINES} are shown")
         element = matched(re.fullmatch(r"element (at|left) (\S+) steps (\d+)", lines[0]), lines[0], "an element")
         quadruple = matched(re.fullmatch(r"quadruple (\S+)", lines[2]), lines[2], "a quadruple")
-        machine = matched(cls.MACHINE.fullmatch(lines[6]), lines[6], "a machine")
-        return cls(
+        return Look(
             element[2],
             element[1] == "left",
             int(element[3]),
             lines[1],
             quadruple[1],
             tuple(map(Tape.read, lines[3:6])),
-            machine[1],
-            machine[2],
-            "".join(f"{line}\n" for line in lines[:7]),
+            "".join(f"{line}\n" for line in lines[: cls.LINES]),
         )
 
     @property
     def lines(self) -> list[str]:
-        """The seven lines as the program prints them."""
+        """The lines as the program prints them."""
         return self.text.splitlines()
 
+    def _told(self) -> list[str]:
+        return [f"quadruple {self.quadruple}", self.module, f"element step {self.steps}"]
+
     def _repr_html_(self) -> str:
-        told = [
-            self.stage,
-            f"{self.machine}",
-            f"quadruple {self.quadruple}",
-            f"{self.module}",
-            f"element step {self.steps}",
-        ]
-        return f"<p>{' &middot; '.join(map(html.escape, told))}</p>{tapes_html(self.tapes)}"
+        return f"<p>{' &middot; '.join(map(html.escape, self._told()))}</p>{tapes_html(self.tapes)}"
 
 
 @dataclass(frozen=True)
-class Session:
-    """The answers to a script, one an entry: a View for `view`, else the line that was answered."""
+class View(Look):
+    """Every layer of the circuit of Bennett's machine at one step: what a Look has, the `stage`, and what the machine
+    itself does."""
 
-    answers: tuple[View | str, ...]
-    text: str = field(default="", repr=False)
+    stage: str
+    machine: str
+
+    LINES: ClassVar[int] = 7
+    MACHINE: ClassVar[re.Pattern[str]] = re.compile(
+        r"machine (compute|copy|retrace) ((?:state \S+|quintuple \d+) step (?:\d+|\?))"
+    )
 
     @classmethod
-    def read(cls, text: str) -> Session:
+    def read(cls, lines: Sequence[str]) -> View:
+        look = super().read(lines)
+        machine = matched(cls.MACHINE.fullmatch(lines[6]), lines[6], "a machine")
+        return cls(
+            look.place,
+            look.has_left,
+            look.steps,
+            look.module,
+            look.quadruple,
+            look.tapes,
+            look.text,
+            machine[1],
+            machine[2],
+        )
+
+    def _told(self) -> list[str]:
+        return [self.stage, self.machine, *super()._told()]
+
+
+Shown = TypeVar("Shown", bound=Look)
+
+
+@dataclass(frozen=True)
+class Session(Generic[Shown]):
+    """The answers to a script, one an entry: for `view` what is shown, a View, or a Look of a machine of quadruples;
+    else the line that was answered."""
+
+    answers: tuple[Shown | str, ...]
+    text: str = field(default="", repr=False)
+
+    @overload
+    @classmethod
+    def read(cls, text: str) -> Session[View]:
+        ...
+
+    @overload
+    @classmethod
+    def read(cls, text: str, kind: type[Shown]) -> Session[Shown]:
+        ...
+
+    @classmethod
+    def read(cls, text: str, kind: type[Look] = View) -> Session[Any]:
         lines, at = text.splitlines(), 0
-        answers: list[View | str] = []
+        answers: list[Look | str] = []
         while at < len(lines):
             if lines[at].startswith("element "):
-                answers.append(View.read(lines[at : at + 7]))
-                at += 7
+                answers.append(kind.read(lines[at : at + kind.LINES]))
+                at += kind.LINES
             else:
                 answers.append(lines[at])
                 at += 1
-        return cls(tuple(answers), text)
+        return Session(tuple(answers), text)
 
     def __len__(self) -> int:
         return len(self.answers)
 
-    def __iter__(self) -> Iterator[View | str]:
+    def __iter__(self) -> Iterator[Shown | str]:
         return iter(self.answers)
 
     @overload
-    def __getitem__(self, place: int) -> View | str:
+    def __getitem__(self, place: int) -> Shown | str:
         ...
 
     @overload
-    def __getitem__(self, place: slice) -> tuple[View | str, ...]:
+    def __getitem__(self, place: slice) -> tuple[Shown | str, ...]:
         ...
 
-    def __getitem__(self, place: int | slice) -> View | str | tuple[View | str, ...]:
+    def __getitem__(self, place: int | slice) -> Shown | str | tuple[Shown | str, ...]:
         return self.answers[place]
 
     def _repr_html_(self) -> str:
         return "".join(
-            it._repr_html_() if isinstance(it, View) else f"<pre>{html.escape(it)}</pre>" for it in self.answers
+            f"<pre>{html.escape(it)}</pre>" if isinstance(it, str) else it._repr_html_() for it in self.answers
         )

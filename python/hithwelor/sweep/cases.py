@@ -137,7 +137,7 @@ def read(path: str) -> bytes:
 
 
 def increments(count: int) -> bytes:
-    """The table of the machine that adds one so many times, as docs/FORMATS.md has it."""
+    """The table of the machine that adds one so many times, as docs/use/formats.md has it."""
     lines = ["S,_,_,+,R1"]
     for i in range(1, count + 1):
         last = f"L{i},_,_,0,F" if i == count else f"L{i},_,_,+,R{i + 1}"
@@ -177,7 +177,7 @@ def tables_of(names: Iterable[str], tell: Tell) -> list[Table]:
         else:
             found.append(Table(name, read(name)))
     if not found:
-        raise Fault("no machine is left, and nothing was made; docs/MANY.md has examples")
+        raise Fault("no machine is left, and nothing was made; docs/use/many.md has examples")
     if any(ord(it) < 32 for table in found for it in table.name):
         raise Fault("the name of a machine's file has a line end or a tab, and can't stand in a row; rename it")
     return found

@@ -1,8 +1,8 @@
 """Asks the program the same of many machines, words and windows, and writes what it answers as one table.
 
 The cases are machines by words by forms and windows; each has one row, and the rows stand in the order of the cases.
-MACHINE is a file with a table, a folder of them (*.csv), or generate:K, the machine of K increments. docs/MANY.md has
-examples, docs/FORMATS.md the columns.
+MACHINE is a file with a table, a folder of them (*.csv), or generate:K, the machine of K increments. docs/use/many.md has
+examples, python/README.md the columns.
 
     python3 -m hithwelor sweep MACHINE.. WORDS [--form ..] [--out TABLE]
     python3 -m hithwelor sweep join TABLE      joins the parts that --part made
@@ -31,7 +31,7 @@ HINTS = {
     "text": "that file isn't a table of quintuples, one `state,read,write,shift,next` a line",
     "machine": "that machine isn't in standard form, and --standard brings most into it",
     "word": "that word has a letter that the machine hasn't; words are written without = before them",
-    "size": "that word doesn't fit its window, or the circuit would be too large; docs/FORMATS.md has the limits",
+    "size": "that word doesn't fit its window, or the circuit would be too large; docs/use/formats.md has the limits",
 }
 
 
@@ -231,7 +231,7 @@ def close(tally: Tally, is_checked: bool, stream: TextIO) -> int:
     if tally.refused:
         kind = tally.first_outcome.partition(":")[0]
         tell(
-            f"rows that tell a refusal: {tally.refused}, the first {tally.first}: {HINTS.get(kind, 'docs/HELP.md says what is meant')}"
+            f"rows that tell a refusal: {tally.refused}, the first {tally.first}: {HINTS.get(kind, 'docs/use/help.md says what is meant')}"
         )
     if tally.late:
         tell(f"rows of cases that took too long: {tally.late}; a greater --seconds gives them more time")
