@@ -1,6 +1,6 @@
 #!/usr/bin/env python3
-"""Times the program beside C: texts read and written beside bench/reader.c, steps beside bench/loop.c. It proves
-nothing and is no part of rt ci.
+"""Times the program beside C and Rust: texts read and written beside bench/reader.c and bench/reader.rs, steps beside
+bench/loop.c. It proves nothing and is no part of rt ci.
 
     bench/compare.py                                  by the proved program, crates/bn_main/out/bn_main
     bench/compare.py --program 'node bin/hithwelor' --elements 10000 --steps 20000000
@@ -8,21 +8,23 @@ nothing and is no part of rt ci.
     bench/compare.py --count --elements 100000        instructions too, which is slow without perf's counters
     bench/compare.py --only texts                     or --only steps, or --only boards
 
-Both C programs are compiled by gcc and by clang, -O2, where they are installed. The texts are rings in order and
-shuffled and the board of an increment: in version 1 of as many elements as --elements says, in version 2 of four times
-as many. What the program and the readers write is compared with the text, byte for byte; then they run in turn, so
-that other work on the machine slows all of them, and what they write goes nowhere. Seconds are of the processor, user
-and system, the medians of --runs runs. A ratio is that of two medians; behind it stand the least and the greatest one
-of a turn. The peak of memory is what the process had itself, least of all runs; none below some 15 MB can be seen.
+Both C programs are compiled by gcc and by clang, -O2, and the Rust program by rustc, -O, where they are installed. The
+texts are rings in order and shuffled and the board of an increment: in version 1 of as many elements as --elements
+says, in version 2 of four times as many. What the program and the readers write is compared with the text, byte for
+byte; then they run in turn, so that other work on the machine slows all of them, and what they write goes nowhere.
+Seconds are of the processor, user and system, the medians of --runs runs. A ratio is that of two medians; behind it
+stand the least and the greatest one of a turn. The peak of memory is what the process had itself, least of all runs;
+none below some 15 MB can be seen.
 
 Of steps, the program's seconds are those of `step E` less those of `step 0` in the same turn, and those of `back E`
 less those of `back 1`, since the way back is made before the first step back. The C loop is compiled in two forms: a
 line has its own number, element by element, or lines are numbered in blocks, as in the program. Of texts a ratio above
 1 means that the program is slower, of steps that it is faster.
 
-Of boards no C stands beside: `compile` is told beside `run` of the same board with no steps, which makes the board and
-doesn't write its text, so that the difference is what writing takes; and the seconds of three commands as they are. The
-tables at the end are in Markdown, as they stand in docs/BENCHMARKS.md.
+Of boards `compile` is told beside `run` of the same board with no steps, which makes the board and doesn't write its
+text, so that the difference is what writing takes; the Rust program writes the same text eleven times and once, so that
+a tenth of their difference is what it takes to write it. Then come the seconds of three commands as they are. The tables
+at the end are in Markdown, as they stand in docs/use/benchmarks.md.
 """
 import argparse
 import filecmp
@@ -117,7 +119,10 @@ def in_turn(commands, source, runs):
 
 def text_rows(options, program, folder):
     """Of each text a row of seconds and memory, and a row of instructions."""
-    readers = {name: [measuring.compiled("reader", name, folder)] for name in measuring.compilers()}
+    readers = {f"C by {name}": [measuring.compiled("reader", name, folder)] for name in measuring.compilers()}
+    rust = measuring.plain_rust(folder)
+    if rust:
+        readers["Rust"] = [rust]
     commands = {"program": [*program, "step", "0"], **readers}
     rows, counts = [], []
     for name, source in measuring.texts(program, options.elements, folder, options.texts):
@@ -145,10 +150,10 @@ def text_tables(options, program, folder):
     readers, rows, counts = text_rows(options, program, folder)
     heads = ["`step 0`", "Elements", "Program, s"]
     for name in readers:
-        heads += [f"C by {name}, s", "Ratio"]
+        heads += [f"{name}, s", "Ratio"]
     told = measuring.table([*heads, "Bytes an element, program", "C"], rows)
     if counts:
-        heads = ["Instructions an element", "Elements", "Program", *(f"C by {name} (ratio)" for name in readers)]
+        heads = ["Instructions an element", "Elements", "Program", *(f"{name} (ratio)" for name in readers)]
         told += "\n\n" + measuring.table(heads, counts)
     return told
 
@@ -247,15 +252,25 @@ def board_tables(options, program, folder):
     """What `compile` takes beside what writing its text takes, and the seconds of commands on boards, in Markdown."""
     table = measuring.write(os.path.join(folder, "increment"), increments(1))
     words = measuring.board_words(options.elements)
-    whole, opened = [], []
+    whole, opened, rust = [], [], measuring.plain_rust(folder)
+    board = measuring.write_board(os.path.join(folder, "board"), program, options.elements, folder)
+    written = []
     for _ in range(options.runs):
         whole.append(measuring.run_once([*program, "compile", *words], table).processor)
         opened.append(measuring.run_once([*program, "run", *words, "0"], table, wanted=INSIDE).processor)
+        if rust:
+            many, once = (measuring.run_once([rust, times], board).processor for times in ("11", "1"))
+            written.append((many - once) / 10)
     writing = [one - other for one, other in zip(whole, opened)]
-    beside = ratio(whole, writing) if min(writing) > 0 else "too few elements to tell"
+    tells = min(writing) > 0
     elements = measuring.BOARD_BASE + measuring.BOARD_CELL * int(words[3])
-    row = [f"{elements:,}", *(f"{statistics.median(series):.3f}" for series in (whole, opened)), beside]
-    told = measuring.table(["Elements", "`compile`, s", "`run` of no steps, s", "`compile` by the difference"], [row])
+    row = [f"{elements:,}", *(f"{statistics.median(series):.3f}" for series in (whole, opened))]
+    row.append(ratio(whole, writing) if tells else "too few elements to tell")
+    heads = ["Elements", "`compile`, s", "`run` of no steps, s", "`compile` by the difference"]
+    if rust and tells and min(written) > 0:
+        row += [f"{statistics.median(written):.3f}", ratio(writing, written)]
+        heads += ["Written by Rust, s", "The difference by that"]
+    told = measuring.table(heads, [row])
     widest = measuring.board_words(4 * options.elements)
     commands = {
         "generate 4": ["generate", "4"],

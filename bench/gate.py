@@ -3,6 +3,7 @@
 
 Usage: bench/gate.py [CRATE..]           runs `rt ci` with these names behind it, at the top of the repository
        bench/gate.py --watch SECONDS     looks for so long at a gate that runs already
+       bench/gate.py --record [CRATE..]  and adds a line a crate to bench/results/gate.csv
 
 Every two seconds it notes how much time of the processor each process of the checker has taken, so what is told is a
 little less than it was. At the end it prints a table in Markdown: a row a crate, with the lines of its code, its lines in
@@ -10,6 +11,7 @@ all (code, tests, definitions, proofs), its tests and must-fail edits, and the p
 tests and of its edits. What was kept from an earlier run takes nothing and is told as a dash. Linux alone.
 """
 import argparse
+import csv
 import os
 import re
 import subprocess
@@ -100,17 +102,34 @@ def table(taken):
     return lines + ["", f"{total:.0f} processor minutes in all."]
 
 
+def record(lines):
+    """Adds the rows of the table to the data: a line a crate on which time was spent."""
+    from results import FOLDER, commit, machine
+
+    where = [time.strftime("%Y-%m-%d"), commit(), machine(), f"{os.getloadavg()[0]:.0f}"]
+    with open(os.path.join(FOLDER, "gate.csv"), "a", encoding="utf-8", newline="") as file:
+        out = csv.writer(file, lineterminator="\n")
+        for line in lines[2:]:
+            cells = [it.strip(" `").replace(",", "") for it in line.split("|")[1:-1]]
+            if cells and cells[-1] != "0.0":
+                out.writerow([*where, *("" if it == "-" else it for it in cells)])
+
+
 def main():
     parser = argparse.ArgumentParser(description=__doc__, formatter_class=argparse.RawDescriptionHelpFormatter)
     parser.add_argument("crates", nargs="*")
     parser.add_argument("--watch", type=float)
+    parser.add_argument("--record", action="store_true")
     words = parser.parse_args()
     taken, began = {}, time.monotonic()
     gate = None if words.watch else subprocess.Popen(["rt", "ci", *words.crates], cwd=TOP, stdout=sys.stderr)
     while gate.poll() is None if gate else time.monotonic() - began < words.watch:
         look(taken)
         time.sleep(PAUSE)
-    print("\n".join(table(taken)))
+    lines = table(taken)
+    print("\n".join(lines))
+    if words.record:
+        record(lines)
     print(f"{(time.monotonic() - began) / 60:.1f} minutes by the clock.")
     return gate.returncode if gate else 0
 

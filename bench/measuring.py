@@ -69,6 +69,17 @@ def compiled(name, compiler, folder, *flags):
     return made
 
 
+def plain_rust(folder):
+    """The plain Rust program that reads and writes texts, where rustc is installed."""
+    if not shutil.which("rustc"):
+        return None
+    made = os.path.join(folder, "reader-rustc")
+    if not os.path.exists(made):
+        source = os.path.join(BENCH, "reader.rs")
+        subprocess.run(["rustc", "--edition", "2021", "-O", "-o", made, source], check=True)
+    return made
+
+
 def write(path, content):
     with open(path, "wb") as file:
         file.write(content)

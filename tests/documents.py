@@ -7,7 +7,7 @@ commands are `cat FILE`, `printf 'TEXT'`, `./workbench WORDS`, `./try WORDS`, an
 are named from the top of the repository. A block of another language (as ```sh) is no example and is passed over.
 
 In a table of four columns whose second cell is a command of the program, the third cell has lines of its output, in
-their order. In the man page, docs/workbench.1, the blocks from .EX to .EE are read as above, and each quoted command
+their order. In the man page, docs/use/workbench.1, the blocks from .EX to .EE are read as above, and each quoted command
 below a number of its section EXIT STATUS has to end with that number. The statuses 7, 8 and 9 come from outside the
 program (a folder as input, a full device, no memory); their commands are not run here.
 
@@ -23,7 +23,7 @@ from concurrent.futures import ThreadPoolExecutor
 
 from places import TOP
 
-MAN_PAGE = "docs/workbench.1"
+MAN_PAGE = "docs/use/workbench.1"
 PROGRAMS = ["./workbench", "./try"]
 FROM_OUTSIDE = [7, 8, 9]
 FILTERS = ["cksum", "head", "tail"]
@@ -36,7 +36,7 @@ SECONDS = "600"
 
 def pages():
     """The pages that may show outputs, from the top."""
-    patterns = ("*.md", "docs/*.md", "docs/learn/*.md", "examples/*.md", "examples/machines/*.md", "notebooks/*.md")
+    patterns = ("*.md", "docs/*.md", "docs/*/*.md", "examples/*.md", "examples/machines/*.md", "notebooks/*.md")
     found = [path for pattern in patterns for path in glob.glob(os.path.join(TOP, pattern))]
     return sorted(os.path.relpath(path, TOP) for path in found)
 

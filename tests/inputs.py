@@ -1,6 +1,6 @@
 """Inputs that were changed at random, under every command, and what any answer must be.
 
-Any answer has a status of docs/FORMATS.md and the form of text that the command has with it; with memory at hand it is never
+Any answer has a status of docs/use/formats.md and the form of text that the command has with it; with memory at hand it is never
 status 7, 8 or 9, nothing is on standard error, and it comes within a minute and four GiB. What is taken is held against itself
 besides: `step 0` writes an accepted text again as it is; as many steps back as `step` made give the text that was; two mirrors are
 the circuit; the undoing schedule of a farm restores its boards; Bennett's machine of a table that `check` takes is deterministic
@@ -57,7 +57,9 @@ RUN = (
     rf"elements {N}\n(?:exit [^\n]+|inside {PLACE})\nsteps {N}\n(?:quadruple steps {N}\n)?{TAPES}(?:output ={WORD}\n)?"
 )
 QUADRUPLES = rf"(?:[^,\n]+(?:,[^,\n]+){{7}}\n)+"
-VIEW = rf"element (?:at|left) {PLACE} steps {N}\n[^\n]+\nquadruple [^\n]+\n{TAPES}machine [^\n]+\n"
+LOOK = rf"element (?:at|left) {PLACE} steps {N}\n[^\n]+\nquadruple [^\n]+\n{TAPES}"
+VIEW = rf"{LOOK}machine [^\n]+\n"
+PLAYED = rf"(?:%s|(?:at|left) {PLACE} steps {N}(?: break \w+)?\n|(?:break|drop) \w+\n)*"
 LAYOUT = (
     rf"elements {N}\nmodules {N}\n(?:module {N} (?:control|tape [123] cell -?{N}) from {N} columns {N} lines {N}\n)+"
     rf"(?:column {N} of control (?:begin|end|reads [^\n]+|shifts {N} [123]|writes [^\n]+)\n)+"
@@ -85,6 +87,8 @@ FORMS = {
             (INSIDE, f"inside {PLACE}"),
         )
     },
+    "look": {DONE: LOOK},
+    "play": {DONE: PLAYED % LOOK},
     "check": {DONE: rf"standard states {N} symbols {N} quintuples {N}\n"},
     "machine": {DONE: rf"halted {N}\noutput ={WORD}\n", STUCK: rf"stuck [^\n]+ [!-~] {N}\n", INSIDE: rf"running {N}\n"},
     "trace": {
@@ -105,7 +109,7 @@ FORMS = {
     "standard": {DONE: r"(?:[^,\n]+(?:,[^,\n]+){4}\n)+"},
     "run": {status: rf"(?:window {N} {N} {N} {N}\n)?{RUN}" for status in (DONE, STUCK, WINDOW, INSIDE)},
     "view": {DONE: VIEW},
-    "session": {DONE: rf"(?:{VIEW}|(?:at|left) {PLACE} steps {N}(?: break \w+)?\n|(?:break|drop) \w+\n)*"},
+    "session": {DONE: PLAYED % VIEW},
     "generate": {DONE: rf"increments {N}\n{RUN}"},
     "erase": {
         DONE: rf"{QUADRUPLES}|halted {N}\nwork ={WORD}\noutput ={WORD}\n",
@@ -128,6 +132,7 @@ TABLE_COMMANDS = [
     "layout",
     "build",
     "drive",
+    "look",
     "reversible",
     "inverse",
     "realise",
@@ -141,6 +146,12 @@ def read(name):
 
 EXAMPLES = {
     name: read(name) for name in sorted(os.listdir(os.path.join(TOP, "examples"))) if name.endswith((".csv", ".txt"))
+}
+OF_TWO_PARTS = {
+    "session": "least-session.txt",
+    "play": "adder-session.txt",
+    "erase": "not-twice.txt",
+    "farm": "two-boards.txt",
 }
 ARE_TEXTS = [data for data in EXAMPLES.values() if data.startswith(b"rotary") and b"%" not in data]
 ARE_TABLES = [data for name, data in EXAMPLES.items() if name.endswith(".csv")]
@@ -260,6 +271,8 @@ def drawn_words(draw, name):
         "layout": [word, *window],
         "build": [*tapes, *window],
         "drive": [*tapes, *window, number(0, 1, 1000, 99999)],
+        "look": [*tapes, *window, number(0, 1, 1000, 99999)],
+        "play": [*tapes, *window],
         "run": [word, *window],
         "view": [word, *window, number(0, 1, 1000, 9999)],
         "session": [word, *window],
@@ -288,18 +301,17 @@ def drawn_case(draw):
             draw.choice([*ARE_TABLES, drawn_table(draw), drawn_table(draw)]),
             ARE_TABLES,
         )
-        if name in ("moments", "build", "drive", "reversible", "inverse"):
+        if name in ("moments", "build", "drive", "look", "reversible", "inverse"):
             base = draw.choice([base, drawn_quadruples(draw), drawn_quadruples(draw)])
     else:
-        name = draw.choice(["session", "erase", "farm"])
+        name = draw.choice(["session", "play", "erase", "farm"])
         base, others = (
             draw.choice(
                 [
-                    EXAMPLES[
-                        {"session": "least-session.txt", "erase": "not-twice.txt", "farm": "two-boards.txt"}[name]
-                    ],
+                    EXAMPLES[OF_TWO_PARTS[name]],
                     drawn_table(draw) + b"%\n" + drawn_table(draw),
                     drawn_text(draw) + b"%\n+ 1 3\n- 1 1\n",
+                    drawn_quadruples(draw) + b"%\nbreak a state A\ngo 9999\nview\nrev 99\nview\n",
                 ]
             ),
             ARE_TEXTS + ARE_TABLES,
@@ -351,6 +363,14 @@ HOSTILE = [
     ("drive = = :a" + ",a" * 40000 + " 0 2 2 1 5", QUADRUPLES_LEAST, 5, "word: 3 1"),
     ("drive = 0 2 2 1 2305843009213693953", QUADRUPLES_LEAST, 2, "usage"),
     ("drive = 0 2 2 1 5", b"S,/,/,/,0,0,0,F\n", 4, "machine: silent 1"),
+    ("look = 0 2 2 1 5", LEAST, 3, "text: record 1 fields"),
+    ("look = = = 0 2 2 1 4611686018427387905", QUADRUPLES_LEAST, 2, "usage"),
+    ("look = = :a" + ",a" * 40000 + " 0 2 2 1 5", QUADRUPLES_LEAST, 5, "word: 3 1"),
+    ("play = 0 2 2 1", QUADRUPLES_LEAST, 3, "text: no script"),
+    ("play = 0 2 2 1", b"%\n", 3, "text: empty"),
+    ("play =1 0 2 2 1", QUADRUPLES_LEAST + b"%\nview \n", 5, "word: 1"),
+    ("play = 0 2 2 1", QUADRUPLES_LEAST + b"%\nview \n", 3, "text: script line 1 form"),
+    ("play = 0 2 2 1", QUADRUPLES_LEAST + b"%\nbreak a state F\nbreak b state T\n", 3, "text: script line 2 no state"),
 ]
 # Commands whose input is tried with each of its fronts.
 CUT = [
@@ -369,6 +389,8 @@ CUT = [
     ("layout = 0 2 2 1", "least.csv"),
     ("build =11 =110 = 0 3 4 3", "adder.csv"),
     ("drive =11 :1,1,0 = 0 3 4 3 1000", "adder.csv"),
+    ("look =11 :1,1,0 = 0 3 4 3 1000", "adder.csv"),
+    ("play =11 =110 = 0 3 4 3", "adder-session.txt"),
     ("run = 0 2 2 1", "least.csv"),
     ("view = 0 2 2 1 6539", "least.csv"),
     ("session = 0 2 2 1", "least-session.txt"),

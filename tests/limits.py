@@ -471,6 +471,29 @@ def drives_of_the_most_steps(by):
 
 
 @case
+def looks_and_plays_of_the_most_steps(by):
+    window, count = window_of(26_000)
+    words = ["=" + "a" * 300, ":" + ",".join("a" * 300), "=" + "a" * 300]
+    ended = rules.ended(GOING_ROWS, ["a" * 300] * 3, (0, *[26_000] * 3), 1000)
+    tapes = rules.tape_lines(ended.tapes, (0, *[26_000] * 3))
+    shown = ["exit end", f"quadruple {GOING_ROWS[-1][-1]}", *tapes]
+    by.expect(
+        "a look after at most 2^62 steps",
+        ["look", *words, *window, str(MOST_STEPS)],
+        GOING,
+        lambda lines: lines[0].startswith("element left ") and lines[1:] == shown,
+    )
+    by.expect("one step more", ["look", *words, *window, str(MOST_STEPS + 1)], GOING, ["usage"], USAGE)
+    script = f"%\nbreak end state {GOING_ROWS[-1][-1]}\nstep {MOST_STEPS}\nview\nback {MOST_STEPS}\n"
+    by.expect(
+        "a script that is played to the end and back",
+        ["play", *words, *window],
+        GOING + script.encode(),
+        lambda lines: lines[0] == "break end" and lines[3:-1] == shown and lines[-1] == "at 0.w steps 0",
+    )
+
+
+@case
 def a_drive_that_is_stuck_at_the_last_of_the_most_quadruples(by):
     """The control's states are named once more where a machine is stuck."""
     last = MOST_QUADRUPLES - 1

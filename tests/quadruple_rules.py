@@ -1,4 +1,4 @@
-"""What docs/FORMATS.md says of machines of quadruples, written anew: the finite control of a uniform machine, the parts of its
+"""What docs/use/formats.md says of machines of quadruples, written anew: the finite control of a uniform machine, the parts of its
 board, and its run in a window. Nothing of it knows a circuit. Symbols stand as their names; a table is a list of rows."""
 from collections import namedtuple
 

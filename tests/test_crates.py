@@ -1,12 +1,12 @@
 """The list of crates stands once, in crates.txt, and is the same wherever it is shown again.
 
 - crates.txt lists each folder of crates/ and no other, and no chain of crates is longer than twelve.
-- The picture in docs/ARCHITECTURE.md has the rooms of crates.txt with their crates; `bn_reply_*` stands
+- The picture in docs/develop/architecture.md has the rooms of crates.txt with their crates; `bn_reply_*` stands
   for the crates whose names begin so. A crate uses its own room and those drawn below it, and where two columns of rooms
   stand side by side, none of the other column.
 - In a table of a page whose first head is `Crate` each crate has a row, in the order of crates.txt, and a row **ROOM** has
-  what crates.txt says of the room. A table of another day has the head `Crate then`.
-- Every name bn_.. in a page or a script is that of a crate, but for pages that tell of other days too.
+  what crates.txt says of the room.
+- Every name bn_.. in a page or a script is that of a crate.
 """
 import glob
 import os
@@ -15,13 +15,13 @@ import re
 import pytest
 from places import TOP, crates, rooms, text_of
 
-ARCHITECTURE = "docs/ARCHITECTURE.md"
-OF_OTHER_DAYS = ["docs/CHECK-TIMES.md"]
+ARCHITECTURE = "docs/develop/architecture.md"
 MOST_CHAIN = 14
 PLACES = [
     "*.md",
     "docs/*.md",
-    "docs/*.1",
+    "docs/*/*.md",
+    "docs/*/*.1",
     "examples/*.md",
     "python/*.md",
     "js/*.md",
@@ -176,7 +176,7 @@ def test_a_table_of_crates_has_each_in_order(page, rows):
     assert told == {room: said.get(room) for room in told}
 
 
-@pytest.mark.parametrize("page", [it for it in PAGES if it not in OF_OTHER_DAYS])
+@pytest.mark.parametrize("page", PAGES)
 def test_each_name_of_a_crate_is_that_of_one(page):
     found = sorted(set(re.findall(r"\bbn_[a-z]\w*", text_of(page))) - {"bn_x"})
     assert not [

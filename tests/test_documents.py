@@ -63,7 +63,13 @@ def test_an_output_is_what_is_given(ran, way, number):
 def test_outputs_are_found_on_the_pages():
     """README's, the tutorial's, the man page's with its exit statuses, and rows of tables."""
     pages = {it.place.rpartition(":")[0] for it in EXAMPLES}
-    assert {"README.md", "docs/TUTORIAL.md", "docs/HELP.md", documents.MAN_PAGE, "examples/README.md"} <= pages
+    assert {
+        "README.md",
+        "docs/learn/tutorial.md",
+        "docs/use/help.md",
+        documents.MAN_PAGE,
+        "examples/README.md",
+    } <= pages
     assert any(it.wanted_status is not None for it in EXAMPLES) and any(it.is_part for it in EXAMPLES)
     assert any(it.command == documents.STATUS for it in EXAMPLES) and 300 < len(EXAMPLES)
 

@@ -203,7 +203,7 @@ def test_the_tools_write_what_is_drawn(program):
     assert hill.returncode == 0 and hill.stdout.endswith(b"\\end{tikzpicture}%\n")
 
 
-PAGE = os.path.join("docs", "learn", "FIGURES.md")
+PAGE = os.path.join("docs", "learn", "figures.md")
 COMMANDS = re.findall(r"(?m)^(?:\|.*`)?(tools/\w+ .*?) > \w+\.\w+`?(?: \|)?$", places.text_of(PAGE))
 
 

@@ -16,7 +16,7 @@ from places import TOP, text_of
 
 TABLE = "crates/bn_words/specs/Requests.antt"
 INCREMENTS = "crates/bn_gen/src/machine.rt"
-MAN_PAGE = "docs/workbench.1"
+MAN_PAGE = "docs/use/workbench.1"
 # The kind of word that stands for each letter of a form.
 KINDS = {
     **dict.fromkeys(["=W", "=W1", "=W2", "=W3"], "Letters"),
@@ -72,6 +72,11 @@ FAULTS = [
         "as many words are wanted as in `build =W l1 r1 r2 r3` or `build =W1 =W2 =W3 l1 r1 r2 r3`",
     ),
     (["drive", "=", ":", "=", "0", "2", "1", "0", "2305843009213693953"], "E is at most 2305843009213693952"),
+    (["look", "=", "0", "2", "1", "0", "4611686018427387905"], "E is at most 4611686018427387904"),
+    (
+        ["play", "=1", "2", "1", "0", "1", "0"],
+        "as many words are wanted as in `play =W l1 r1 r2 r3` or `play =W1 =W2 =W3 l1 r1 r2 r3`",
+    ),
     (["moments", "=1", "=", "5"], "as many words are wanted as in `moments =W n` or `moments =W1 =W2 =W3 n`"),
     (["machine", "=1011"], "as many words are wanted as in `machine =W n`"),
     (["erase", "=1"], "as many words are wanted as in `erase` or `erase =W n`"),
@@ -207,7 +212,7 @@ def test_words_that_have_no_form_are_told_what_is_wrong(words, wanted):
 @pytest.mark.parametrize("script", ["./workbench", "./try"])
 def test_words_that_ask_for_help_are_told_the_forms(script):
     ran = subprocess.run([script, "--help"], cwd=TOP, stdin=subprocess.DEVNULL, capture_output=True, text=True)
-    assert (ran.returncode, ran.stdout) == (0, "usage\n") and f"{TOP}/docs/workbench.1" in ran.stderr
+    assert (ran.returncode, ran.stdout) == (0, "usage\n") and f"{TOP}/docs/use/workbench.1" in ran.stderr
 
 
 @pytest.mark.parametrize("begin", ["", "re", "s", "x"])

@@ -19,7 +19,7 @@ BY_LIBRARY, BY_PROCESSES = 20_000, 1_000
 SHARES = 4
 SEED = 40
 # The commands to which inputs are drawn; of so many inputs each has some.
-COMMANDS = {*inputs.TEXT_COMMANDS, *inputs.TABLE_COMMANDS, "session", "erase", "farm"}
+COMMANDS = {*inputs.TEXT_COMMANDS, *inputs.TABLE_COMMANDS, "session", "play", "erase", "farm"}
 MANY = 2_000
 pytestmark = pytest.mark.engine
 

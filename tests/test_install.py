@@ -96,20 +96,20 @@ def test_a_folder_that_was_there_before_stays(install, tmp_path):
 
 
 def test_untracked_files_arent_installed(install, own_clone, tmp_path):
-    for name in ("docs/TUTORIAL.md~", "docs/notes.md", "examples/mine.csv", "python/hithwelor/scratch.py"):
+    for name in ("docs/learn/tutorial.md~", "docs/notes.md", "examples/mine.csv", "python/hithwelor/scratch.py"):
         places.write(os.path.join(own_clone, name), "mine\n")
     prefix = str(tmp_path / "prefix")
     assert install("--prefix", prefix, "--python").returncode == 0
     assert not [name for name, data in files_of(prefix).items() if data == b"mine\n"]
-    assert "share/doc/hithwelor/docs/TUTORIAL.md" in files_of(prefix)
+    assert "share/doc/hithwelor/docs/learn/tutorial.md" in files_of(prefix)
 
 
 def test_without_git_what_an_editor_leaves_isnt_installed(install, own_clone, tmp_path):
     shutil.rmtree(os.path.join(own_clone, ".git"))
-    places.write(os.path.join(own_clone, "docs/TUTORIAL.md~"), "mine\n")
+    places.write(os.path.join(own_clone, "docs/learn/tutorial.md~"), "mine\n")
     prefix = str(tmp_path / "prefix")
     assert install("--prefix", prefix).returncode == 0
-    assert "share/doc/hithwelor/docs/TUTORIAL.md" in files_of(prefix)
+    assert "share/doc/hithwelor/docs/learn/tutorial.md" in files_of(prefix)
     assert not [name for name in files_of(prefix) if name.endswith("~")]
 
 
@@ -175,7 +175,9 @@ def test_the_man_page_is_that_of_the_installed_command(install, tmp_path, needs)
 
 def test_the_repositorys_man_page_tells_of_the_scripts(needs):
     needs("man")
-    shown = run(["sh", "-c", 'man -l "$1" | col -b', "-", os.path.join(places.TOP, "docs", "workbench.1")]).stdout
+    shown = run(
+        ["sh", "-c", 'man -l "$1" | col -b', "-", os.path.join(places.TOP, "docs", "use", "workbench.1")]
+    ).stdout
     assert "./try" in shown and "workbench - run circuits" in shown and "hithwelor sweep" not in shown
 
 

@@ -95,7 +95,7 @@ def test_the_words_of_the_package_arent_completed_without_it(prefix, name):
     assert "migrate" in told and "sweep" not in told
 
 
-@pytest.mark.parametrize("begin, wanted", [("sw", "sweep"), ("pl", "plan plot")])
+@pytest.mark.parametrize("begin, wanted", [("sw", "sweep"), ("pl", "plan play plot")])
 def test_bash_completes_the_words_of_the_package(prefix_with_package, path, begin, wanted):
     assert completed(prefix_with_package.replace(" ", "\\ "), path, begin) == wanted
 

@@ -1,7 +1,7 @@
 """Holds what `layout` prints against the rules alone, and against `view`.
 
 Of drawn machines in standard form, and of the examples, the text is compared with the one that quadruple_rules.py makes of the
-quadruples that `bennett` prints: modules, columns and lines, all by docs/FORMATS.md. At places all along their runs the module
+quadruples that `bennett` prints: modules, columns and lines, all by docs/use/formats.md. At places all along their runs the module
 line of `view` is found in it: the element in a module, by its column and row, and a line's name by its number. And what is
 refused is what `compile` refuses, in its words.
 

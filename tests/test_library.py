@@ -92,6 +92,8 @@ def drawn():
         "layout",
         "build",
         "drive",
+        "look",
+        "play",
     ]
     numbers = lambda k: [str(draw.choice([0, 1, 2, 3, 5, 8, 13, 40])) for _ in range(k)]
     word = lambda: "=" + "".join(draw.choice("01") for _ in range(draw.randrange(6)))
@@ -116,6 +118,12 @@ def drawn():
             *numbers(4),
             str(draw.randrange(100_000)),
         ],
+        "look": lambda: [
+            *(tape_word() for _ in range(draw.choice([1, 3]))),
+            *numbers(4),
+            str(draw.randrange(100_000)),
+        ],
+        "play": lambda: [*(tape_word() for _ in range(draw.choice([1, 3]))), *numbers(4)],
     }
     found = []
     for _ in range(DRAWN):

@@ -62,6 +62,8 @@ SMALL = [
     ("run = auto", "least.csv"),
     ("view = 0 2 2 1 6539", "least.csv"),
     ("session = 0 2 2 1", "least-session.txt"),
+    ("look =1 =0 = 0 1 1 0 4000", "controlled-not.csv"),
+    ("play =11 =110 = 0 3 4 3", "adder-session.txt"),
     ("generate 1", None),
     ("erase", "least-twice.txt"),
     ("erase =1 40", "not-twice.txt"),

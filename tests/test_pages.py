@@ -1,6 +1,6 @@
-"""The page of each crate in its form, and the pages of docs/ that are made of files: tools/build/pages makes them, and says what
-their form is. Further the rows of docs/WRONG-BODIES.md with the edits that stand, and the version wherever it is told.
-"""
+"""The page of each crate in its form, and the pages that are made of files: tools/build/pages makes them, and says
+what their form is. Further the rows of docs/trust/wrong-bodies.md with the edits that stand, and the version
+wherever it is told."""
 import os
 import re
 
@@ -8,11 +8,18 @@ import places
 import pytest
 from places import text_of
 
-BODIES = "docs/WRONG-BODIES.md"
+BODIES = "docs/trust/wrong-bodies.md"
 # Where the version is told again.
 VERSIONS = {
-    "docs/workbench.1": r'^\.TH WORKBENCH 1 "[\d-]+" "Hithwelor ([\d.]+)"',
+    "docs/use/workbench.1": r'^\.TH WORKBENCH 1 "[\d-]+" "Hithwelor ([\d.]+)"',
     "CITATION.cff": r'^version: "?([\d.]+)"?$',
+}
+# The pages that are made and not committed: the head, and how often at least a pattern stands there.
+MADE = {
+    "proved.md": ("What each crate promises", 60, r"^### \["),
+    "calls.md": ("Calls", 300, r"^\| `"),
+    "every-definition.md": ("Every definition", 2000, r"^\| `"),
+    "headline-definitions.md": ("The definitions behind the headline", 80, r"^### `"),
 }
 pages = places.tool("build/pages")
 
@@ -28,17 +35,42 @@ def test_the_page_of_a_crate_has_its_form(faults, crate):
 
 
 @pytest.fixture(scope="module")
-def made():
-    return pages.made(pages.read_pages())
+def made(tmp_path_factory):
+    """The pages that aren't committed, by their names, as the one command writes them."""
+    folder = str(tmp_path_factory.mktemp("made"))
+    places.run([os.path.join(places.TOP, "tools", "build", "pages"), "--to", folder], check=True)
+    return {name: text_of(folder, name) for name in os.listdir(folder)}
 
 
-@pytest.mark.parametrize("path", sorted(pages.paths_made()))
-def test_a_page_is_what_the_files_say_of_which_it_is_made(made, path):
-    assert pages.is_there(path, made[path]), f"tools/build/pages --write makes {path} anew"
+@pytest.mark.parametrize("name", MADE)
+def test_a_page_that_is_made_has_what_it_is_for(made, name):
+    head, count, pattern = MADE[name]
+    assert made[name].startswith(f"# {head}\n") and len(re.findall(pattern, made[name], flags=re.M)) >= count
 
 
-def test_what_is_made_is_what_is_told_to_be(made):
-    assert sorted(made) == sorted(pages.paths_made())
+def test_no_other_page_is_made(made):
+    assert sorted(made) == sorted(MADE)
+    told = re.findall(r"^\| `([\w-]+\.md)` \|", text_of("docs", "trust", "made.md"), flags=re.M)
+    assert sorted(told) == sorted(MADE) and not [it for it in MADE if os.path.exists(f"{places.TOP}/docs/trust/{it}")]
+
+
+def test_the_links_of_the_pages_that_are_made_lead_somewhere(made):
+    for name, text in made.items():
+        for path in re.findall(r"\]\(([^)#]+)\)", text):
+            target = os.path.normpath(os.path.join("docs/trust", path))
+            assert os.path.exists(os.path.join(places.TOP, target)) or path in made, f"{name}: {path}"
+
+
+def test_every_crate_and_definition_is_told(made):
+    assert re.findall(r"^### \[(\w+)\]", made["proved.md"], flags=re.M) == places.crates()
+    definitions = places.tool("definitions")
+    named = {it.name for it in definitions.read_all()[0].values()}
+    assert not [it for it in named if f"`{it}`".replace("|", "\\|") not in made["every-definition.md"]]
+
+
+@pytest.mark.parametrize("path", sorted(pages.made_of_files()))
+def test_what_is_made_of_files_is_what_they_say(path):
+    assert pages.is_there(path, pages.made_of_files()[path]), f"tools/build/pages --write makes {path} anew"
 
 
 def test_the_calls_of_the_crates_are_told_in_full():
@@ -57,7 +89,7 @@ def rows_of_bodies():
     for line in text_of(BODIES).splitlines():
         row = line.strip("|").split(" | ") if line.startswith("| ") else []
         if row:
-            edits = re.findall(r"\]\(\.\./(crates/[\w/-]+\.edit)\)", row[1])
+            edits = re.findall(r"\]\(\.\./\.\./(crates/[\w/-]+\.edit)\)", row[1])
             found.append((row[0].strip(), edits, row[2].strip().split(", ") if edits else []))
     return found[1:]
 

@@ -1,5 +1,5 @@
 """The pictures of the documents, byte for byte with what makes them: docs/pictures/draw those of the definitions' tables,
-and `tools/build/gallery` those of docs/GALLERY.md, of what the program prints."""
+and `tools/build/gallery` those of docs/learn/gallery.md, of what the program prints."""
 import os
 import subprocess
 import sys

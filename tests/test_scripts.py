@@ -1,4 +1,5 @@
 """The other scripts, on machines that lack what they want: one plain sentence and a status, and no traceback."""
+import glob
 import os
 import re
 import shutil
@@ -80,9 +81,13 @@ def test_building_the_page_tells_how_far_it_is(own_clone, machine):
 
 def test_quick_with_node_alone_runs_the_documents_by_the_module(own_clone, machine, any_node):
     """With one page of documents in place of all."""
-    for folder in (own_clone, os.path.join(own_clone, "docs"), os.path.join(own_clone, "examples")):
+    for folder in (
+        own_clone,
+        *glob.glob(os.path.join(own_clone, "docs", "*", "")),
+        os.path.join(own_clone, "examples"),
+    ):
         for name in os.listdir(folder):
-            if name.endswith(".md") and name != "HELP.md":
+            if name.endswith(".md") and name != "help.md":
                 os.remove(os.path.join(folder, name))
     ran = run([os.path.join(own_clone, "check", "quick")], path=machine(lacks=["rt"], node=any_node))
     last = ran.stdout.splitlines()[-1]
@@ -96,7 +101,7 @@ def test_quick_with_nothing_says_what_is_lacking(clone, machine):
 
 
 def block_of_the_shell():
-    blocks = re.findall(r"```bash\n(.*?)```", places.text_of("docs", "MANY.md"), flags=re.S)
+    blocks = re.findall(r"```bash\n(.*?)```", places.text_of("docs", "use", "many.md"), flags=re.S)
     return next(it for it in blocks if "compare.sh" in it)
 
 

@@ -135,6 +135,7 @@ SCENES = [
     ("erase", "#m=least", "bench.openWorkshop('erase')"),
     ("reversible", "#m=least", "bench.openWorkshop('reversible')"),
     ("floor plan", "#m=least", "bench.openWorkshop('plan')"),
+    ("a command", "#m=least", "bench.openWorkshop('command')"),
 ]
 
 

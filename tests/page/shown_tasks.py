@@ -1,4 +1,4 @@
-"""The exercises of the page: that each of docs/EXERCISES.md is there, and that what is filled in is judged rightly."""
+"""The exercises of the page: that each of docs/learn/exercises.md is there, and that what is filled in is judged rightly."""
 import json
 import re
 
@@ -149,15 +149,17 @@ def answers(program):
 
 def check_links(page, count):
     """The links of the documents into the page: each leads to its exercise, or to a run. A class has one for each exercise."""
-    rows = re.findall(r"^\| \d+ to \d+ \| .* \| ([\d, ]+) \| (.*) \|$", text_of("docs", "EXERCISES.md"), flags=re.M)
+    rows = re.findall(
+        r"^\| \d+ to \d+ \| .* \| ([\d, ]+) \| (.*) \|$", text_of("docs", "learn", "exercises.md"), flags=re.M
+    )
     for numbers, cell in rows:
         lacking = [it for it in numbers.split(", ") if f"page/hithwelor.html#x={it})" not in cell]
-        count.hold(not lacking, f"docs/EXERCISES.md, a class: no link to {lacking}")
-    count.hold(len(rows) == 7, f"docs/EXERCISES.md: a class of {len(rows)} rows")
+        count.hold(not lacking, f"docs/learn/exercises.md, a class: no link to {lacking}")
+    count.hold(len(rows) == 7, f"docs/learn/exercises.md: a class of {len(rows)} rows")
     links = {
         it
-        for name in ("EXERCISES", "TUTORIAL", "GALLERY")
-        for it in re.findall(r"page/hithwelor\.html(#[^)`\s]+)\)", text_of("docs", f"{name}.md"))
+        for name in ("exercises", "tutorial", "tutorial-circuits", "gallery")
+        for it in re.findall(r"page/hithwelor\.html(#[^)`\s]+)\)", text_of("docs", "learn", f"{name}.md"))
     }
     for link in sorted(links):
         page.visit(
@@ -173,11 +175,12 @@ def check_links(page, count):
 
 def check_tasks(page, program, count):
     page.visit(f"file://{PAGE}#m=least")
-    heads = re.findall(r"^## (\d+) (.*?)(?: \(section \d+\))?$", text_of("docs", "EXERCISES.md"), flags=re.M)
+    heads = re.findall(r"^## (\d+) (.*?)(?: \(section \d+\))?$", text_of("docs", "learn", "exercises.md"), flags=re.M)
     page.ask("document.getElementById('tasks').click(); 0")
     listed = page.ask("[...document.querySelectorAll('.tasks li b')].map(it => it.textContent)")
     count.hold(
-        listed == [title for _, title in heads], f"the page lists the exercises {listed}, and docs/EXERCISES.md {heads}"
+        listed == [title for _, title in heads],
+        f"the page lists the exercises {listed}, and docs/learn/exercises.md {heads}",
     )
     page.ask("document.getElementById('dialog').close(); 0")
     for number, right, wrong in answers(program):

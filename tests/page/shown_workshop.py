@@ -1,5 +1,6 @@
-"""The workshop of the page, each of its six pages, with what the program says."""
+"""The workshop of the page, each of its seven pages, with what the program says."""
 import json
+import urllib.parse
 
 from counting import text_of
 from shown import PAGE
@@ -253,8 +254,33 @@ def check_plan(page, program, count):
         )
 
 
+def check_command(page, program, count):
+    """Any command, alone and behind another, and an address that opens one."""
+    given = text_of("examples", "increment.csv")
+    for stages in ([["check"]], [["bennett"], ["reversible"]], [["machine", "=12", "20"]], [["nothing"]]):
+        right, status = given, 0
+        for words in stages:
+            status, right = program.answer(words, right)
+        page.wait(
+            "(async () => { bench.openWorkshop('command'); await bench.pageOf('command').take(%s, %s); })()"
+            % (json.dumps(" | ".join(" ".join(it) for it in stages)), json.dumps(given))
+        )
+        count.hold(
+            page.ask("document.getElementById('k-text').textContent") == right
+            and said(page, "k-said").startswith(f"status {status}"),
+            f"command {stages}: {said(page, 'k-said')}, and the program says {status} {right[:60]!r}",
+        )
+    page.ask("document.getElementById('workshop').close(); 0")
+    asked = urllib.parse.urlencode(
+        {"c": "step 1", "i": text_of("examples", "across.txt")}, quote_via=urllib.parse.quote
+    )
+    right = program.text(["step", "1"], text_of("examples", "across.txt"))
+    page.visit(f"file://{PAGE}#{asked}", f"document.getElementById('k-text')?.textContent === {json.dumps(right)}")
+    count.hold(page.ask("location.hash").startswith("#c="), "the address of a command isn't kept")
+
+
 def check_workshop(page, program, count):
     page.visit(f"file://{PAGE}#m=least")
-    for check in (check_elements, check_mirror, check_farm, check_erase, check_reversible, check_plan):
+    for check in (check_elements, check_mirror, check_farm, check_erase, check_reversible, check_plan, check_command):
         check(page, program, count)
     count.hold(not page.faults(), f"the workshop: {page.faults()}")

@@ -13,7 +13,7 @@
 - In a headless Chromium without a network, from the file: answers to words and inputs, byte for byte; what stands in the
   page at drawn steps of many machines, with what `view` and `step` give there: tapes, place, module, stage and every bar
   of the module; the quadruple that is marked; the texts that it hands out to copy; the window, with that of `run =W auto`;
-  the pages of its workshop; what it says to answers of the exercises, which are those of docs/EXERCISES.md; the panels in
+  the pages of its workshop; what it says to answers of the exercises, which are those of docs/learn/exercises.md; the panels in
   words; hints, a still and paper; contrast in both schemes, names and roles, the keyboard alone, less motion; a way there
   and back; an endless run is stopped. The machine as it is changed, in its table and in its diagram, and taken back; what
   accepts and what many words are answered with; what is heard; four widths; answers that are cut off.
@@ -132,7 +132,7 @@ def test_each_file_of_the_page_has_one_row_in_its_readme():
 
 def test_the_page_says_what_the_page_of_help_tells_of_it():
     """Apart from numbers and what is left out."""
-    section = text_of("docs", "HELP.md").partition("## In the page\n")[2]
+    section = text_of("docs", "use", "help.md").partition("## In the page\n")[2]
     sources = "".join(
         text_of(path) for path in sorted(glob.glob(os.path.join(TOP, "page", "src", "**", "*.*"), recursive=True))
     )

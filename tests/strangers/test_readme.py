@@ -77,7 +77,9 @@ def test_have_it_proved_and_its_table_with_the_proved_program(place, machine, pr
     own = shutil.copytree(place, str(tmp_path / "own"), symlinks=True)
     places.copy_proved(places.TOP, own)
     holds(own, machine(), "", [it for it in shown("README.md") if it[0].startswith("./workbench")])
-    rows = re.findall(r"^\| .*? \| `(.*?)` \| (.*?) \| .*? \|$", places.text_of("README.md"), flags=re.M)
+    rows = re.findall(
+        r"^\| .*? \| `(.*?)` \| (.*?) \| .*? \|$", places.text_of("docs", "trust", "what-is-proved.md"), flags=re.M
+    )
     assert rows
     for command, told in rows:
         ran = run(["bash", "-c", command.replace("\\|", "|")], path=machine(), cwd=own)
@@ -87,7 +89,7 @@ def test_have_it_proved_and_its_table_with_the_proved_program(place, machine, pr
 
 def test_with_python_alone_it_is_said_what_is_lacking(clone, machine, python):
     for command, _ in TRIED:
-        ran = run(["bash", "-c", command], path=machine(python=python), cwd=clone)
+        ran = run(["bash", "-o", "pipefail", "-c", command], path=machine(python=python), cwd=clone)
         assert (ran.returncode, ran.stdout) == (1, "")
         assert "node isn't on the path" in ran.stderr and "command rt isn't on the path" in ran.stderr
 
@@ -104,7 +106,7 @@ def test_an_installed_prefix(place, machine, node, tmp_path):
     prefix = str(tmp_path / "prefix")
     ran = run(["make", "install", f"PREFIX={prefix}"], path=machine(lacks=["rt"], node=node), cwd=place)
     assert ran.returncode == 0, ran.stderr
-    command = [(f"{prefix}/bin/hithwelor{it[len('./try'):]}", output) for it, output in TRIED]
+    command = [(it.replace("./try", f"{prefix}/bin/hithwelor"), output) for it, output in TRIED]
     holds(os.path.join(prefix, "share", "doc", "hithwelor"), machine(node=node), "", command)
     ran = run(["make", "uninstall", f"PREFIX={prefix}"], path=machine(lacks=["rt"], node=node), cwd=place)
     assert ran.returncode == 0 and not os.path.exists(prefix)

@@ -2,8 +2,8 @@
 # The forms of the words, and words that help: what ./workbench and ./try say on standard error beside the program.
 # Sourced where it is needed, behind tools/lib/built.sh, with forms.tsv beside it and the top of the repository in `top`; where
 # it is installed, `manual` and `help_page` name the two pages.
-manual=${manual-$top/docs/workbench.1}
-help_page=${help_page-$top/docs/HELP.md}
+manual=${manual-$top/docs/use/workbench.1}
+help_page=${help_page-$top/docs/use/help.md}
 
 # The forms of the words, each with what the command does behind `|`; the commands that read nothing, and those whose words
 # may be names of symbols with commas between, behind `:`; and the least and the greatest number in place of each letter,
@@ -208,7 +208,7 @@ tell_refusal() {
     4)
         where="\`machine:\` and a demand"
         what="its machine isn't in standard form; where it starts on the first letter of its word, \`standard\` helps"
-        [[ $command =~ ^(standard|realise|moments|build|drive)$ ]] && what="its machine isn't one that $command takes"
+        [[ $command =~ ^(standard|realise|moments|build|drive|look|play)$ ]] && what="its machine isn't one that $command takes"
         ;;
     5) what="the word has a letter that the table hasn't" where="\`word:\` and \`size:\`"
         [ "$command" = realise ] && what="the machine has no such state or line" ;;

@@ -9,7 +9,7 @@ library=$top/lib/hithwelor
 script=hithwelor
 front=$library/front.sh
 manual=hithwelor
-help_page=$top/share/doc/hithwelor/docs/HELP.md
+help_page=$top/share/doc/hithwelor/docs/use/help.md
 . "$library/built.sh"
 
 # Runs the program, or the module, with the words given.

@@ -1,7 +1,7 @@
 """What the tools share: runs of the program, and the texts that it prints.
 
 The program makes every step. A reader here takes a text that the program printed and gives its parts names; where a
-text isn't of the form that docs/FORMATS.md says, a Fault tells what is wrong and where. Tapes and views are those of the
+text isn't of the form that docs/use/formats.md says, a Fault tells what is wrong and where. Tapes and views are those of the
 Python package.
 """
 import argparse
