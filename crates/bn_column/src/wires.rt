@@ -1,5 +1,5 @@
 //! The wires of a column.
-ghost use Rattle.std.specs.Prelude.{◌≡◌, ◌+◌, ◌*◌, ◌^◌, ◌<◌, ◌≤◌, ◌++◌, ◌∷◌, [], length, IfOk, OnOk};
+ghost use Rattle.std.specs.Prelude.{◌≡◌, ◌+◌, ◌*◌, ◌^◌, ◌<◌, ◌≤◌, ◌++◌, ◌∷◌, [], length, IfOk, OnOk, OnErr, ◌⊎◌};
 ghost use Rattle.bn_net.specs.Wirings.{AreWiresOf};
 ghost use Rattle.bn_column.specs.Columns.{IsInner};
 ghost use Rattle.bn_column.specs.Nets.{wire_of};
@@ -27,11 +27,14 @@ pub fn column_wires(alloc: Global, first: u32, rows: u32) -> Result<Vec<Wire>, N
     Ok(wires)
 }
 
-/// Adds the wires between this row and the next element, down and up.
+/// Adds the wires between this row and the next element, down and up. After `NoMemory` the list is as it was, or with
+/// the wire down behind it.
 pub fn push_rung(wires: &mut Vec<Wire>, row: u32) -> Result<(), NoMemory>
     requires { row + 1 < 2 ^ 32 }
-    ensures { OnOk result (wires.new.items ≡ (wires.old.items ++ wire_of row 2 (row + 1) 0 ∷ [])
+    ensures added { OnOk result (wires.new.items ≡ (wires.old.items ++ wire_of row 2 (row + 1) 0 ∷ [])
         ++ wire_of (row + 1) 0 row 2 ∷ []) }
+    ensures refused { OnErr result ((wires.new.items ≡ wires.old.items)
+        ⊎ (wires.new.items ≡ wires.old.items ++ wire_of row 2 (row + 1) 0 ∷ [])) }
 {
     push_wire(wires, wire(row, SOUTH, row + 1, NORTH))?;
     push_wire(wires, wire(row + 1, NORTH, row, SOUTH))?;
@@ -54,9 +57,10 @@ pub fn wire(from: u32, from_line: u32, to: u32, to_line: u32) -> Wire
     }
 }
 
-/// Adds a wire behind those of a list.
+/// Adds a wire behind those of a list. After `NoMemory` the list is as it was.
 pub fn push_wire(wires: &mut Vec<Wire>, wire: Wire) -> Result<(), NoMemory>
-    ensures { OnOk result (wires.new.items ≡ wires.old.items ++ wire ∷ []) }
+    ensures added { OnOk result (wires.new.items ≡ wires.old.items ++ wire ∷ []) }
+    ensures refused { OnErr result (wires.new.items ≡ wires.old.items) }
 {
     wires.push(wire)?;
     Ok(())
