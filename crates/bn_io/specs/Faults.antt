@@ -20,3 +20,8 @@ pub record HasCause {T E : Type 0} (before now : ℕ) (result : Result T E) : Ty
 -- unless the call was refused for this failure, the count is what it was
 abbrev pub StaysUnless : Type 0 → ℕ → ℕ → Type 0
 StaysUnless failure before now = (failure → ⊥) → now ≡ before
+
+-- a call in which the count never fell, and which left it as it was unless it was refused for this failure
+pub record CountsUnless (failure : Type 0) (before now : ℕ) : Type 0 where
+  pub later : before ≤ now
+  pub stays : StaysUnless failure before now

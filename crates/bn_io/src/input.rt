@@ -1,5 +1,6 @@
 //! What a command reads its input from.
-ghost use Rattle.std.specs.Prelude.{◌≡◌, ◌↔◌, ℕ, ◌<◌, ◌≤◌, List, [], length, take, Option, Some, OnErr, IfOk, IfSome};
+ghost use Rattle.std.specs.Prelude.{◌≡◌, ◌↔◌, ℕ, ◌<◌, ◌≤◌, List, [], drop, length, take, Option, Some, option_map};
+ghost use Rattle.std.specs.Prelude.{OnErr, IfOk, IfSome};
 ghost use Rattle.bn_io.specs.Faults.{HasCause};
 ghost use Rattle.bn_io.specs.Told.{Loses};
 
@@ -15,6 +16,12 @@ pub trait Input {
     /// How often it has failed, up to the last value of its counter.
     ghost faults: { Self → ℕ };
 
+    /// It has neither failed nor said that it has ended, as far as it tells.
+    ghost open: { Self → Type 0 };
+
+    /// It has been asked for bytes after it had failed or had said that it has ended.
+    ghost overrun: { Self → Type 0 };
+
     /// It lends all that is left.
     ghost lends: { Self → Type 0 };
 
@@ -27,22 +34,29 @@ pub trait Input {
         ensures ended { IfOk result (λ c.
             IfSome (left self.old) (λ xs. (c ≡ 0) ↔ (xs ≡ []))) }
         ensures kept { OnErr result (left self.new ≡ left self.old) }
-        ensures cause { HasCause (faults self.old) (faults self.new) result };
+        ensures cause { HasCause (faults self.old) (faults self.new) result }
+        ensures goes_on { IfOk result (λ c. 0 < c → «open» self.old → «open» self.new) }
+        ensures in_time { «open» self.old → overrun self.new → overrun self.old };
 
     /// All that is left, where it stands in memory.
     fn rest(&self) -> Option<&[u8]>
         ensures { IfSome result (λ bytes. lends self.now × (left self.now ≡ Some bytes.now)) };
 
-    /// Takes all that it lends, where it lends it.
-    fn take_rest(&mut self)
-        ensures ended { lends self.old → left self.new ≡ Some [] }
-        ensures faultless { faults self.new ≡ faults self.old };
+    /// Takes the first `count` bytes of those that it lends, where it lends some.
+    fn take_lent(&mut self, count: usize)
+        ensures less { lends self.old → left self.new ≡ option_map (drop count) (left self.old) }
+        ensures faultless { faults self.new ≡ faults self.old }
+        ensures in_time { «open» self.old → overrun self.new → overrun self.old };
 }
 
 impl<S: Source> Input for S {
     ghost left = { S.left };
 
     ghost faults = { S.faults };
+
+    ghost open = { S.open };
+
+    ghost overrun = { S.overrun };
 
     ghost lends = { λ _. ⊥ };
 
@@ -54,13 +68,17 @@ impl<S: Source> Input for S {
         None
     }
 
-    fn take_rest(&mut self) {}
+    fn take_lent(&mut self, count: usize) {}
 }
 
 impl Input for SliceInput<'_> {
     ghost left = { λ s. Some s.rest.now };
 
     ghost faults = { λ _. 0 };
+
+    ghost open = { λ _. Unit {0} };
+
+    ghost overrun = { λ _. ⊥ };
 
     ghost lends = { λ _. Unit {0} };
 
@@ -75,8 +93,8 @@ impl Input for SliceInput<'_> {
         Some(self.rest)
     }
 
-    fn take_rest(&mut self) {
+    fn take_lent(&mut self, count: usize) {
         let all = self.rest;
-        self.rest = &all[all.len()..];
+        self.rest = &all[count.min(all.len())..];
     }
 }

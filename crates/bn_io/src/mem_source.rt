@@ -64,6 +64,10 @@ impl Source for MemSource {
 
     ghost faults = { λ s. s.faults };
 
+    ghost open = { λ _. Unit {0} };
+
+    ghost overrun = { λ _. ⊥ };
+
     fn take(&mut self, into: &mut [u8]) -> Result<usize, SourceFailed>
         requires { 0 < length into.old }
         ensures fails { IsErr result ↔ InputFails self.old }

@@ -54,6 +54,7 @@ pub fn read_all<S: Source>(
         Rose (S.faults source.old) (S.faults source.new) }
     ensures stays { StaysUnless (IsErrOf result ReadRefusal.ReadFault) (S.faults source.old)
         (S.faults source.new) }
+    ensures in_time { S.open source.old → S.overrun source.new → S.overrun source.old }
 {
     read_whole(alloc, source, limit)
 }
@@ -76,6 +77,7 @@ pub fn read_whole<I: Input>(
         Rose (I.faults input.old) (I.faults input.new) }
     ensures stays { StaysUnless (IsErrOf result ReadRefusal.ReadFault) (I.faults input.old)
         (I.faults input.new) }
+    ensures in_time { I.open input.old → I.overrun input.new → I.overrun input.old }
 {
     let mut buffer = chunk(alloc)?;
     let mut bytes = Vec::new(alloc);
@@ -111,6 +113,7 @@ fn read_onto<I: Input>(
         Rose (I.faults input.old) (I.faults input.new) }
     ensures stays { StaysUnless (IsErrOf result ReadRefusal.ReadFault) (I.faults input.old)
         (I.faults input.new) }
+    ensures in_time { I.open input.old → I.overrun input.new → I.overrun input.old }
 {
     while !read_piece(input, buffer, bytes, limit)? {}
     Ok(())
@@ -132,12 +135,14 @@ fn read_piece<I: Input>(
         (bytes.new.items ≡ bytes.old.items)
         × IfSome (I.left input.old) (λ xs. (xs ≡ []) × (I.left input.new ≡ Some []))) }
     ensures more { IfOk result (λ ended. ended ≡ false → vec_len bytes.old < vec_len bytes.new) }
+    ensures goes_on { IfOk result (λ ended. ended ≡ false → I.open input.old → I.open input.new) }
     ensures within { OnOk result (vec_len bytes.new ≤ limit) }
     ensures later { I.faults input.old ≤ I.faults input.new }
     ensures read_fault { IsErrOf result ReadRefusal.ReadFault →
         Rose (I.faults input.old) (I.faults input.new) }
     ensures stays { StaysUnless (IsErrOf result ReadRefusal.ReadFault) (I.faults input.old)
         (I.faults input.new) }
+    ensures in_time { I.open input.old → I.overrun input.new → I.overrun input.old }
 {
     let room = limit - bytes.len() as u64;
     let asked = piece_size(room, buffer.len());

@@ -16,6 +16,12 @@ pub trait Source {
     /// How often it has failed, up to the last value of its counter.
     ghost faults: { Self → ℕ };
 
+    /// It has neither failed nor said that it has ended, as far as it tells.
+    ghost open: { Self → Type 0 };
+
+    /// It has been asked for bytes after it had failed or had said that it has ended.
+    ghost overrun: { Self → Type 0 };
+
     /// Gives the next bytes into the front of `into`, which is not empty, and answers how many: 0
     /// only at the end of input. After `SourceFailed` nothing was taken, and what stands in `into`
     /// is open.
@@ -27,5 +33,7 @@ pub trait Source {
         ensures ended { IfOk result (λ c.
             IfSome (left self.old) (λ xs. (c ≡ 0) ↔ (xs ≡ []))) }
         ensures kept { OnErr result (left self.new ≡ left self.old) }
-        ensures cause { HasCause (faults self.old) (faults self.new) result };
+        ensures cause { HasCause (faults self.old) (faults self.new) result }
+        ensures goes_on { IfOk result (λ c. 0 < c → «open» self.old → «open» self.new) }
+        ensures in_time { «open» self.old → overrun self.new → overrun self.old };
 }

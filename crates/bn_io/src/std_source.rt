@@ -35,6 +35,10 @@ impl<R: Read> Source for StdSource<R> {
 
     ghost faults = { λ s. s.1 };
 
+    ghost open = { λ _. Unit {0} };
+
+    ghost overrun = { λ _. ⊥ };
+
     fn take(&mut self, into: &mut [u8]) -> Result<usize, SourceFailed>
         requires { 0 < length into.old }
         ensures reads { ReadConsumes (R.remaining self.old.0) (R.remaining self.new.0) result into.new }

@@ -6,3 +6,4 @@ pub mod SettledLemmas
 pub mod ReplyLemmas
 pub mod StreamLemmas
 pub mod PieceLemmas
+pub mod CountLemmas

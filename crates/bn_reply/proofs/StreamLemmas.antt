@@ -1,5 +1,5 @@
 -- What a source gave, and how a command ends that reads its whole input first.
-use Rattle.std.specs.Prelude.{◌≡◌, ℕ, ◌<◌, ◌≤◌, List, [], ◌++◌, length, Option, Some, None, IfSome, ◌⊎◌}
+use Rattle.std.specs.Prelude.{◌≡◌, ℕ, ◌+◌, ◌<◌, ◌≤◌, List, [], ◌++◌, length, Option, Some, None, IfSome, ◌⊎◌}
 use Rattle.std.proofs.Common.{arith, inl, inr, sym, ap, subst, ◌∙◌, append-nil, length-append}
 use Rattle.std.proofs.lemmas.Bool.{cases_lt}
 use Rattle.bn_io.specs.Told.{Loses, ReadsWithin}
@@ -14,11 +14,15 @@ gave_read (Some xs) after bytes h =
     let lost : Loses (Some xs) (Some []) bytes = sym h.0 ∙ sym (append-nil bytes) in
     record { lost = subst (λ a. Loses (Some xs) a bytes) (sym h.1) lost; ended = h.1 }
 
+one_more : (limit count : ℕ) → count ≤ limit + 1 → limit < count → count ≡ limit + 1
+one_more limit count few more = omega (arith, few, more)
+
 -- an input that was found too long
 pub gave_more : (left after : Option (List ℕ)) (limit : ℕ) (too_long : Type 0) (bytes : List ℕ)
     → ReadsWithin left after limit too_long bytes → too_long →
     GaveMore left after limit
-gave_more left after limit too_long bytes reads is = (bytes, reads.lost, reads.longer is)
+gave_more left after limit too_long bytes reads is =
+    (bytes, reads.lost, one_more limit (length bytes) reads.bound (reads.longer is))
 
 -- an input that was not
 pub gave_within : (left after : Option (List ℕ)) (limit : ℕ) (too_long : Type 0) (bytes : List ℕ)
@@ -47,10 +51,10 @@ pub read_to_end : (left after : Option (List ℕ)) (bytes : List ℕ) → GaveAl
 read_to_end None after bytes all = tt
 read_to_end (Some xs) after bytes all = λ few. all.ended
 
-longer_by : (limit : ℕ) (xs bytes ys : List ℕ) → xs ≡ bytes ++ ys → limit < length bytes → limit < length xs
+longer_by : (limit : ℕ) (xs bytes ys : List ℕ) → xs ≡ bytes ++ ys → length bytes ≡ limit + 1 → limit < length xs
 longer_by limit xs bytes ys is more =
     let e = ap length is in
-    omega (arith, length-append bytes ys)
+    omega (arith, length-append bytes ys, more)
 
 -- a source that gave too many bytes told too many
 pub at_longer : (left after : Option (List ℕ)) (limit : ℕ) (P : List ℕ → Type 0) → GaveMore left after limit →

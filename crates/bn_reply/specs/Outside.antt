@@ -1,5 +1,6 @@
 -- The outside of a command as one thing: what a source, a sink and a watch tell at a moment.
-use Rattle.std.specs.Prelude.{◌≡◌, ℕ, ◌≤◌, ◌<◌, List, [], length, Option, Some, IfSome}
+use Rattle.std.specs.Prelude.{◌≡◌, ℕ, ◌+◌, List, [], length, Option, Some, IfSome}
+use Rattle.bn_io.specs.Faults.{CountsUnless}
 use Rattle.bn_circuits.specs.declared.place.Place.{Place}
 use Rattle.bn_io.specs.Told.{Loses, Grows}
 use Rattle.bn_net.specs.Watching.{Hears}
@@ -28,16 +29,16 @@ pub record Gave (before after : Outside) (text : List ℕ) (places : List Place)
   pub grows : Grows before.taken after.taken text
   pub hears : Hears before.told places after.told
 
--- No count of faults falls.
-pub record IsLater (before after : Outside) : Type 0 where
-  pub read : before.read_faults ≤ after.read_faults
-  pub write : before.write_faults ≤ after.write_faults
+-- No count of faults falls, and each is what it was unless the call fails for it: in reading, or in writing.
+pub record IsLater (fails_reading fails_writing : Type 0) (before after : Outside) : Type 0 where
+  pub read : CountsUnless fails_reading before.read_faults after.read_faults
+  pub write : CountsUnless fails_writing before.write_faults after.write_faults
 
 -- the source gave these bytes, and they are all that it had left
 pub record GaveAll (old new : Option (List ℕ)) (bytes : List ℕ) : Type 0 where
   pub lost : Loses old new bytes
   pub ended : IfSome old (λ xs. new ≡ Some [])
 
--- the source gave more bytes than the limit
+-- the source gave one byte more than the limit, and no more
 abbrev pub GaveMore : Option (List ℕ) → Option (List ℕ) → ℕ → Type 0
-GaveMore old new limit = (piece : List ℕ) × Loses old new piece × (limit < length piece)
+GaveMore old new limit = (piece : List ℕ) × Loses old new piece × (length piece ≡ limit + 1)

@@ -81,10 +81,10 @@ EndsAfter Unread replies result before after =
     (result ≡ statuses.NoMemory) × Grows before.taken after.taken [] × Hears before.told [] after.told
 
 -- How a command ends that reads its input from a source and gives its answer to a sink: what reading came to, what the
--- source gave for it, what the sink took and the watch heard after it, and that no count of faults fell.
+-- source gave for it, what the sink took and the watch heard after it, and that no other failure was counted.
 pub record StreamEnds (replies : List ℕ → Status → List ℕ → List Place → Type 0) (result : Status)
     (before after : Outside) : Type 0 where
   pub input : Input
   pub gives : Gives input before after
   pub ends : EndsAfter input replies result before after
-  pub later : IsLater before after
+  pub later : IsLater (input ≡ Failed) (result ≡ statuses.WriteFault) before after

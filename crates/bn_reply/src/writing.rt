@@ -1,6 +1,7 @@
 //! The end of every command that writes.
 
-ghost use Rattle.std.specs.Prelude.{◌≤◌, ◌≡◌};
+ghost use Rattle.std.specs.Prelude.{◌≡◌};
+ghost use Rattle.bn_io.specs.Faults.{CountsUnless};
 ghost use Rattle.bn_reply.specs.Ends.{Finishes, FinishesReply};
 ghost use Rattle.bn_reply.specs.Streams.{read_fault_text, size_text};
 
@@ -13,7 +14,7 @@ use bn_lists::NoMemory;
 pub fn finish<K: Sink>(sink: &mut K, text: &[u8], status: Status) -> Status
     ensures ends { Finishes status result (K.taken sink.old) (K.taken sink.new) (K.faults sink.old)
         (K.faults sink.new) text.now }
-    ensures later { K.faults sink.old ≤ K.faults sink.new }
+    ensures later { CountsUnless (result ≡ Status.WriteFault) (K.faults sink.old) (K.faults sink.new) }
 {
     match write_all(sink, text) {
         Ok(()) => status,
@@ -26,7 +27,7 @@ pub fn finish<K: Sink>(sink: &mut K, text: &[u8], status: Status) -> Status
 pub fn give_reply<K: Sink>(sink: &mut K, reply: Result<Reply, NoMemory>) -> Status
     ensures ends { FinishesReply reply result (K.taken sink.old) (K.taken sink.new) (K.faults sink.old)
         (K.faults sink.new) }
-    ensures later { K.faults sink.old ≤ K.faults sink.new }
+    ensures later { CountsUnless (result ≡ Status.WriteFault) (K.faults sink.old) (K.faults sink.new) }
 {
     match reply {
         Ok(reply) => finish(sink, reply.text.as_slice(), reply.status),
@@ -38,7 +39,7 @@ pub fn give_reply<K: Sink>(sink: &mut K, reply: Result<Reply, NoMemory>) -> Stat
 pub fn tell_read_fault<K: Sink>(sink: &mut K) -> Status
     ensures ends { Finishes Status.ReadFault result (K.taken sink.old) (K.taken sink.new) (K.faults sink.old)
         (K.faults sink.new) read_fault_text }
-    ensures later { K.faults sink.old ≤ K.faults sink.new }
+    ensures later { CountsUnless (result ≡ Status.WriteFault) (K.faults sink.old) (K.faults sink.new) }
 {
     finish(sink, b"read fault\n", Status::ReadFault)
 }
@@ -47,7 +48,7 @@ pub fn tell_read_fault<K: Sink>(sink: &mut K) -> Status
 pub fn tell_long_input<K: Sink>(sink: &mut K) -> Status
     ensures ends { Finishes Status.Size result (K.taken sink.old) (K.taken sink.new) (K.faults sink.old)
         (K.faults sink.new) size_text }
-    ensures later { K.faults sink.old ≤ K.faults sink.new }
+    ensures later { CountsUnless (result ≡ Status.WriteFault) (K.faults sink.old) (K.faults sink.new) }
 {
     finish(sink, b"size: input\n", Status::Size)
 }

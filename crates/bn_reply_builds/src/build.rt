@@ -1,6 +1,7 @@
 //! The command `build`.
 
-ghost use Rattle.std.specs.Prelude.{◌≤◌, List, IfOk, Option, ℕ};
+ghost use Rattle.std.specs.Prelude.{◌≡◌, ◌≤◌, List, IfOk, Option, ℕ};
+ghost use Rattle.bn_io.specs.Faults.{CountsUnless};
 ghost use Rattle.bn_circuits.specs.declared.place.Place.{Place};
 ghost use Rattle.bn_qtable.specs.TapeWords.{tape_words_of};
 ghost use Rattle.bn_network.specs.Limits.{AreSmall};
@@ -33,7 +34,7 @@ pub fn answer_build<K: Sink>(
     ensures ends { (told : Option (List Place)) →
         AnswerEnds (BuildReplies (tape_words_of words.now) (limits_of windows.now) bytes.now) result
         (K.taken sink.old) (K.taken sink.new) (K.faults sink.old) (K.faults sink.new) told told }
-    ensures later { K.faults sink.old ≤ K.faults sink.new }
+    ensures later { CountsUnless (result ≡ Status.WriteFault) (K.faults sink.old) (K.faults sink.new) }
 {
     match start_of(alloc, words, windows, bytes) {
         Ok(answer) => answer.give(alloc, sink),

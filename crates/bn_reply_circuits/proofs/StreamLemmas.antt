@@ -1,9 +1,9 @@
 -- How the commands on configuration texts end over a source and a sink.
-use Rattle.std.specs.Prelude.{ℕ, ◌≤◌, List, [], Option, Result, Ok, Err, IfOk, IsErrOf, refl}
+use Rattle.std.specs.Prelude.{◌≡◌, ℕ, ◌≤◌, List, [], Option, Result, Ok, Err, IfOk, IsErrOf, refl}
 use Rattle.std.proofs.Common.{sym, subst}
 use Rattle.bn_circuits.specs.declared.place.Place.{Place}
 use Rattle.bn_packed.specs.declared.direction.Direction.{Direction}
-use Rattle.bn_io.specs.Faults.{Rose}
+use Rattle.bn_io.specs.Faults.{CountsUnless, Rose, StaysUnless}
 use Rattle.bn_io.specs.Told.{ReadsWithin}
 use Rattle.bn_lists.specs.declared.memory.NoMemory.{NoMemory as WantOfMemory}
 use Rattle.bn_net.proofs.WalkLemmas.{hears-nothing}
@@ -24,6 +24,7 @@ use Rattle.bn_reply.specs.declared.limits.TheConstants.{MOST_INPUT_BYTES}
 use Rattle.bn_reply.specs.declared.reply.Reply.{Reply}
 use Rattle.bn_reply.specs.declared.status.Status.{Status}
 use Rattle.bn_reply.specs.declared.status.Status.TheVariants as statuses
+use Rattle.bn_reply.proofs.CountLemmas.{counts_nothing, counts_told}
 use Rattle.bn_reply.proofs.ReplyLemmas.{grows_nothing, silent_ends, text_ends}
 use Rattle.bn_reply.proofs.StreamLemmas.{gave_more, gave_within}
 use Rattle.bn_reply_circuits.specs.PlanReply.{PlanReplies}
@@ -49,8 +50,9 @@ module _ (replies : List ℕ → Status → List ℕ → List Place → Type 0) 
   -- a text that is read to its end
   pub stream_read : (longer : Type 0) → ReadsWithin left after MOST_INPUT_BYTES longer bytes → (longer → ⊥)
       → Ends left after →
-      AnswerEnds (replies bytes) result taken took before now told heard → failed ≤ fails → before ≤ now → EndsSo
-  stream_read longer reads none all ends later_source later_sink = record {
+      AnswerEnds (replies bytes) result taken took before now told heard → fails ≡ failed
+      → CountsUnless (result ≡ statuses.WriteFault) before now → EndsSo
+  stream_read longer reads none all ends same counts = record {
     input = Whole bytes;
     gives = (
       record { lost = reads.lost; ended = all },
@@ -58,7 +60,7 @@ module _ (replies : List ℕ → Status → List ℕ → List Place → Type 0) 
           none,
     );
     ends = ends;
-    later = record { read = later_source; write = later_sink };
+    later = record { read = counts_nothing (Whole bytes ≡ Failed) failed fails same; write = counts };
   }
 
 -- nothing was read
@@ -79,32 +81,37 @@ module _ (replies : List ℕ → Status → List ℕ → List Place → Type 0)
       (IsErrOf {T = T} (Err refusal) reading.TooLong) bytes →
       IsFromRefusal bytes refusal → (HasWhole refusal → Ends left after)
       → (IsErrOf {T = T} (Err refusal) reading.ReadFault → Rose failed fails) →
-      UnreadEnds refusal result taken took before now → failed ≤ fails → before ≤ now →
+      UnreadEnds refusal result taken took before now → failed ≤ fails
+      → StaysUnless (IsErrOf {T = T} (Err refusal) reading.ReadFault) failed fails
+      → CountsUnless (result ≡ statuses.WriteFault) before now →
       StreamEnds replies result (outside left taken told failed before) (outside after took told fails now)
-  stream_unread {T} reading.ReadFault reads first all cause ends later_source later_sink = record {
+  stream_unread {T} reading.ReadFault reads first all cause ends later stays counts = record {
     input = Failed;
     gives = cause refl;
     ends = (ends, hears-nothing told);
-    later = record { read = later_source; write = later_sink };
+    later = record { read = counts_told (Failed ≡ Failed) failed fails later refl; write = counts };
   }
-  stream_unread {T} reading.TooLong reads first all cause ends later_source later_sink = record {
+  stream_unread {T} reading.TooLong reads first all cause ends later stays counts = record {
     input = TooLong;
     gives = gave_more left after MOST_INPUT_BYTES (IsErrOf {T = T} (Err reading.TooLong) reading.TooLong) bytes reads
         refl;
     ends = (ends, hears-nothing told);
-    later = record { read = later_source; write = later_sink };
+    later = record {
+      read = counts_nothing (TooLong ≡ Failed) failed fails (stays (λ e. cc));
+      write = counts;
+    };
   }
-  stream_unread {T} (reading.Text r) reads first all cause ends later_source later_sink =
+  stream_unread {T} (reading.Text r) reads first all cause ends later stays counts =
       stream_read replies bytes result left after failed fails taken took before now told told
       (IsErrOf {T = T} (Err (reading.Text r)) reading.TooLong) reads
       (text_not_too_long {T = T} r) (all tt)
       (silent_ends (replies bytes) ends.0 result taken took before now told (refused_reply r ends.0 first.0 ends.1)
-      ends.2) later_source later_sink
-  stream_unread {T} reading.NoMemory reads first all cause ends later_source later_sink = record {
+      ends.2) (stays (λ e. cc)) counts
+  stream_unread {T} reading.NoMemory reads first all cause ends later stays counts = record {
     input = Unread;
     gives = tt;
     ends = (ends.0, grows_nothing taken took ends.1, hears-nothing told);
-    later = record { read = later_source; write = later_sink };
+    later = record { read = counts_nothing (Unread ≡ Failed) failed fails (stays (λ e. cc)); write = counts };
   }
 
 pub walk_refuses : (way : Direction) (e : ℕ) (bytes text : List ℕ) → Misspelled bytes text

@@ -1,6 +1,7 @@
 //! What the commands on configuration texts share: the text that is written in pieces, and why none was read.
 
-ghost use Rattle.std.specs.Prelude.{◌≤◌};
+ghost use Rattle.std.specs.Prelude.{◌≡◌};
+ghost use Rattle.bn_io.specs.Faults.{CountsUnless};
 ghost use Rattle.bn_netlist_laws.specs.Spelling.{Admits, IsTextOf};
 ghost use Rattle.bn_reply.specs.Ends.{TextEnds};
 ghost use Rattle.bn_reply_circuits.specs.Refused.{UnreadEnds};
@@ -17,7 +18,7 @@ pub fn give_config<K: Sink, C: Spellable>(alloc: Global, sink: &mut K, config: &
     requires { Admits (C.version config.now) (C.spelling config.now) }
     ensures ends { TextEnds (IsTextOf (C.version config.now) (C.spelling config.now)) result (K.taken sink.old)
         (K.taken sink.new) (K.faults sink.old) (K.faults sink.new) }
-    ensures later { K.faults sink.old ≤ K.faults sink.new }
+    ensures later { CountsUnless (result ≡ Status.WriteFault) (K.faults sink.old) (K.faults sink.new) }
 {
     match write_config_to(alloc, sink, config) {
         Ok(()) => Status::Done,
@@ -30,7 +31,7 @@ pub fn give_config<K: Sink, C: Spellable>(alloc: Global, sink: &mut K, config: &
 pub fn refuse_input<K: Sink>(alloc: Global, sink: &mut K, refusal: FromRefusal) -> Status
     ensures ends { UnreadEnds refusal result (K.taken sink.old) (K.taken sink.new) (K.faults sink.old)
         (K.faults sink.new) }
-    ensures later { K.faults sink.old ≤ K.faults sink.new }
+    ensures later { CountsUnless (result ≡ Status.WriteFault) (K.faults sink.old) (K.faults sink.new) }
 {
     match refusal {
         FromRefusal::ReadFault => tell_read_fault(sink),

@@ -16,9 +16,10 @@ use std::alloc::Global;
 /// Answers `mirror`: reads a configuration text of either version and gives the sink that of its mirror, in the version
 /// that was read; or tells the first fault of bytes that are no configuration text. It tells no watch anything.
 pub fn answer_mirror<I: Input, K: Sink>(alloc: Global, input: &mut I, sink: &mut K) -> Status
-    ensures { (told : Option (List Place)) → StreamEnds MirrorReplies result
+    ensures ends { (told : Option (List Place)) → StreamEnds MirrorReplies result
         (outside (I.left input.old) (K.taken sink.old) told (I.faults input.old) (K.faults sink.old))
         (outside (I.left input.new) (K.taken sink.new) told (I.faults input.new) (K.faults sink.new)) }
+    ensures in_time { I.open input.old → I.overrun input.new → I.overrun input.old }
 {
     let read: NetConfig = match read_text(alloc, input, MOST_INPUT_BYTES) {
         Ok(read) => read,

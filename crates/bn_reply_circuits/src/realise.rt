@@ -1,6 +1,7 @@
 //! The command `realise`.
 
 ghost use Rattle.std.specs.Prelude.{◌≡◌, ◌≤◌, ◌<◌, List, IfOk, Option};
+ghost use Rattle.bn_io.specs.Faults.{CountsUnless};
 ghost use Rattle.bn_circuits.specs.declared.place.Place.{Place};
 ghost use Rattle.bn_reply.specs.Streams.{AnswerEnds};
 ghost use Rattle.bn_rsm.specs.Machines.{machine_table};
@@ -34,7 +35,7 @@ pub fn answer_realise<K: Sink>(
     requires line { 1 ≤ line }
     ensures ends { (told : Option (List Place)) → AnswerEnds (RealiseReplies state line bytes.now) result
         (K.taken sink.old) (K.taken sink.new) (K.faults sink.old) (K.faults sink.new) told told }
-    ensures later { K.faults sink.old ≤ K.faults sink.new }
+    ensures later { CountsUnless (result ≡ Status.WriteFault) (K.faults sink.old) (K.faults sink.new) }
 {
     match bank_of(alloc, state, line, bytes) {
         Ok(answer) => answer.give(alloc, sink),

@@ -1,6 +1,7 @@
 //! An answer that isn't written yet.
 
-ghost use Rattle.std.specs.Prelude.{◌≡◌, ◌≤◌, Option, List, []};
+ghost use Rattle.std.specs.Prelude.{◌≡◌, Option, List, []};
+ghost use Rattle.bn_io.specs.Faults.{CountsUnless};
 ghost use Rattle.bn_circuits.specs.declared.place.Place.{Place};
 ghost use Rattle.bn_reply.specs.Streams.{AnswerEnds};
 ghost use Rattle.bn_reply_circuits.specs.Unwritten.{IsWritable, IsWrittenAs};
@@ -30,7 +31,7 @@ impl Unwritten {
         ensures ends { (told : Option (List Place)) →
             AnswerEnds (λ status text places. IsWrittenAs self status text × (places ≡ [])) result
             (K.taken sink.old) (K.taken sink.new) (K.faults sink.old) (K.faults sink.new) told told }
-        ensures later { K.faults sink.old ≤ K.faults sink.new }
+        ensures later { CountsUnless (result ≡ Status.WriteFault) (K.faults sink.old) (K.faults sink.new) }
     {
         match self {
             Unwritten::Line(reply) => give_reply(sink, Ok(reply)),

@@ -25,9 +25,10 @@ pub fn answer_step<I: Input, K: Sink, W: Watch>(
     sink: &mut K,
     watch: &mut W,
 ) -> Status
-    ensures { StreamEnds (StepReplies count) result
+    ensures ends { StreamEnds (StepReplies count) result
         (outside (I.left input.old) (K.taken sink.old) (W.told watch.old) (I.faults input.old) (K.faults sink.old))
         (outside (I.left input.new) (K.taken sink.new) (W.told watch.new) (I.faults input.new) (K.faults sink.new)) }
+    ensures in_time { I.open input.old → I.overrun input.new → I.overrun input.old }
 {
     answer_walk(alloc, Direction::Forward, count, input, sink, watch)
 }
@@ -40,9 +41,10 @@ pub fn answer_back<I: Input, K: Sink, W: Watch>(
     sink: &mut K,
     watch: &mut W,
 ) -> Status
-    ensures { StreamEnds (BackReplies count) result
+    ensures ends { StreamEnds (BackReplies count) result
         (outside (I.left input.old) (K.taken sink.old) (W.told watch.old) (I.faults input.old) (K.faults sink.old))
         (outside (I.left input.new) (K.taken sink.new) (W.told watch.new) (I.faults input.new) (K.faults sink.new)) }
+    ensures in_time { I.open input.old → I.overrun input.new → I.overrun input.old }
 {
     answer_walk(alloc, Direction::Backward, count, input, sink, watch)
 }
@@ -56,9 +58,10 @@ fn answer_walk<I: Input, K: Sink, W: Watch>(
     sink: &mut K,
     watch: &mut W,
 ) -> Status
-    ensures { StreamEnds (WalkReplies direction count) result
+    ensures ends { StreamEnds (WalkReplies direction count) result
         (outside (I.left input.old) (K.taken sink.old) (W.told watch.old) (I.faults input.old) (K.faults sink.old))
         (outside (I.left input.new) (K.taken sink.new) (W.told watch.new) (I.faults input.new) (K.faults sink.new)) }
+    ensures in_time { I.open input.old → I.overrun input.new → I.overrun input.old }
 {
     let read = match read_text(alloc, input, MOST_INPUT_BYTES) {
         Ok(read) => read,

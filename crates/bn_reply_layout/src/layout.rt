@@ -1,6 +1,7 @@
 //! The command `layout`.
 
-ghost use Rattle.std.specs.Prelude.{◌≤◌, List, [], IfOk, Option};
+ghost use Rattle.std.specs.Prelude.{◌≡◌, ◌≤◌, List, [], IfOk, Option};
+ghost use Rattle.bn_io.specs.Faults.{CountsUnless};
 ghost use Rattle.bn_circuits.specs.declared.place.Place.{Place};
 ghost use Rattle.bn_network.specs.Limits.{AreSmall};
 ghost use Rattle.bn_assembly.specs.Assembled.{limits_of};
@@ -26,7 +27,7 @@ pub fn answer_layout<K: Sink>(
     ensures ends { (told : Option (List Place)) →
         AnswerEnds (LayoutReplies word.now (limits_of windows.now) bytes.now) result
         (K.taken sink.old) (K.taken sink.new) (K.faults sink.old) (K.faults sink.new) told told }
-    ensures later { K.faults sink.old ≤ K.faults sink.new }
+    ensures later { CountsUnless (result ≡ Status.WriteFault) (K.faults sink.old) (K.faults sink.new) }
 {
     give_reply(sink, reply_layout(alloc, word, windows, bytes))
 }

@@ -12,3 +12,4 @@ pub mod MomentsLemmas
 pub mod MomentsSettled
 pub mod QuadTextLemmas
 pub mod QuadGivenLemmas
+pub mod PassedLemmas

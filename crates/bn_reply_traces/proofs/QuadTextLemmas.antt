@@ -1,5 +1,5 @@
 -- What is said of a moment of a run of a machine of quadruples, piece by piece; and the last line.
-use Rattle.std.specs.Prelude.{◌≡◌, ℕ, ◌+◌, ◌<◌, List, ◌++◌, length, Some, None, codes, decimal, refl}
+use Rattle.std.specs.Prelude.{◌≡◌, ℕ, ◌<◌, List, ◌++◌, length, Some, None, codes, decimal, refl}
 use Rattle.std.proofs.Common.{inl, inr, sym, subst, ap, ◌∙◌, append_assoc}
 use Rattle.bn_machine.specs.Tape.{Tape, scanned}
 use Rattle.bn_machine.specs.Window.{Windowed}

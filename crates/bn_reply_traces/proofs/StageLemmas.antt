@@ -1,5 +1,5 @@
 -- A stage and the moment that it stands for.
-use Rattle.std.specs.Prelude.{◌≡◌, ◌≢◌, ◌↔◌, ℕ, ◌+◌, ◌-◌, ◌<◌, ◌≤◌, ℤ, pos, ◌+ℤ◌, ◌-ℤ◌, ◌≤ℤ◌}
+use Rattle.std.specs.Prelude.{◌≡◌, ◌≢◌, ◌↔◌, ℕ, ◌+◌, ◌<◌, ◌≤◌, ℤ, pos, ◌+ℤ◌, ◌-ℤ◌, ◌≤ℤ◌}
 use Rattle.std.specs.Prelude.{List, length, take, min, max, Bool, true, false, Option, Some, None, MatchOption, refl}
 use Rattle.std.specs.Option.{is_some}
 use Rattle.std.proofs.Common.{arith, inl, sym, subst, ap, ◌∙◌, not}
@@ -9,7 +9,7 @@ use Rattle.bn_machine.specs.Machine.{IsLeaving, MachineRunsTo, Moment, Program}
 use Rattle.bn_machine.specs.Machine.{moment, start, start_of}
 use Rattle.bn_machine.specs.MachineCalls.{IsTurn}
 use Rattle.bn_machine.specs.Run.{After}
-use Rattle.bn_machine.specs.Tape.{Tape, cell, scanned, word_tape, write}
+use Rattle.bn_machine.specs.Tape.{Tape, cell, scanned, word_tape}
 use Rattle.bn_machine.specs.Window.{IsWindowed, Windowed, anywhere, new_window, with_tape}
 use Rattle.bn_machine.specs.declared.machine.Turn.{Turn}
 use Rattle.bn_machine.specs.declared.machine.Turn.TheVariants as turns

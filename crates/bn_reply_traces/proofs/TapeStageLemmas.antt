@@ -1,5 +1,5 @@
 -- A tape of a stage, and the tape without ends that it stands for.
-use Rattle.std.specs.Prelude.{◌≡◌, ◌≢◌, ◌↔◌, ℕ, ◌+◌, ◌-◌, ◌<◌, ◌≤◌, ◌⊎◌, ℤ, pos, ◌+ℤ◌, ◌-ℤ◌, ◌≤ℤ◌, List, length, take}
+use Rattle.std.specs.Prelude.{◌≡◌, ◌≢◌, ◌↔◌, ℕ, ◌+◌, ◌<◌, ◌≤◌, ◌⊎◌, ℤ, pos, ◌+ℤ◌, ◌-ℤ◌, ◌≤ℤ◌, List, length, take}
 use Rattle.std.specs.Prelude.{min, max}
 use Rattle.std.specs.Prelude.{All, Bool, true, zero, suc, negsuc, refl}
 use Rattle.std.proofs.Common.{arith, get_or, inl, inr, sym, subst, ap, ◌∙◌}

@@ -1,5 +1,5 @@
 -- What is said of a tape, cell by cell; and the last line.
-use Rattle.std.specs.Prelude.{◌≡◌, ◌≢◌, ℕ, zero, suc, ◌+◌, ◌⊎◌, ℤ, pos, ◌+ℤ◌, List, ◌++◌, Option, Some, None}
+use Rattle.std.specs.Prelude.{◌≡◌, ◌≢◌, ℕ, zero, suc, ◌⊎◌, ℤ, pos, ◌+ℤ◌, List, ◌++◌, Option, Some, None}
 use Rattle.std.specs.Prelude.{false, codes}
 use Rattle.std.specs.Option.{is_some}
 use Rattle.std.proofs.Common.{arith, inl, inr, sym, ap, ◌∙◌, append_assoc, append-nil}
@@ -8,7 +8,6 @@ use Rattle.bn_machine.specs.Machine.{final_of}
 use Rattle.bn_machine.specs.Run.{Ending, Halted}
 use Rattle.bn_machine.specs.Run as run
 use Rattle.bn_table.specs.Rows.{Named}
-use Rattle.bn_reply.specs.Lines.{line}
 use Rattle.bn_reply.specs.declared.status.Status.TheVariants.{Stuck}
 use Rattle.bn_reply_tables.specs.MachineReply.{ending_status, machine_stuck_line}
 use Rattle.bn_reply_traces.specs.Extents.{symbols_from}

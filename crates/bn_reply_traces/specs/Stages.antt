@@ -3,7 +3,7 @@
 use Rattle.std.specs.Prelude.{◌≡◌, ◌≢◌, ◌↔◌, ℕ, ◌+◌, ◌<◌, ◌≤◌, ◌⊎◌, ℤ, pos, ◌+ℤ◌, ◌-ℤ◌, ◌≤ℤ◌, ◌<ℤ◌, List, [], ◌∷◌, ◌++◌}
 use Rattle.std.specs.Prelude.{◌^◌, length, take, min, max, Bool, true, Option, Some, None}
 use Rattle.std.specs.Prelude.{All, decimal, codes, slice_index_or}
-use Rattle.bn_machine.specs.Machine.{HasNoMatch, IsFirstMatch, Moment, Program, final_of, moment, start_of}
+use Rattle.bn_machine.specs.Machine.{HasNoMatch, IsFirstMatch, Moment, Program, final_of, start_of}
 use Rattle.bn_io.specs.Told.{Grows, GrowsByFront}
 use Rattle.bn_machine.specs.Run.{After, Ending, Halted, Stuck, Running}
 use Rattle.bn_machine.specs.Tape.{Tape, cell, letter_at, scanned}

@@ -1,6 +1,7 @@
 //! The command `moments`.
 
 ghost use Rattle.std.specs.Prelude.{◌≡◌, ℕ, List, Option, [], ◌≤◌};
+ghost use Rattle.bn_io.specs.Faults.{CountsUnless};
 ghost use Rattle.bn_circuits.specs.declared.place.Place.{Place};
 ghost use Rattle.bn_reply.specs.Lines.{foreign_line};
 ghost use Rattle.bn_reply.specs.Streams.{AnswerEnds};
@@ -34,7 +35,7 @@ pub fn answer_moments<K: Sink>(
     requires { most_steps ≤ MOST_COUNT }
     ensures ends { (told : Option (List Place)) → AnswerEnds (MomentsReplies word.now most_steps bytes.now) result
         (K.taken sink.old) (K.taken sink.new) (K.faults sink.old) (K.faults sink.new) told told }
-    ensures later { K.faults sink.old ≤ K.faults sink.new }
+    ensures later { CountsUnless (result ≡ Status.WriteFault) (K.faults sink.old) (K.faults sink.new) }
 {
     match open_quads(alloc, bytes) {
         Ok(OpenedQuads::Read(machine, names)) => {
@@ -64,7 +65,7 @@ pub fn answer_three_moments<K: Sink>(
     ensures ends { (told : Option (List Place)) → AnswerEnds
         (ThreeMomentsReplies first.now second.now third.now most_steps bytes.now) result
         (K.taken sink.old) (K.taken sink.new) (K.faults sink.old) (K.faults sink.new) told told }
-    ensures later { K.faults sink.old ≤ K.faults sink.new }
+    ensures later { CountsUnless (result ≡ Status.WriteFault) (K.faults sink.old) (K.faults sink.new) }
 {
     match open_quads(alloc, bytes) {
         Ok(OpenedQuads::Read(machine, names)) => {
@@ -95,7 +96,7 @@ impl<'a> Asked<'a> {
         ensures ends { (told : Option (List Place)) → AnswerEnds (TapeWordReplies foreign_line
             (λ one. TellsMoments (asked_table self.now) self.now.most_steps one [] []) self.now.names.now.one word.now)
             result (K.taken sink.old) (K.taken sink.new) (K.faults sink.old) (K.faults sink.new) told told }
-        ensures later { K.faults sink.old ≤ K.faults sink.new }
+        ensures later { CountsUnless (result ≡ Status.WriteFault) (K.faults sink.old) (K.faults sink.new) }
     {
         match self.symbols(1).spell(alloc, word) {
             Ok(Spelling::Symbols(one)) => self.give(alloc, one.as_slice(), &[], &[], sink),
@@ -119,7 +120,7 @@ impl<'a> Asked<'a> {
             (λ three. TellsMoments (asked_table self.now) self.now.most_steps one two three)
             self.now.names.now.three third.now) self.now.names.now.two second.now) self.now.names.now.one first.now)
             result (K.taken sink.old) (K.taken sink.new) (K.faults sink.old) (K.faults sink.new) told told }
-        ensures later { K.faults sink.old ≤ K.faults sink.new }
+        ensures later { CountsUnless (result ≡ Status.WriteFault) (K.faults sink.old) (K.faults sink.new) }
     {
         match self.symbols(1).spell(alloc, first) {
             Ok(Spelling::Symbols(one)) => {
@@ -146,7 +147,7 @@ impl<'a> Asked<'a> {
             (λ three. TellsMoments (asked_table self.now) self.now.most_steps one.now two three)
             self.now.names.now.three third.now) self.now.names.now.two second.now)
             result (K.taken sink.old) (K.taken sink.new) (K.faults sink.old) (K.faults sink.new) told told }
-        ensures later { K.faults sink.old ≤ K.faults sink.new }
+        ensures later { CountsUnless (result ≡ Status.WriteFault) (K.faults sink.old) (K.faults sink.new) }
     {
         match self.symbols(2).spell(alloc, second) {
             Ok(Spelling::Symbols(two)) => {
@@ -173,7 +174,7 @@ impl<'a> Asked<'a> {
             (λ three. TellsMoments (asked_table self.now) self.now.most_steps one.now two.now three)
             self.now.names.now.three third.now)
             result (K.taken sink.old) (K.taken sink.new) (K.faults sink.old) (K.faults sink.new) told told }
-        ensures later { K.faults sink.old ≤ K.faults sink.new }
+        ensures later { CountsUnless (result ≡ Status.WriteFault) (K.faults sink.old) (K.faults sink.new) }
     {
         match self.symbols(3).spell(alloc, third) {
             Ok(Spelling::Symbols(three)) => self.give(alloc, one, two, three.as_slice(), sink),
@@ -209,7 +210,7 @@ impl<'a> Asked<'a> {
         ensures ends { (told : Option (List Place)) → AnswerEnds
             (TellsMoments (asked_table self.now) self.now.most_steps one.now two.now three.now)
             result (K.taken sink.old) (K.taken sink.new) (K.faults sink.old) (K.faults sink.new) told told }
-        ensures later { K.faults sink.old ≤ K.faults sink.new }
+        ensures later { CountsUnless (result ≡ Status.WriteFault) (K.faults sink.old) (K.faults sink.new) }
     {
         let Ok(indexed) = IndexedMachine::try_new(alloc, self.machine) else {
             return Status::NoMemory;

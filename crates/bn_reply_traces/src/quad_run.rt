@@ -2,7 +2,7 @@
 
 ghost use Rattle.std.specs.Prelude.{◌≡◌, ℕ, List, Option, [], ◌+◌, ◌≤◌, ◌++◌, IfOk, OnErr, IsErrOf};
 ghost use Rattle.bn_circuits.specs.declared.place.Place.{Place};
-ghost use Rattle.bn_io.specs.Faults.{Rose};
+ghost use Rattle.bn_io.specs.Faults.{Rose, CountsUnless};
 ghost use Rattle.bn_io.specs.Told.{Grows, GrowsByFront};
 ghost use Rattle.bn_quad.specs.Names.{symbols_on};
 ghost use Rattle.bn_quad.specs.Quadruples.{Configuration};
@@ -49,7 +49,7 @@ impl<'a> QuadRun<'a> {
         ensures ends { (told : Option (List Place)) → AnswerEnds (TellsMoments (table_in self.now) self.now.most_steps
             self.now.words.one.now self.now.words.two.now self.now.words.three.now) result
             (K.taken sink.old) (K.taken sink.new) (K.faults sink.old) (K.faults sink.new) told told }
-        ensures later { K.faults sink.old ≤ K.faults sink.new }
+        ensures later { CountsUnless (result ≡ Status.WriteFault) (K.faults sink.old) (K.faults sink.new) }
     {
         let Ok(mut stage) = QuadStage::start(alloc, self.machine, &self.words, self.most_steps)
         else {
@@ -77,7 +77,7 @@ impl<'a> QuadRun<'a> {
             (e.steps + 1)) }
         ensures at { IfOk result (λ e. (c : Configuration ℕ) × IsQuadEndedAt self.now c stage.new e.steps e.rule) }
         ensures front { OnErr result (AreQuadToldInPart self.now (K.taken sink.old) (K.taken sink.new)) }
-        ensures later { K.faults sink.old ≤ K.faults sink.new }
+        ensures later { CountsUnless (IsErrOf result Unfinished.WriteFault) (K.faults sink.old) (K.faults sink.new) }
         ensures write_fault { IsErrOf result Unfinished.WriteFault → Rose (K.faults sink.old) (K.faults sink.new) }
     {
         for steps in 0..self.most_steps {
@@ -111,7 +111,7 @@ impl<'a> QuadRun<'a> {
             IsSteppedTo (table_in self.now) self.now.words self.now.most_steps steps c stage.old rule stage.new) }
         ensures front { OnErr result ((line : List ℕ) × IsLineIn self.now steps line
             × GrowsByFront (K.taken sink.old) (K.taken sink.new) (text.old.items ++ line)) }
-        ensures later { K.faults sink.old ≤ K.faults sink.new }
+        ensures later { CountsUnless (IsErrOf result Unfinished.WriteFault) (K.faults sink.old) (K.faults sink.new) }
         ensures write_fault { IsErrOf result Unfinished.WriteFault → Rose (K.faults sink.old) (K.faults sink.new) }
     {
         let Ok(()) = push_configuration(text, self, stage, steps) else {
@@ -142,7 +142,7 @@ impl<'a> QuadRun<'a> {
             ComesOut self.now.machine.now self.now.most_steps ended.steps c o →
             OutcomeEnds (outcome_status o) result (K.taken sink.old) (K.taken sink.new) (K.faults sink.old)
             (K.faults sink.new) (text.old.items ++ moments_outcome_line (table_in self.now) ended.steps c o) }
-        ensures later { K.faults sink.old ≤ K.faults sink.new }
+        ensures later { CountsUnless (result ≡ Status.WriteFault) (K.faults sink.old) (K.faults sink.new) }
     {
         let Ok(status) = push_moments_outcome(text, self, stage, ended.steps, ended.rule) else {
             return Status::NoMemory;

@@ -3,7 +3,7 @@
 ghost use Rattle.std.specs.Prelude.{◌≡◌, ℕ, List, Option, [], ◌+◌, ◌≤◌, ◌<◌, ◌++◌, pos, ◌+ℤ◌, IfOk, OnOk, OnErr};
 ghost use Rattle.std.specs.Prelude.{IsErrOf};
 ghost use Rattle.bn_circuits.specs.declared.place.Place.{Place};
-ghost use Rattle.bn_io.specs.Faults.{Rose};
+ghost use Rattle.bn_io.specs.Faults.{Rose, CountsUnless};
 ghost use Rattle.bn_io.specs.Told.{Grows, GrowsByFront};
 ghost use Rattle.bn_machine.specs.Run.{Ending};
 ghost use Rattle.bn_machine.specs.Tape.{Tape as Endless, scanned};
@@ -60,7 +60,7 @@ pub fn answer_trace<K: Sink>(
     requires { most_steps ≤ MOST_COUNT }
     ensures ends { (told : Option (List Place)) → AnswerEnds (TraceReplies word.now most_steps bytes.now) result
         (K.taken sink.old) (K.taken sink.new) (K.faults sink.old) (K.faults sink.new) told told }
-    ensures later { K.faults sink.old ≤ K.faults sink.new }
+    ensures later { CountsUnless (result ≡ Status.WriteFault) (K.faults sink.old) (K.faults sink.new) }
 {
     match open_table(alloc, bytes) {
         Ok(OpenedTable::Read(table)) => answer_table(alloc, word, most_steps, &table, sink),
@@ -81,7 +81,7 @@ fn answer_table<K: Sink>(
     ensures ends { (told : Option (List Place)) → AnswerEnds (JudgedReplies
         (WordReplies (TellsTrace table.now most_steps) table.now word.now) table.now) result
         (K.taken sink.old) (K.taken sink.new) (K.faults sink.old) (K.faults sink.new) told told }
-    ensures later { K.faults sink.old ≤ K.faults sink.new }
+    ensures later { CountsUnless (result ≡ Status.WriteFault) (K.faults sink.old) (K.faults sink.new) }
 {
     match judge_table(alloc, table) {
         Ok(Judged::Standard(_)) => answer_word(alloc, word, most_steps, table, sink),
@@ -102,7 +102,7 @@ fn answer_word<K: Sink>(
     ensures ends { (told : Option (List Place)) → AnswerEnds
         (WordReplies (TellsTrace table.now most_steps) table.now word.now) result
         (K.taken sink.old) (K.taken sink.new) (K.faults sink.old) (K.faults sink.new) told told }
-    ensures later { K.faults sink.old ≤ K.faults sink.new }
+    ensures later { CountsUnless (result ≡ Status.WriteFault) (K.faults sink.old) (K.faults sink.new) }
 {
     match open_word(alloc, table, word) {
         Ok(OpenedWord::Symbols(symbols)) => {
@@ -125,7 +125,7 @@ fn give_trace<K: Sink>(
     requires spelled { (bytes : List ℕ) × IsSpelledBy table.now bytes word.now }
     ensures ends { (told : Option (List Place)) → AnswerEnds (TellsTrace table.now most_steps word.now) result
         (K.taken sink.old) (K.taken sink.new) (K.faults sink.old) (K.faults sink.new) told told }
-    ensures later { K.faults sink.old ≤ K.faults sink.new }
+    ensures later { CountsUnless (result ≡ Status.WriteFault) (K.faults sink.old) (K.faults sink.new) }
 {
     let Ok(mut stage) = Stage::start(alloc, table.machine(), word, most_steps) else {
         return Status::NoMemory;
@@ -157,7 +157,7 @@ fn give_moments<K: Sink>(
         text.new.items (e.steps + 1)) }
     ensures at { IfOk result (λ e. IsEndedAt table.now word.now most_steps stage.new e.steps e.rule) }
     ensures front { OnErr result (AreToldInPart table.now word.now most_steps (K.taken sink.old) (K.taken sink.new)) }
-    ensures later { K.faults sink.old ≤ K.faults sink.new }
+    ensures later { CountsUnless (IsErrOf result Unfinished.WriteFault) (K.faults sink.old) (K.faults sink.new) }
     ensures write_fault { IsErrOf result Unfinished.WriteFault → Rose (K.faults sink.old) (K.faults sink.new) }
 {
     for steps in 0..most_steps {
@@ -196,7 +196,7 @@ fn tell_moment<K: Sink>(
         (rule : Option ℕ) × IsRule table.now.machine stage.now.state (scanned stage.now.tape.tape) rule
         × GrowsByFront (K.taken sink.old) (K.taken sink.new)
         (text.old.items ++ stage_line table.now steps stage.now u count rule)) }
-    ensures later { K.faults sink.old ≤ K.faults sink.new }
+    ensures later { CountsUnless (IsErrOf result Unfinished.WriteFault) (K.faults sink.old) (K.faults sink.new) }
     ensures write_fault { IsErrOf result Unfinished.WriteFault → Rose (K.faults sink.old) (K.faults sink.new) }
 {
     let rule = stage.rule(table.machine());
@@ -259,7 +259,7 @@ fn give_outcome<K: Sink>(
         IsOutcome table.now.machine stage.now.state (scanned stage.now.tape.tape) ended.rule e →
         OutcomeEnds (ending_status e) result (K.taken sink.old) (K.taken sink.new) (K.faults sink.old)
         (K.faults sink.new) (text.old.items ++ outcome_line table.now ended.steps e) }
-    ensures later { K.faults sink.old ≤ K.faults sink.new }
+    ensures later { CountsUnless (result ≡ Status.WriteFault) (K.faults sink.old) (K.faults sink.new) }
 {
     let Ok(status) = push_outcome(text, table, stage, ended.steps, ended.rule) else {
         return Status::NoMemory;

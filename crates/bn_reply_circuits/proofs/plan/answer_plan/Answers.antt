@@ -5,21 +5,22 @@ use Rattle.bn_reply.proofs.ReplyLemmas.{silent_ends}
 use Rattle.bn_reply_circuits.proofs.PlanReplyLemmas.{few_elements, replied}
 use Rattle.bn_reply_circuits.proofs.plan.answer_plan.Goals as goal
 
-pub returns-in-Err : goal.returns-in-Err
-returns-in-Err g c = λ told.
+pub returns-in-Err-clause-ends : goal.returns-in-Err-clause-ends
+returns-in-Err-clause-ends g c = λ told.
     let e = c.in-Err.ensures in
     stream_unread PlanReplies plan_refuses e.taken.0 c.refuse_input.result (g.I.Input.left c.args.input.now)
     (g.I.Input.left c.read_text.new.input)
     (g.I.Input.faults c.args.input.now) (g.I.Input.faults c.read_text.new.input) (g.K.Sink.taken c.args.sink.now)
     (g.K.Sink.taken c.refuse_input.new.sink) (g.K.Sink.faults c.args.sink.now) (g.K.Sink.faults c.refuse_input.new.sink)
     told c.in-Err.refusal
-    e.taken.1 e.taken.3 e.refused_whole e.read_fault c.refuse_input.ensures.ends e.later c.refuse_input.ensures.later
+    e.taken.1 e.taken.3 e.refused_whole e.read_fault c.refuse_input.ensures.ends e.later e.stays
+    c.refuse_input.ensures.later
 
 pub plan_net-requires : goal.plan_net-requires
 plan_net-requires g c = few_elements c.in-Ok.read.version (spelling_of c.in-Ok.read) c.in-Ok.ensures.taken.2.admitted
 
-pub returns : goal.returns
-returns g c = λ told.
+pub returns-clause-ends : goal.returns-clause-ends
+returns-clause-ends g c = λ told.
     let e = c.in-Ok.ensures in
     let right = replied e.taken.0 c.in-Ok.read.version (spelling_of c.in-Ok.read) c.plan_net.result e.taken.2
     c.plan_net.ensures.status c.plan_net.ensures.text in
@@ -32,4 +33,4 @@ returns g c = λ told.
     (g.I.Input.faults c.args.input.now) (g.I.Input.faults c.read_text.new.input) (g.K.Sink.taken c.args.sink.now)
     (g.K.Sink.taken c.give_reply.new.sink) (g.K.Sink.faults c.args.sink.now) (g.K.Sink.faults c.give_reply.new.sink)
     told told _ e.taken.1
-    (not_too_long c.in-Ok.read) e.whole ends e.later c.give_reply.ensures.later
+    (not_too_long c.in-Ok.read) e.whole ends (e.stays (λ f. cc)) c.give_reply.ensures.later

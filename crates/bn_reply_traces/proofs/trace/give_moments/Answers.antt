@@ -1,13 +1,15 @@
-use Rattle.std.specs.Prelude.{◌≡◌, Err, IsErrOf, true, ℕ, Some}
+use Rattle.std.specs.Prelude.{◌≡◌, Err, IsErrOf, refl, ℕ, Some}
 use Rattle.std.proofs.Common.{arith, sym, subst, ap, ◌∙◌}
 use Rattle.std.proofs.lemmas.Result.{err_from_is_err_and}
 use Rattle.bn_io.proofs.FaultsLemmas.{Rose-late}
+use Rattle.bn_reply.proofs.CountLemmas.{counts_after, counts_as, counts_nothing}
 use Rattle.bn_machine.specs.Machine.{IsLeaving, Program}
 use Rattle.bn_machine.specs.Tape.{scanned}
 use Rattle.bn_reply_traces.specs.Stages.{AreTold, IsRule, IsStageAfter}
 use Rattle.bn_reply_traces.specs.declared.trace.Unfinished.TheVariants.{WriteFault}
 use Rattle.bn_reply_traces.proofs.MomentLemmas.{moment_cut, moment_told, none_of, showable, some_of, stays_inside}
 use Rattle.bn_reply_traces.proofs.MomentLemmas.{told_none}
+use Rattle.bn_reply_traces.proofs.PassedLemmas.{passed_on}
 use Rattle.bn_reply_traces.proofs.trace.give_moments.Goals as goal
 
 pub loop-steps-init : goal.loop-steps-init
@@ -15,7 +17,7 @@ loop-steps-init g c =
     let t = c.args.table.now in (
       told_none t c.args.word.now (g.K.Sink.taken c.args.sink.now) c.args.text.now.items c.requires.empty,
       c.requires.start,
-      omega arith,
+      refl,
     )
 
 pub tell_moment-requires-clause-stage : goal.tell_moment-requires-clause-stage
@@ -32,7 +34,12 @@ returns-in_err-rule-clause-front g c =
     c.loop-steps.text.items i.0 (omega (arith, c.loop-steps-test.true)) c.in_err-rule.ensures.front)
 
 pub returns-in_err-rule-clause-later : goal.returns-in_err-rule-clause-later
-returns-in_err-rule-clause-later g c = omega (arith, c.loop-steps.invariant.2, c.tell_moment.ensures.later)
+returns-in_err-rule-clause-later g c =
+    let p = err_from_is_err_and c.from_residual.result c.from_residual.ensures.1 in
+    counts_after _ (g.K.Sink.faults c.args.sink.now) (g.K.Sink.faults c.loop-steps.sink)
+    (g.K.Sink.faults c.tell_moment.new.sink) c.loop-steps.invariant.2
+    (counts_as _ _ (g.K.Sink.faults c.loop-steps.sink) (g.K.Sink.faults c.tell_moment.new.sink)
+    (λ failed. p.1 ∙ passed_on p.0 _ WriteFault p.2 failed) c.in_err-rule.ensures.later)
 
 pub returns-in_err-rule-clause-write_fault : goal.returns-in_err-rule-clause-write_fault
 returns-in_err-rule-clause-write_fault g c = λ is.
@@ -40,7 +47,7 @@ returns-in_err-rule-clause-write_fault g c = λ is.
     let told = subst (λ r. IsErrOf r WriteFault) p.1 is in
     let failed : p.0 ≡ WriteFault = cc told in
     Rose-late (g.K.Sink.faults c.args.sink.now) (g.K.Sink.faults c.loop-steps.sink)
-    (g.K.Sink.faults c.tell_moment.new.sink) c.loop-steps.invariant.2
+    (g.K.Sink.faults c.tell_moment.new.sink) (omega (arith, c.loop-steps.invariant.2))
     (c.in_err-rule.ensures.write_fault (ap (λ z. Err z) (sym p.2 ∙ failed)))
 
 pub returns-then-is_none-clause-told : goal.returns-then-is_none-clause-told
@@ -60,7 +67,9 @@ returns-then-is_none-clause-at g c = record {
 }
 
 pub returns-then-is_none-clause-later : goal.returns-then-is_none-clause-later
-returns-then-is_none-clause-later g c = omega (arith, c.loop-steps.invariant.2, c.tell_moment.ensures.later)
+returns-then-is_none-clause-later g c =
+    counts_nothing _ (g.K.Sink.faults c.args.sink.now) (g.K.Sink.faults c.tell_moment.new.sink)
+    (c.in_ok-rule.ensures.later.stays (λ e. cc) ∙ c.loop-steps.invariant.2)
 
 pub go_on-requires-clause-rule : goal.go_on-requires-clause-rule
 go_on-requires-clause-rule g c =
@@ -87,7 +96,7 @@ loop-steps-preserved g c =
           c.in_ok-rule.ensures.told,
       c.go_on.ensures c.args.table.now c.args.word.now c.args.most_steps c.loop-steps.steps
           (sym c.machine.ensures.value) c.loop-steps-test.true c.requires.few i.1,
-      omega (arith, i.2, c.tell_moment.ensures.later),
+      c.in_ok-rule.ensures.later.stays (λ e. cc) ∙ i.2,
     )
 
 pub tell_moment-requires-2-clause-stage : goal.tell_moment-requires-2-clause-stage
@@ -110,7 +119,12 @@ returns-in_err-rule-2-clause-front g c =
     c.loop-steps.text.items k) all i.0) (omega arith) c.in_err-rule-2.ensures.front)
 
 pub returns-in_err-rule-2-clause-later : goal.returns-in_err-rule-2-clause-later
-returns-in_err-rule-2-clause-later g c = omega (arith, c.loop-steps.invariant.2, c.tell_moment-2.ensures.later)
+returns-in_err-rule-2-clause-later g c =
+    let p = err_from_is_err_and c.from_residual-in_err-rule-2.result c.from_residual-in_err-rule-2.ensures.1 in
+    counts_after _ (g.K.Sink.faults c.args.sink.now) (g.K.Sink.faults c.loop-steps.sink)
+    (g.K.Sink.faults c.tell_moment-2.new.sink) c.loop-steps.invariant.2
+    (counts_as _ _ (g.K.Sink.faults c.loop-steps.sink) (g.K.Sink.faults c.tell_moment-2.new.sink)
+    (λ failed. p.1 ∙ passed_on p.0 _ WriteFault p.2 failed) c.in_err-rule-2.ensures.later)
 
 pub returns-in_err-rule-2-clause-write_fault : goal.returns-in_err-rule-2-clause-write_fault
 returns-in_err-rule-2-clause-write_fault g c = λ is.
@@ -118,7 +132,7 @@ returns-in_err-rule-2-clause-write_fault g c = λ is.
     let told = subst (λ r. IsErrOf r WriteFault) p.1 is in
     let failed : p.0 ≡ WriteFault = cc told in
     Rose-late (g.K.Sink.faults c.args.sink.now) (g.K.Sink.faults c.loop-steps.sink)
-    (g.K.Sink.faults c.tell_moment-2.new.sink) c.loop-steps.invariant.2
+    (g.K.Sink.faults c.tell_moment-2.new.sink) (omega (arith, c.loop-steps.invariant.2))
     (c.in_err-rule-2.ensures.write_fault (ap (λ z. Err z) (sym p.2 ∙ failed)))
 
 pub returns-clause-told : goal.returns-clause-told
@@ -148,4 +162,6 @@ returns-clause-at g c =
     }
 
 pub returns-clause-later : goal.returns-clause-later
-returns-clause-later g c = omega (arith, c.loop-steps.invariant.2, c.tell_moment-2.ensures.later)
+returns-clause-later g c =
+    counts_nothing _ (g.K.Sink.faults c.args.sink.now) (g.K.Sink.faults c.tell_moment-2.new.sink)
+    (c.in_ok-rule-2.ensures.later.stays (λ e. cc) ∙ c.loop-steps.invariant.2)

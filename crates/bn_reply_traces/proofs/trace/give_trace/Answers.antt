@@ -49,7 +49,7 @@ returns-in-Ok-give_moments-clause-ends g c = λ told.
     (g.K.Sink.taken c.args.sink.now) (g.K.Sink.taken c.give_moments.new.sink) (g.K.Sink.taken c.give_outcome.new.sink)
     c.give_outcome.result (g.K.Sink.faults c.args.sink.now) (g.K.Sink.faults c.give_moments.new.sink)
     (g.K.Sink.faults c.give_outcome.new.sink) told c.in-Ok-give_moments.ensures.told c.in-Ok-give_moments.ensures.at
-    c.give_moments.ensures.later c.give_outcome.ensures.ends
+    c.give_moments.ensures.later.later c.give_outcome.ensures.ends
 
 pub returns-in-Err-WriteFault-clause-ends : goal.returns-in-Err-WriteFault-clause-ends
 returns-in-Err-WriteFault-clause-ends g c = λ told.

@@ -17,7 +17,7 @@ returns-in-Ok-give_lines-clause-ends g c = λ told.
     c.give_lines.new.text.items are.given (g.K.Sink.taken c.args.sink.now) (g.K.Sink.taken c.give_lines.new.sink)
     (g.K.Sink.taken c.give_outcome.new.sink) c.give_outcome.result (g.K.Sink.faults c.args.sink.now)
     (g.K.Sink.faults c.give_lines.new.sink) (g.K.Sink.faults c.give_outcome.new.sink) told out.2 out.3 out.1 are.grown
-    are.lines c.give_lines.ensures.later (c.give_outcome.ensures.ends at.0 out.0 at.1 out.1)
+    are.lines c.give_lines.ensures.later.later (c.give_outcome.ensures.ends at.0 out.0 at.1 out.1)
 
 pub returns-in-Err-WriteFault-clause-ends : goal.returns-in-Err-WriteFault-clause-ends
 returns-in-Err-WriteFault-clause-ends g c = λ told.
