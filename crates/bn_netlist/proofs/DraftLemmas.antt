@@ -4,15 +4,18 @@ use Rattle.std.specs.Prelude.{length, take, Option, Some, None, is_some, slice_g
 use Rattle.std.proofs.Common.{zero, suc, arith, sym, ap, subst, ◌∙◌, inl, inr, ◌⊎◌, get_or}
 use Rattle.std.proofs.lemmas.Bool.{cases_Bool}
 use Rattle.std.proofs.lemmas.Bool.Decides.{nat_tests}
-use Rattle.std.proofs.lemmas.List.{append_assoc, length-set, take_more}
+use Rattle.std.proofs.lemmas.List.{append_assoc, append-nil, length-set, take_more}
 use Rattle.std.proofs.lemmas.Option.{same_Some, slice_get-get_or}
-use Rattle.bn_circuits.specs.Circuits.{same_line, source}
+use Rattle.bn_circuits.specs.Circuits.{same_line, source, target}
 use Rattle.bn_circuits.proofs.StepLemmas.{same_lines, slice_get-set_same, slice_get-set_other}
 use Rattle.bn_circuits.specs.declared.line.Line.{Line}
 use Rattle.bn_circuits.specs.declared.line.Wire.{Wire}
 use Rattle.bn_circuits.specs.declared.place.Place.{Place}
 use Rattle.bn_circuits.specs.declared.place.Place.TheVariants.{Enter}
 use Rattle.bn_net.proofs.WireListLemmas.{line_tells}
+use Rattle.bn_net.specs.Wirings.{AreApart, AreFitting}
+use Rattle.bn_packed.specs.Drafts.{AreDrawn}
+use Rattle.bn_packed.specs.Ends.{EndList}
 use Rattle.bn_column.specs.Columns.{IsInner, down, up, under, over, top}
 use Rattle.bn_column.specs.Nets.{wire_of}
 use Rattle.bn_netlist.specs.Drafting.{IsFed}
@@ -22,7 +25,7 @@ use Rattle.bn_netlist_laws.specs.Columns.{rungs, inner_wires}
 use Rattle.bn_netlist_laws.specs.Faults.{no_element, end_wired, left_wired, start_fed, second_source, some_wire}
 use Rattle.bn_netlist_laws.specs.declared.header.Header.{Header}
 use Rattle.bn_netlist_laws.proofs.SaidLemmas.{inner_each}
-use Rattle.bn_netlist.specs.Drafting.{column_fault, IsInnerOf, ConnectsColumn}
+use Rattle.bn_netlist.specs.Drafting.{AreKept, column_fault, IsInnerOf, ConnectsColumn, HasDrawn}
 
 -- one rung more
 pub rungs_next : (b r x : ℕ) (ws ms : List Wire) → x ≡ b + r → ws ≡ rungs b r
@@ -227,45 +230,118 @@ fed_more n ws w fed is there low =
         slice_get-set_other fed (4 * w.to.element + w.to.line) (4 * l.element + l.line) true apart
         ∙ is.marks l l_there l_low ∙ ap (λ (o : Option Line). Some (is_some o)) (sym (source-other ws w l other.1))
 
-pub connected_more : (h : Header) (e k n : ℕ) (old wires new inner : List Wire) (fed : List Bool) (w d : Wire) → 0 < k
-    → IsInnerOf h old e k inner → n < length inner → w ≡ get_or inner n d → wires ≡ old ++ take n inner
-    → new ≡ wires ++ w ∷ [] → IsFed h.count wires fed → (new ≡ old ++ take (n + 1) inner)
-    × IsFed h.count new (slice_set fed (4 * w.to.element + w.to.line) true)
-connected_more h e k n old wires new inner fed w d some is below at_n so_far push marked =
-    let has : slice_get inner n ≡ Some w = slice_get-get_or inner n d below ∙ ap (λ (v : Wire). Some v) (sym at_n) in
-    let inside = inner_there h.count e k inner some is.within is.are n w has in
-    let lists : new ≡ old ++ take (n + 1) inner =
-    push ∙ ap (λ (vs : List Wire). vs ++ w ∷ []) so_far ∙ append_assoc old (take n inner) (w ∷ [])
-    ∙ ap (λ (v : Wire). old ++ (take n inner ++ v ∷ [])) at_n
-    ∙ ap (λ (vs : List Wire). old ++ vs) (sym (take_more inner n d below))
-    in (
-      lists,
-      subst (λ (vs : List Wire). IsFed h.count vs (slice_set fed (4 * w.to.element + w.to.line) true)) (sym push)
-          (fed_more h.count wires w fed marked inside.0 inside.1),
-    )
+-- ---- more wires in the draft
 
-pub mark_within : (h : Header) (e k n : ℕ) (old wires inner : List Wire) (fed : List Bool) (w d : Wire) → 0 < k
-    → IsInnerOf h old e k inner → n < length inner → w ≡ get_or inner n d → IsFed h.count wires fed
-    → 4 * w.to.element + w.to.line < length fed
-mark_within h e k n old wires inner fed w d some is below at_n marked =
+front_none : (xs ys : List Wire) (l : Line) → target (xs ++ ys) l ≡ None → target xs l ≡ None
+front_none [] ys l none = refl
+front_none (x ∷ xs) ys l none = elim (line_tells x.from l) [
+  | inl same ↦ absurd (let found : ◌≡◌ {A = Option Line} (Some x.to) None = sym (rw same.0 refl) ∙ none in cc)
+  | inr other ↦ rw other.0 (front_none xs ys l (sym (rw other.0 refl) ∙ none))
+]
+
+front_free : (xs ys : List Wire) (l : Line) → source (xs ++ ys) l ≡ None → source xs l ≡ None
+front_free [] ys l none = refl
+front_free (x ∷ xs) ys l none = elim (line_tells x.to l) [
+  | inl same ↦ absurd (let found : ◌≡◌ {A = Option Line} (Some x.from) None = sym (rw same.0 refl) ∙ none in cc)
+  | inr other ↦ rw other.0 (front_free xs ys l (sym (rw other.0 refl) ∙ none))
+]
+
+apart_front : (xs ys : List Wire) → AreApart (xs ++ ys) → AreApart xs
+apart_front [] ys apart = tt
+apart_front (x ∷ xs) ys apart = (
+  front_none xs ys x.from apart.0,
+  front_free xs ys x.to apart.1,
+  apart_front xs ys apart.2,
+)
+
+pub drawn_more : (count : ℕ) (ws vs : List Wire) (old new : EndList) → HasDrawn count ws old
+    → new.elements ≡ old.elements
+    → ((us : List Wire) → AreDrawn old.elements us old → AreApart (us ++ vs) → AreDrawn old.elements (us ++ vs) new)
+    → HasDrawn count (ws ++ vs) new
+drawn_more count ws vs old new has elements grows =
+    record {
+      elements = elements ∙ has.elements;
+      drawn_if = λ apart. subst (λ (n : ℕ). AreDrawn n (ws ++ vs) new) has.elements
+          (grows ws (subst (λ (n : ℕ). AreDrawn n ws old) (sym has.elements)
+          (has.drawn_if (apart_front ws vs apart))) apart);
+    }
+
+-- ---- marks of more wires
+
+pub marked_more : (count n : ℕ) (ws inner : List Wire) (fed : List Bool) (w d : Wire) → AreFitting count inner
+    → n < length inner → w ≡ get_or inner n d → IsFed count (ws ++ take n inner) fed
+    → IsFed count (ws ++ take (n + 1) inner) (slice_set fed (4 * w.to.element + w.to.line) true)
+marked_more count n ws inner fed w d fitting below at_n marked =
     let has : slice_get inner n ≡ Some w = slice_get-get_or inner n d below ∙ ap (λ (v : Wire). Some v) (sym at_n) in
-    let inside = inner_there h.count e k inner some is.within is.are n w has in
-    let there : w.to.element < h.count = inside.0 in
-    let low : w.to.line < 4 = inside.1 in
-    let size : length fed ≡ 4 * h.count = marked.size in
+    let fits = fitting.fits n w has in
+    let lists : (ws ++ take n inner) ++ w ∷ [] ≡ ws ++ take (n + 1) inner =
+    append_assoc ws (take n inner) (w ∷ [])
+    ∙ ap (λ (v : Wire). ws ++ (take n inner ++ v ∷ [])) at_n
+    ∙ ap (λ (vs : List Wire). ws ++ vs) (sym (take_more inner n d below))
+    in
+    subst (λ (vs : List Wire). IsFed count vs (slice_set fed (4 * w.to.element + w.to.line) true)) lists
+    (fed_more count (ws ++ take n inner) w fed marked fits.2 fits.3)
+
+pub mark_within : (count n : ℕ) (inner : List Wire) (fed : List Bool) (w d : Wire) → AreFitting count inner
+    → n < length inner → w ≡ get_or inner n d → length fed ≡ 4 * count → 4 * w.to.element + w.to.line < length fed
+mark_within count n inner fed w d fitting below at_n size =
+    let has : slice_get inner n ≡ Some w = slice_get-get_or inner n d below ∙ ap (λ (v : Wire). Some v) (sym at_n) in
+    let fits = fitting.fits n w has in
+    let there : w.to.element < count = fits.2 in
+    let low : w.to.line < 4 = fits.3 in
     omega arith
 
-pub connected_all : (h : Header) (e k n : ℕ) (old wires inner : List Wire) (fed : List Bool) → IsInnerOf h old e k inner
-    → length inner ≤ n → wires ≡ old ++ take n inner → IsFed h.count wires fed → ConnectsColumn h e k old wires fed
-connected_all h e k n old wires inner fed is past so_far marked =
-    record {
-      faultless = is.faultless;
-      wires = so_far ∙ ap (λ (vs : List Wire). old ++ vs) (take_past inner n past ∙ is.are);
-      marked = marked;
-    }
+pub marked_none : (count : ℕ) (ws inner : List Wire) (fed : List Bool) → IsFed count ws fed
+    → IsFed count (ws ++ take 0 inner) fed
+marked_none count ws inner fed marked =
+    let none : ws ++ take 0 inner ≡ ws = ap (λ (vs : List Wire). ws ++ vs) (take_none inner) ∙ append-nil ws in
+    subst (λ (vs : List Wire). IsFed count vs fed) (sym none) marked
+  where
+    take_none : (vs : List Wire) → take 0 vs ≡ []
+    take_none [] = refl
+    take_none (v ∷ vs) = refl
+
+pub marked_all : (count n : ℕ) (ws inner : List Wire) (fed : List Bool) → length inner ≤ n
+    → IsFed count (ws ++ take n inner) fed → IsFed count (ws ++ inner) fed
+marked_all count n ws inner fed past marked =
+    subst (λ (vs : List Wire). IsFed count (ws ++ vs) fed) (take_past inner n past) marked
   where
     take_past : (vs : List Wire) (m : ℕ) → length vs ≤ m → take m vs ≡ vs
     take_past [] zero h = refl
     take_past [] (suc m) h = refl
     take_past (v ∷ vs) zero h = absurd (omega arith)
     take_past (v ∷ vs) (suc m) h = ap (λ (us : List Wire). v ∷ us) (take_past vs m (omega arith))
+
+-- the wires of a column are between its elements
+inner_from : (b k : ℕ) (from to : Line) → IsInner b k from to → (from.element ≤ b + k) × (from.line < 4)
+inner_from b k from to (down r low leaves ends) = rw leaves (omega arith, omega arith)
+inner_from b k from to (up r low leaves ends) = rw leaves (omega arith, omega arith)
+inner_from b k from to (under leaves ends) = rw leaves (omega arith, omega arith)
+inner_from b k from to (over leaves ends) = rw leaves (omega arith, omega arith)
+inner_from b k from to (top leaves ends) = rw leaves (omega arith, omega arith)
+
+pub inner_fitting : (h : Header) (e k : ℕ) (inner : List Wire) → 0 < k → IsInnerOf h e k inner
+    → AreFitting h.count inner
+inner_fitting h e k inner some is = record {
+  fits = λ n w has.
+      let at_inner : slice_get (inner_wires e k) n ≡ Some w =
+      ap (λ (ws : List Wire). slice_get ws n) (sym is.are) ∙ has in
+      let leads = each_at (λ v. IsInner e k v.from v.to) (inner_wires e k) n w (inner_each e k some) at_inner in
+      let from = inner_from e k w.from w.to leads in
+      let to = inner_to e k w.from w.to leads in
+      let from_low : w.from.element ≤ e + k = from.0 in
+      let to_low : w.to.element ≤ e + k = to.0 in
+      let within : e + k < h.count = is.within in
+      (omega arith, from.1, omega arith, to.1);
+}
+
+-- a column is added
+pub column_connected : (h : Header) (e k : ℕ) (ws inner : List Wire) (drawn : EndList) (fed : List Bool)
+    → IsInnerOf h e k inner → column_fault h ws e k ≡ None → HasDrawn h.count (ws ++ inner) drawn
+    → IsFed h.count (ws ++ inner) fed → ConnectsColumn h e k ws drawn fed
+column_connected h e k ws inner drawn fed is none has marked =
+    record {
+      faultless = none;
+      kept = subst (λ (vs : List Wire). AreKept h.count (ws ++ vs) drawn fed) is.are
+          (record { drawn_are = has; marked = marked });
+    }

@@ -16,7 +16,9 @@ use Rattle.bn_netlist_laws.specs.Faults.{row_targets, wire_fault, or_else, outpu
 use Rattle.bn_netlist_laws.specs.declared.header.Header.{Header}
 use Rattle.bn_netlist_laws.proofs.LineLemmas.{wires_after-more, rows_left-append, length_more}
 use Rattle.bn_netlist_laws.proofs.WholeLemmas.{states_in-append}
-use Rattle.bn_netlist.specs.Drafting.{RefusesBy, finds, column_fault, ConnectsAll, ConnectsColumn, own_in, Holds, Reads}
+use Rattle.bn_packed.specs.Ends.{EndList}
+use Rattle.bn_netlist.specs.Drafting.{AreKept, RefusesBy, finds, column_fault, ConnectsAll, ConnectsColumn, own_in}
+use Rattle.bn_netlist.specs.Drafting.{Holds, Reads}
 use Rattle.bn_netlist.specs.declared.line_refusal.NetlistRefusal.{NetlistRefusal}
 use Rattle.bn_netlist.specs.declared.line_refusal.NetlistRefusal.TheVariants.{Order}
 
@@ -87,33 +89,33 @@ own_in-append (Column e k q ∷ xs) ys = ap (λ (bs : List Bool). replicate k fa
 own_in-append (Row x y ∷ xs) ys = own_in-append xs ys
 
 pub row_read : (h : Header) (rows : List Sentence) (lines left e more less : ℕ) (states : List ℕ) (own : List Bool)
-    (wires new : List Wire) (fed fed_new : List Bool) (x y : Option Line) → lines ≡ e + 1 → more ≡ lines + 1
-    → less ≡ left - 1 → Holds h rows lines left states own wires fed
-    → ConnectsAll h e east (row_targets x y) wires new fed_new → Reads h rows (Row x y) more less states own new fed_new
-row_read h rows lines left e more less states own wires new fed fed_new x y at_e next fewer holds connects =
+    (drawn new : EndList) (fed fed_new : List Bool) (x y : Option Line) → lines ≡ e + 1 → more ≡ lines + 1
+    → less ≡ left - 1 → Holds h rows lines left states own drawn fed
+    → ConnectsAll h e east (row_targets x y) (wires_after 6 rows) new fed_new
+    → Reads h rows (Row x y) more less states own new fed_new
+row_read h rows lines left e more less states own drawn new fed fed_new x y at_e next fewer holds connects =
     let lines_are : lines ≡ length rows = holds.lines_are in
     let made = length_more rows (Row x y) in
     let place : row_number (6 + length rows) ≡ e = omega arith in
     record {
-      faultless = row_fault h rows wires e x y (omega arith) holds.wires_are ∙ connects.faultless;
+      faultless = row_fault h rows (wires_after 6 rows) e x y (omega arith) refl ∙ connects.faultless;
       holds = record {
         lines_are = omega arith;
         left_are = fewer ∙ ap (λ (n : ℕ). n - 1) holds.left_are ∙ sym (rows_left-append 0 rows (Row x y ∷ []));
         states_are = holds.states_are ∙ sym (append-nil (bars_in rows)) ∙ sym (states_in-append rows (Row x y ∷ []));
         own_are = holds.own_are ∙ sym (append-nil (own_in rows)) ∙ sym (own_in-append rows (Row x y ∷ []));
-        wires_are = connects.wires ∙ ap (λ (ws : List Wire). ws ++ wires_from e east (row_targets x y)) holds.wires_are
-            ∙ ap (λ (n : ℕ). wires_after 6 rows ++ wires_from n east (row_targets x y)) (sym place)
-            ∙ sym (wires_after-more 6 rows (Row x y));
-        marked = connects.marked;
+        kept = subst (λ (ws : List Wire). AreKept h.count ws new fed_new)
+            (ap (λ (n : ℕ). wires_after 6 rows ++ wires_from n east (row_targets x y)) (sym place)
+            ∙ sym (wires_after-more 6 rows (Row x y))) connects.kept;
       };
     }
 
 pub element_read : (h : Header) (rows : List Sentence) (lines left more q n : ℕ) (states states_new : List ℕ)
-    (own own_new : List Bool) (wires new : List Wire) (fed fed_new : List Bool) (ts : List (Option Line)) → n ≡ lines
+    (own own_new : List Bool) (drawn new : EndList) (fed fed_new : List Bool) (ts : List (Option Line)) → n ≡ lines
     → more ≡ lines + 1 → states_new ≡ states ++ q ∷ [] → own_new ≡ own ++ true ∷ []
-    → Holds h rows lines left states own wires fed → ConnectsAll h lines 0 ts wires new fed_new
+    → Holds h rows lines left states own drawn fed → ConnectsAll h lines 0 ts (wires_after 6 rows) new fed_new
     → Reads h rows (Element n q ts) more left states_new own_new new fed_new
-element_read h rows lines left more q n states states_new own own_new wires new fed fed_new ts number next pushed owned
+element_read h rows lines left more q n states states_new own own_new drawn new fed fed_new ts number next pushed owned
     holds connects =
     let lines_are : lines ≡ length rows = holds.lines_are in
     let whole : Reads h rows (Element lines q ts) more left states_new own_new new fed_new = read_at lines_are in
@@ -123,7 +125,7 @@ element_read h rows lines left more q n states states_new own own_new wires new 
     read_at lines_are =
         let made = length_more rows (Element lines q ts) in
         record {
-          faultless = element_fault h rows wires lines q ts (sym lines_are) holds.wires_are ∙ connects.faultless;
+          faultless = element_fault h rows (wires_after 6 rows) lines q ts (sym lines_are) refl ∙ connects.faultless;
           holds = record {
             lines_are = omega arith;
             left_are = holds.left_are ∙ sym (rows_left-append 0 rows (Element lines q ts ∷ []));
@@ -131,18 +133,17 @@ element_read h rows lines left more q n states states_new own own_new wires new 
                 ∙ sym (states_in-append rows (Element lines q ts ∷ []));
             own_are = owned ∙ ap (λ (bs : List Bool). bs ++ true ∷ []) holds.own_are
                 ∙ sym (own_in-append rows (Element lines q ts ∷ []));
-            wires_are = connects.wires ∙ ap (λ (ws : List Wire). ws ++ wires_from lines 0 ts) holds.wires_are
-                ∙ sym (wires_after-more 6 rows (Element lines q ts));
-            marked = connects.marked;
+            kept = subst (λ (ws : List Wire). AreKept h.count ws new fed_new)
+                (sym (wires_after-more 6 rows (Element lines q ts))) connects.kept;
           };
         }
 
 pub column_read : (h : Header) (rows : List Sentence) (lines left more k q n : ℕ) (states states_new : List ℕ)
-    (own own_new : List Bool) (wires new : List Wire) (fed fed_new : List Bool) → n ≡ lines → more ≡ lines + 1
+    (own own_new : List Bool) (drawn new : EndList) (fed fed_new : List Bool) → n ≡ lines → more ≡ lines + 1
     → states_new ≡ states ++ (replicate k vertical ++ q ∷ []) → own_new ≡ own ++ (replicate k false ++ false ∷ [])
-    → Holds h rows lines left states own wires fed → ConnectsColumn h lines k wires new fed_new
+    → Holds h rows lines left states own drawn fed → ConnectsColumn h lines k (wires_after 6 rows) new fed_new
     → Reads h rows (Column n k q) more k states_new own_new new fed_new
-column_read h rows lines left more k q n states states_new own own_new wires new fed fed_new number next pushed owned
+column_read h rows lines left more k q n states states_new own own_new drawn new fed fed_new number next pushed owned
     holds connects =
     subst (λ (m : ℕ). Reads h rows (Column m k q) more k states_new own_new new fed_new) (sym number)
     (read_at holds.lines_are)
@@ -151,7 +152,8 @@ column_read h rows lines left more k q n states states_new own own_new wires new
     read_at lines_are =
         let made = length_more rows (Column lines k q) in
         record {
-          faultless = column_line_fault h rows wires lines k q (sym lines_are) holds.wires_are ∙ connects.faultless;
+          faultless = column_line_fault h rows (wires_after 6 rows) lines k q (sym lines_are) refl
+              ∙ connects.faultless;
           holds = record {
             lines_are = omega arith;
             left_are = sym (rows_left-append 0 rows (Column lines k q ∷ []));
@@ -159,9 +161,8 @@ column_read h rows lines left more k q n states states_new own own_new wires new
                 ∙ sym (states_in-append rows (Column lines k q ∷ []));
             own_are = owned ∙ ap (λ (bs : List Bool). bs ++ (replicate k false ++ false ∷ [])) holds.own_are
                 ∙ sym (own_in-append rows (Column lines k q ∷ []));
-            wires_are = connects.wires ∙ ap (λ (ws : List Wire). ws ++ inner_wires lines k) holds.wires_are
-                ∙ sym (wires_after-more 6 rows (Column lines k q));
-            marked = connects.marked;
+            kept = subst (λ (ws : List Wire). AreKept h.count ws new fed_new)
+                (sym (wires_after-more 6 rows (Column lines k q))) connects.kept;
           };
         }
 
@@ -196,8 +197,8 @@ column_fault_at h rows ws n e k q same count are =
     subst (λ (m : ℕ). column_fault h ws e k ≡ fault_of (header_then h rows) (Column m k q)) (sym same)
     (sym (column_line_fault h rows ws e k q count are))
 
-pub connects_there : (h : Header) (e k : ℕ) (old new last : List Wire) (fed marks : List Bool) → last ≡ new
-    → marks ≡ fed → ConnectsColumn h e k old new fed → ConnectsColumn h e k old last marks
+pub connects_there : (h : Header) (e k : ℕ) (old : List Wire) (new last : EndList) (fed marks : List Bool)
+    → last ≡ new → marks ≡ fed → ConnectsColumn h e k old new fed → ConnectsColumn h e k old last marks
 connects_there h e k old new last fed marks same same_marks is =
-    subst (λ (ws : List Wire). ConnectsColumn h e k old ws marks) (sym same)
+    subst (λ (d : EndList). ConnectsColumn h e k old d marks) (sym same)
     (subst (λ (bs : List Bool). ConnectsColumn h e k old new bs) (sym same_marks) is)

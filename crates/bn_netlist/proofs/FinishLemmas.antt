@@ -14,6 +14,8 @@ use Rattle.bn_circuits.specs.declared.line.Wire.{Wire}
 use Rattle.bn_net.proofs.WireListLemmas.{line_tells}
 use Rattle.bn_net.proofs.WiringsLemmas.{apart-append, apart-IsOneToOne}
 use Rattle.bn_net.specs.Wirings.{AreApart, AreFitting}
+use Rattle.bn_packed.specs.Drafts.{AreDrawn}
+use Rattle.bn_packed.specs.Ends.{EndList}
 use Rattle.bn_element.specs.Rotary.{rotary, vertical, east}
 use Rattle.bn_netlist_laws.specs.Columns.{IsColumnAt}
 use Rattle.bn_netlist_laws.specs.Sentences.{Sentence, Element, Column, Row, lines_text}
@@ -29,7 +31,7 @@ use Rattle.bn_netlist_laws.proofs.FitLemmas.{Fits, AllFit, blocks_fit}
 use Rattle.bn_netlist_laws.proofs.WholeLemmas.{said_by}
 use Rattle.bn_netlist_laws.proofs.SpellsLemmas.{said-admitted, whole-said}
 use Rattle.bn_netlist_laws.proofs.VersionLemmas.{spelled-alike}
-use Rattle.bn_netlist.specs.Drafting.{own_in, IsOwnColumn}
+use Rattle.bn_netlist.specs.Drafting.{HasDrawn, own_in, IsOwnColumn}
 use Rattle.bn_netlist.specs.Finishing.{IsWholeDraft}
 use Rattle.bn_netlist.specs.WireSpelling.{spelling_by}
 
@@ -95,6 +97,11 @@ module _ (h : Header) (rows : List Sentence) (whole : AreWhole (header_then h ro
       (sym wires_are)
       (subst (λ (qs : List ℕ). IsConfig (circuit_of (spelling_by h (wires_after 6 rows) qs))
       (spelling_by h (wires_after 6 rows) qs).config) (sym states_are) said.config)
+
+  -- the draft has the wires of the lines
+  pub whole-AreDrawn : (drawn : EndList) → HasDrawn h.count (wires_after 6 rows) drawn
+      → AreDrawn h.count (wires_after 6 rows) drawn
+  whole-AreDrawn drawn has = has.drawn_if (whole-AreApart (wires_after 6 rows) refl)
 
 -- ---- lines of their own
 
@@ -371,9 +378,9 @@ count_own h done rows (group b k q sides rest count is more) f =
     states_rows [] rest = refl
     states_rows (p ∷ ps) rest = states_rows ps rest
 
-pub counts : (h : Header) (lines left : ℕ) (states : List ℕ) (own : List Bool) (wires : List Wire) (fed : List Bool)
-    → IsWholeDraft h lines left states own wires fed → (length own ≡ h.count) × (length states ≡ h.count)
-counts h lines left states own wires fed is =
+pub counts : (h : Header) (lines left : ℕ) (states : List ℕ) (own : List Bool) (drawn : EndList) (fed : List Bool)
+    → IsWholeDraft h lines left states own drawn fed → (length own ≡ h.count) × (length states ≡ h.count)
+counts h lines left states own drawn fed is =
     let both = count_own h [] is.rows (whole_blocks h is.rows is.whole) is.whole.faultless.2.2.2.2.2.2 in
     let complete : length (header_then h is.rows) ≡ header_lines + h.count = is.whole.complete in
     let rows_count : length is.rows ≡ h.count = omega arith in

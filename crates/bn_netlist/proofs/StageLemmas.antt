@@ -125,9 +125,9 @@ module _ (h : Header) (e : behind.Entries) (lines : List Sentence) (taken : AreT
   count_is = ap count_in taken.say.are
 
   pub entry_taken : (new : behind.Entries) (line : List ℕ) → ((rows : List Sentence)
-      → Holds h rows e.lines e.rows e.states.items e.own.items e.ends.wires.items e.ends.fed.items
+      → Holds h rows e.lines e.rows e.states.items e.own.items e.ends.drawn e.ends.fed.items
       → (x : Sentence) × TakesLine (header_then h rows) line x × Holds h (rows ++ x ∷ []) new.lines new.rows
-      new.states.items new.own.items new.ends.wires.items new.ends.fed.items) → TakesTo lines line (stage.Entries h new)
+      new.states.items new.own.items new.ends.drawn new.ends.fed.items) → TakesTo lines line (stage.Entries h new)
   entry_taken new line read =
       let made = read taken.say.rows taken.say.holds in
       taken_behind (stage.Entries h e) (stage.Entries h new) lines (header_then h taken.say.rows) line made.0
@@ -135,7 +135,7 @@ module _ (h : Header) (e : behind.Entries) (lines : List Sentence) (taken : AreT
       (record { rows = taken.say.rows ++ made.0 ∷ []; are = refl; holds = made.2 })
 
   pub entry_refused : (line : List ℕ) (r : NetlistRefusal) → ((rows : List Sentence)
-      → Holds h rows e.lines e.rows e.states.items e.own.items e.ends.wires.items e.ends.fed.items
+      → Holds h rows e.lines e.rows e.states.items e.own.items e.ends.drawn e.ends.fed.items
       → RefusesLine (header_then h rows) line r) → RefusesLine lines line r
   entry_refused line r refused = refused_behind lines (header_then h taken.say.rows) line r taken.say.are
       (refused taken.say.rows taken.say.holds)
@@ -155,7 +155,7 @@ same_stage s t lines same taken = subst (λ (u : Stage). AreTaken lines u) same 
 pub header_whole : (s : Stage) (lines : List Sentence) (line : List ℕ) (v : Version) (c : ℕ) (start end : Line) (t : ℕ)
     (p : Place) (e : behind.Entries) → s ≡ stage.Place v c start end t
     → TakesLine (Title v ∷ Count c ∷ Start start ∷ End end ∷ Steps t ∷ []) line (At p)
-    → ((h : Header) → h.count ≡ c → Holds h [] e.lines e.rows e.states.items e.own.items e.ends.wires.items
+    → ((h : Header) → h.count ≡ c → Holds h [] e.lines e.rows e.states.items e.own.items e.ends.drawn
     e.ends.fed.items) → AreTaken lines s → TakesTo lines line (stage.Entries
     (record { version = v; count = c; start = start; end = end; steps = t; place = p }) e)
 header_whole s lines line v c start end t p e same takes none taken =

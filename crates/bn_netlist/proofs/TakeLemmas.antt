@@ -4,7 +4,7 @@ use Rattle.std.specs.Prelude.{option_map, codes, refl}
 use Rattle.std.proofs.Common.{arith, ap, subst, ◌∙◌, inl, inr}
 use Rattle.std.proofs.lemmas.Bool.Decides.{eqb_tells}
 use Rattle.std.proofs.lemmas.Option.{option_and_then_some, cond_some}
-use Rattle.bn_circuits.specs.declared.line.Wire.{Wire}
+use Rattle.bn_packed.specs.Ends.{EndList}
 use Rattle.bn_netlist_laws.specs.Sentences.{AreNameable}
 use Rattle.bn_netlist_laws.specs.Reading.{word_taken, number_taken, bar_taken, targets_taken, element_of, named_target}
 use Rattle.bn_netlist_laws.specs.Reading.{named_targets}
@@ -65,13 +65,13 @@ said_entry h rows line none =
 -- ---- taking and refusing
 
 pub takes : (h : Header) (rows : List Sentence) (line : List ℕ) (x : Sentence) (lines left lines_new left_new : ℕ)
-    (states states_new : List ℕ) (own own_new : List Bool) (wires new : List Wire) (fed fed_new : List Bool)
-    → lines < h.count → Holds h rows lines left states own wires fed
+    (states states_new : List ℕ) (own own_new : List Bool) (drawn new : EndList) (fed fed_new : List Bool)
+    → lines < h.count → Holds h rows lines left states own drawn fed
     → said (version_in (header_then h rows)) (kind_after (header_then h rows)) line ≡ Some x
     → Reads h rows x lines_new left_new states_new own_new new fed_new
     → (y : Sentence) × TakesLine (header_then h rows) line y × Holds h (rows ++ y ∷ []) lines_new left_new states_new
     own_new new fed_new
-takes h rows line x lines left lines_new left_new states states_new own own_new wires new fed fed_new room holds is
+takes h rows line x lines left lines_new left_new states states_new own own_new drawn new fed fed_new room holds is
     reads =
     let lines_are : lines ≡ length rows = holds.lines_are in
     let there : length (header_then h rows) < header_lines + count_in (header_then h rows) = omega arith in
@@ -79,12 +79,12 @@ takes h rows line x lines left lines_new left_new states states_new own own_new 
     (x, record { next = read.0; faultless = reads.faultless; written = read.1 }, reads.holds)
 
 pub refuses : (h : Header) (rows : List Sentence) (line : List ℕ) (x : Sentence) (lines left : ℕ) (states : List ℕ)
-    (own : List Bool) (wires : List Wire) (fed : List Bool) (r : NetlistRefusal) → lines < h.count
-    → Holds h rows lines left states own wires fed → said (version_in (header_then h rows))
+    (own : List Bool) (drawn : EndList) (fed : List Bool) (r : NetlistRefusal) → lines < h.count
+    → Holds h rows lines left states own drawn fed → said (version_in (header_then h rows))
     (kind_after (header_then h rows)) line ≡ Some x → RefusesBy (fault_of (header_then h rows) x) (length rows + 7) r
     → RefusesLine (header_then h rows) line r
-refuses h rows line x lines left states own wires fed r room holds is (wants_memory want) = no_memory want
-refuses h rows line x lines left states own wires fed r room holds is (finds fault has named) =
+refuses h rows line x lines left states own drawn fed r room holds is (wants_memory want) = no_memory want
+refuses h rows line x lines left states own drawn fed r room holds is (finds fault has named) =
     let lines_are : lines ≡ length rows = holds.lines_are in
     let there : length (header_then h rows) < header_lines + count_in (header_then h rows) = omega arith in
     let read = lines-are-read (header_then h rows) line x there is in
@@ -92,17 +92,17 @@ refuses h rows line x lines left states own wires fed r room holds is (finds fau
     has_fault x fault read.0 read.1 has (subst (λ (n : ℕ). r ≡ refusal_of fault n) place named)
 
 pub malformed_line : (h : Header) (rows : List Sentence) (line : List ℕ) (lines left n : ℕ) (states : List ℕ)
-    (own : List Bool) (wires : List Wire) (fed : List Bool) → Holds h rows lines left states own wires fed → n ≡ lines
+    (own : List Bool) (drawn : EndList) (fed : List Bool) → Holds h rows lines left states own drawn fed → n ≡ lines
     → said (version_in (header_then h rows)) (kind_after (header_then h rows)) line ≡ None
     → RefusesLine (header_then h rows) line (Syntax (n + 7))
-malformed_line h rows line lines left n states own wires fed holds same none =
+malformed_line h rows line lines left n states own drawn fed holds same none =
     let lines_are : lines ≡ length rows = holds.lines_are in
     let place : n + 7 ≡ length (header_then h rows) + 1 = omega arith in
     no_form (ap Syntax place) (other-lines-are-not (header_then h rows) line none)
 
 -- what the line says, by what was read of it
 module _ (h : Header) (rows : List Sentence) (line : List ℕ) (lines left : ℕ) (states : List ℕ) (own : List Bool)
-    (wires : List Wire) (fed : List Bool) (holds : Holds h rows lines left states own wires fed) where
+    (drawn : EndList) (fed : List Bool) (holds : Holds h rows lines left states own drawn fed) where
   pub row_unsaid : 0 < left → sides_of line ≡ None → said (version_in (header_then h rows))
       (kind_after (header_then h rows)) line ≡ None
   row_unsaid some none = let left_are : left ≡ rows_left 0 rows =

@@ -5,6 +5,9 @@ use Rattle.std.specs.Prelude.{is_some}
 use Rattle.bn_circuits.specs.Circuits.{Circuit, source}
 use Rattle.bn_circuits.specs.declared.line.Line.{Line}
 use Rattle.bn_circuits.specs.declared.line.Wire.{Wire}
+use Rattle.bn_net.specs.Wirings.{AreApart}
+use Rattle.bn_packed.specs.Drafts.{AreDrawn}
+use Rattle.bn_packed.specs.Ends.{EndList}
 use Rattle.bn_netlist_laws.specs.Columns.{HasColumnAt, inner_wires}
 use Rattle.bn_netlist_laws.specs.Spelling.{header_then}
 use Rattle.bn_netlist_laws.specs.Faults.{Fault, malformed, too_many, no_element, out_of_order, end_wired, left_wired}
@@ -43,21 +46,34 @@ pub record IsFed (count : ℕ) (wires : List Wire) (fed : List Bool) : Type 0 wh
   pub marks : (l : Line) → l.element < count → l.line < 4
       → slice_get fed (4 * l.element + l.line) ≡ Some (is_some (source wires l))
 
+-- a draft of so many elements has the wires of this list, if these stay apart
+pub record HasDrawn (count : ℕ) (wires : List Wire) (drawn : EndList) : Type 0 where
+  pub elements : drawn.elements ≡ count
+  pub drawn_if : AreApart wires → AreDrawn count wires drawn
+
+-- the wires of this list, as they are kept for so many elements: in a draft, and by the marks of where they end
+pub record AreKept (count : ℕ) (wires : List Wire) (drawn : EndList) (fed : List Bool) : Type 0 where
+  pub drawn_are : HasDrawn count wires drawn
+  pub marked : IsFed count wires fed
+
+-- what keeps wires is there for so many elements
+pub record IsSized (count : ℕ) (drawn : EndList) (fed : List Bool) : Type 0 where
+  pub elements : drawn.elements ≡ count
+  pub marks : length fed ≡ 4 * count
+
 -- the first fault of a column of so many rows from this element on, after these wires
 abbrev pub column_fault : Header → List Wire → ℕ → ℕ → Option Fault
 column_fault h wires e k = inner_fault (header_then h []) wires (e + k) (inner_wires e k)
 
--- the column has no fault, and these are its wires
-pub record IsInnerOf (h : Header) (wires : List Wire) (e k : ℕ) (inner : List Wire) : Type 0 where
+-- these are the wires of a column that has its elements
+pub record IsInnerOf (h : Header) (e k : ℕ) (inner : List Wire) : Type 0 where
   pub are : inner ≡ inner_wires e k
   pub within : e + k < h.count
-  pub faultless : column_fault h wires e k ≡ None
 
--- the wires of a column have been added, with their marks
-pub record ConnectsColumn (h : Header) (e k : ℕ) (old new : List Wire) (fed : List Bool) : Type 0 where
-  pub faultless : column_fault h old e k ≡ None
-  pub wires : new ≡ old ++ inner_wires e k
-  pub marked : IsFed h.count new fed
+-- the wires of a column have been added behind these
+pub record ConnectsColumn (h : Header) (e k : ℕ) (wires : List Wire) (drawn : EndList) (fed : List Bool) : Type 0 where
+  pub faultless : column_fault h wires e k ≡ None
+  pub kept : AreKept h.count (wires ++ inner_wires e k) drawn fed
 
 -- the element has a line of its own, and a column begins there
 pub record IsOwnColumn (own : List Bool) (c : Circuit) (states : List ℕ) (e : ℕ) : Type 0 where
@@ -69,18 +85,16 @@ abbrev pub tested : Option Fault → ℕ → Line → Result Line NetlistRefusal
 tested None line to = Ok to
 tested (Some fault) line to = Err (refusal_of fault line)
 
--- a wire without a fault has been added, with its mark
-pub record Connects (h : Header) (from to : Line) (old new : List Wire) (fed : List Bool) : Type 0 where
-  pub faultless : wire_fault (header_then h []) old from to ≡ None
-  pub wires : new ≡ old ++ record { from = from; to = to } ∷ []
-  pub marked : IsFed h.count new fed
+-- a wire without a fault has been added behind these
+pub record Connects (h : Header) (from to : Line) (wires : List Wire) (drawn : EndList) (fed : List Bool) : Type 0 where
+  pub faultless : wire_fault (header_then h []) wires from to ≡ None
+  pub kept : AreKept h.count (wires ++ record { from = from; to = to } ∷ []) drawn fed
 
--- the wires of some outputs of an element have been added, from this output on, with their marks
-pub record ConnectsAll (h : Header) (e o : ℕ) (targets : List (Option Line)) (old new : List Wire) (fed : List Bool)
-    : Type 0 where
-  pub faultless : outputs_fault (header_then h []) old e o targets ≡ None
-  pub wires : new ≡ old ++ wires_from e o targets
-  pub marked : IsFed h.count new fed
+-- the wires of some outputs of an element have been added behind these, from this output on
+pub record ConnectsAll (h : Header) (e o : ℕ) (targets : List (Option Line)) (wires : List Wire) (drawn : EndList)
+    (fed : List Bool) : Type 0 where
+  pub faultless : outputs_fault (header_then h []) wires e o targets ≡ None
+  pub kept : AreKept h.count (wires ++ wires_from e o targets) drawn fed
 
 -- for each element whether it has a line of its own, as these lines say
 abbrev pub own_in : List Sentence → List Bool
@@ -91,16 +105,15 @@ own_in (x ∷ xs) = own_in xs
 
 -- what has been read of the entries, as these lines say it
 pub record Holds (h : Header) (rows : List Sentence) (lines left : ℕ) (states : List ℕ) (own : List Bool)
-    (wires : List Wire) (fed : List Bool) : Type 0 where
+    (drawn : EndList) (fed : List Bool) : Type 0 where
   pub lines_are : lines ≡ length rows
   pub left_are : left ≡ rows_left 0 rows
   pub states_are : states ≡ bars_in rows
   pub own_are : own ≡ own_in rows
-  pub wires_are : wires ≡ wires_after 6 rows
-  pub marked : IsFed h.count wires fed
+  pub kept : AreKept h.count (wires_after 6 rows) drawn fed
 
 -- the line that says this has been read after these lines, without a fault
 pub record Reads (h : Header) (rows : List Sentence) (x : Sentence) (lines left : ℕ) (states : List ℕ)
-    (own : List Bool) (wires : List Wire) (fed : List Bool) : Type 0 where
+    (own : List Bool) (drawn : EndList) (fed : List Bool) : Type 0 where
   pub faultless : fault_of (header_then h rows) x ≡ None
-  pub holds : Holds h (rows ++ x ∷ []) lines left states own wires fed
+  pub holds : Holds h (rows ++ x ∷ []) lines left states own drawn fed

@@ -1,6 +1,6 @@
 -- A text that has been read to its end.
 use Rattle.std.specs.Prelude.{◌≡◌, ℕ, Bool, List}
-use Rattle.bn_circuits.specs.declared.line.Wire.{Wire}
+use Rattle.bn_packed.specs.Ends.{EndList}
 use Rattle.bn_netlist_laws.specs.Sentences.{Sentence, lines_text}
 use Rattle.bn_netlist_laws.specs.Spelling as what
 use Rattle.bn_netlist_laws.specs.Spelling.{header_then, Spelled}
@@ -12,22 +12,22 @@ use Rattle.bn_netlist.specs.declared.line_refusal.NetlistRefusal.{NetlistRefusal
 use Rattle.bn_netlist.specs.declared.line_refusal.NetlistRefusal.TheVariants.{Spelling, NoMemory}
 
 -- some whole text says what has been read
-pub record IsWholeDraft (h : Header) (lines left : ℕ) (states : List ℕ) (own : List Bool) (wires : List Wire)
+pub record IsWholeDraft (h : Header) (lines left : ℕ) (states : List ℕ) (own : List Bool) (drawn : EndList)
     (fed : List Bool) : Type 0 where
   pub rows : List Sentence
   pub whole : AreWhole (header_then h rows)
-  pub holds : Holds h rows lines left states own wires fed
+  pub holds : Holds h rows lines left states own drawn fed
 
 -- each whole text that says what has been read spells this, in this version
-abbrev pub SpellsAll : Header → ℕ → ℕ → List ℕ → List Bool → List Wire → List Bool → Version → what.Spelling → Type 0
-SpellsAll h lines left states own wires fed version s =
-    (rows : List Sentence) → AreWhole (header_then h rows) → Holds h rows lines left states own wires fed
+abbrev pub SpellsAll : Header → ℕ → ℕ → List ℕ → List Bool → EndList → List Bool → Version → what.Spelling → Type 0
+SpellsAll h lines left states own drawn fed version s =
+    (rows : List Sentence) → AreWhole (header_then h rows) → Holds h rows lines left states own drawn fed
     → (version ≡ h.version) × Spelled h.version s (lines_text (header_then h rows))
 
 -- each whole text that says what has been read is refused so; or memory was wanting
-pub data RefusesAll (h : Header) (lines left : ℕ) (states : List ℕ) (own : List Bool) (wires : List Wire)
+pub data RefusesAll (h : Header) (lines left : ℕ) (states : List ℕ) (own : List Bool) (drawn : EndList)
     (fed : List Bool) (r : NetlistRefusal) : Type 0 where
-  wants_memory_for_net : r ≡ NoMemory → RefusesAll h lines left states own wires fed r
+  wants_memory_for_net : r ≡ NoMemory → RefusesAll h lines left states own drawn fed r
   finds_column : (line : ℕ) → r ≡ Spelling line
-      → ((rows : List Sentence) → AreWhole (header_then h rows) → Holds h rows lines left states own wires fed
-      → IsFirstSpelledOut (lines_text (header_then h rows)) line) → RefusesAll h lines left states own wires fed r
+      → ((rows : List Sentence) → AreWhole (header_then h rows) → Holds h rows lines left states own drawn fed
+      → IsFirstSpelledOut (lines_text (header_then h rows)) line) → RefusesAll h lines left states own drawn fed r

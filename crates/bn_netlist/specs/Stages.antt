@@ -14,7 +14,7 @@ use Rattle.bn_netlist.specs.declared.stage.Stage.TheVariants as stage
 pub record SayEntries (h : Header) (e : behind.Entries) (lines : List Sentence) : Type 0 where
   pub rows : List Sentence
   pub are : lines ≡ header_then h rows
-  pub holds : Holds h rows e.lines e.rows e.states.items e.own.items e.ends.wires.items e.ends.fed.items
+  pub holds : Holds h rows e.lines e.rows e.states.items e.own.items e.ends.drawn e.ends.fed.items
 
 -- the lines say what the stage keeps
 abbrev pub Say : Stage → List Sentence → Type 0

@@ -1,20 +1,20 @@
 //! The wires of a configuration text, as far as they have been read.
 
-ghost use Rattle.std.specs.Prelude.{◌≡◌, ◌+◌, ◌*◌, ◌^◌, ◌<◌, ◌≤◌, ℕ, List, [], length, IfOk, OnOk, IfErr, Some};
-ghost use Rattle.std.specs.Prelude.{is_some, slice_get, MatchOption};
+ghost use Rattle.std.specs.Prelude.{◌≡◌, ◌+◌, ◌*◌, ◌<◌, ◌≤◌, ◌++◌, ℕ, List, [], length, IfOk, OnOk, IfErr, Some};
+ghost use Rattle.std.specs.Prelude.{is_some, slice_get, MatchOption, None};
 ghost use Rattle.bn_net.specs.declared.net.TheConstants.{MOST_ELEMENTS};
+ghost use Rattle.bn_net.specs.Wirings.{AreFitting};
 ghost use Rattle.bn_base.specs.Number.{greatest};
 ghost use Rattle.bn_circuits.specs.Circuits.{source};
 ghost use Rattle.bn_circuits.specs.declared.line.Wire.{Wire};
-ghost use Rattle.bn_netlist.specs.Drafting.{IsFed};
+ghost use Rattle.bn_packed.specs.Ends.{IsLineBelow};
 ghost use Rattle.bn_netlist_laws.specs.Sentences.{AreNameable};
 ghost use Rattle.bn_netlist_laws.specs.Reading.{named, named_targets};
 ghost use Rattle.bn_netlist_laws.specs.Faults.{is_left_by};
 ghost use Rattle.bn_netlist_laws.specs.Faults.{some_wire, wire_fault, outputs_fault};
 ghost use Rattle.bn_netlist_laws.specs.Spelling.{header_then};
-ghost use Rattle.bn_netlist_laws.specs.Columns.{inner_wires};
 ghost use Rattle.bn_netlist.specs.Drafting.{RefusesBy, column_fault, IsInnerOf, ConnectsColumn, tested, Connects};
-ghost use Rattle.bn_netlist.specs.Drafting.{ConnectsAll};
+ghost use Rattle.bn_netlist.specs.Drafting.{AreKept, ConnectsAll, HasDrawn, IsFed, IsSized};
 
 use crate::inner::{end_at, inner_wires, leave, leave_behind};
 use crate::line_refusal::NetlistRefusal;
@@ -22,29 +22,30 @@ use bn_circuits::{Line, Place, Wire};
 use bn_netlist_laws::Header;
 use std::alloc::Global;
 
-/// The wires read so far.
+/// The wires read so far, of which no list is kept.
 #[derive(Drop)]
 pub struct Draft {
-    /// The wires, in the order of the text.
-    pub(crate) wires: Vec<Wire>,
+    /// Where lines lead, in the form in which the circuit is packed.
+    pub(crate) drawn: bn_packed::Draft,
     // For each input line of the circuit, four an element, whether a wire ends there.
     pub(crate) fed: Vec<bool>,
 }
 
 impl Draft {
-    /// No wire, with room for the marks of so many elements.
+    /// No wire, with room for those of so many elements.
     pub fn new(alloc: Global, count: u32) -> Result<Draft, NetlistRefusal>
-        ensures wires { IfOk result (λ d. d.wires.items ≡ []) }
+        requires { count ≤ MOST_ELEMENTS }
+        ensures drawn { IfOk result (λ d. HasDrawn count [] d.drawn) }
         ensures fed { IfOk result (λ d. IsFed count [] d.fed.items) }
         ensures refused { IfErr result (λ r. r ≡ NetlistRefusal.NoMemory) }
     {
+        let Ok(drawn) = bn_packed::Draft::new(alloc, count) else {
+            return Err(NetlistRefusal::NoMemory);
+        };
         let Ok(fed) = vec![in alloc; false; 4 * count as usize] else {
             return Err(NetlistRefusal::NoMemory);
         };
-        Ok(Draft {
-            wires: Vec::new(alloc),
-            fed,
-        })
+        Ok(Draft { drawn, fed })
     }
 
     /// Adds the wires of a column.
@@ -55,24 +56,36 @@ impl Draft {
         first: u32,
         rows: u64,
     ) -> Result<(), NetlistRefusal>
-        requires fed { IsFed header.now.count self.old.wires.items self.old.fed.items }
+        requires sized { IsSized header.now.count self.old.drawn self.old.fed.items }
         requires some { 0 < rows }
         requires few { header.now.count ≤ MOST_ELEMENTS }
         requires read { rows ≤ greatest }
-        ensures added { OnOk result (ConnectsColumn header.now first rows
-            self.old.wires.items self.new.wires.items self.new.fed.items) }
-        ensures refused { IfErr result (RefusesBy
-            (column_fault header.now self.old.wires.items first rows) (first + 7)) }
+        ensures added { OnOk result ((ws : List Wire)
+            → AreKept header.now.count ws self.old.drawn self.old.fed.items
+            → ConnectsColumn header.now first rows ws self.new.drawn self.new.fed.items) }
+        ensures within { OnOk result (first + rows < header.now.count) }
+        ensures refused { IfErr result (λ r. (ws : List Wire)
+            → AreKept header.now.count ws self.old.drawn self.old.fed.items
+            → RefusesBy (column_fault header.now ws first rows) (first + 7) r) }
     {
         let inner = self.check_column(alloc, header, first, rows)?;
-        for index in 0..inner.len() {
-            let wire = inner[index];
-            let Ok(()) = self.wires.push(wire) else {
-                return Err(NetlistRefusal::NoMemory);
-            };
-            self.fed[4 * wire.to.element as usize + wire.to.line as usize] = true;
-        }
+        self.drawn.add(inner.as_slice());
+        self.mark(header.count, inner.as_slice());
         Ok(())
+    }
+
+    // Marks where these wires end.
+    fn mark(&mut self, count: u32, wires: &[Wire])
+        requires marks { length self.old.fed.items ≡ 4 * count }
+        requires fitting { AreFitting count wires.now }
+        ensures drawn { self.new.drawn ≡ self.old.drawn }
+        ensures marked { (ws : List Wire) → IsFed count ws self.old.fed.items
+            → IsFed count (ws ++ wires.now) self.new.fed.items }
+    {
+        for index in 0..wires.len() {
+            let to = wires[index].to;
+            self.fed[4 * to.element as usize + to.line as usize] = true;
+        }
     }
 
     /// Adds the wires of some outputs of an element, from this output on, of which `targets` says
@@ -85,14 +98,18 @@ impl Draft {
         targets: &[Option<(u64, u32)>],
         line: u64,
     ) -> Result<(), NetlistRefusal>
-        requires fed { IsFed header.now.count self.old.wires.items self.old.fed.items }
+        requires sized { IsSized header.now.count self.old.drawn self.old.fed.items }
+        requires there { element < header.now.count }
         requires nameable { AreNameable (named_targets targets.now) }
         requires four { output + length targets.now ≤ 4 }
-        ensures added { OnOk result (ConnectsAll header.now element output (named_targets targets.now)
-            self.old.wires.items self.new.wires.items self.new.fed.items) }
-        ensures refused { IfErr result (RefusesBy
-            (outputs_fault (header_then header.now []) self.old.wires.items
-            element output (named_targets targets.now)) line) }
+        ensures added { OnOk result ((ws : List Wire)
+            → AreKept header.now.count ws self.old.drawn self.old.fed.items
+            → ConnectsAll header.now element output (named_targets targets.now) ws self.new.drawn
+            self.new.fed.items) }
+        ensures refused { IfErr result (λ r. (ws : List Wire)
+            → AreKept header.now.count ws self.old.drawn self.old.fed.items
+            → RefusesBy (outputs_fault (header_then header.now []) ws element output (named_targets targets.now))
+            line r) }
     {
         for index in 0..targets.len() {
             let Some(to) = targets[index] else {
@@ -116,17 +133,19 @@ impl Draft {
         to: (u64, u32),
         line: u64,
     ) -> Result<(), NetlistRefusal>
-        requires fed { IsFed header.now.count self.old.wires.items self.old.fed.items }
+        requires sized { IsSized header.now.count self.old.drawn self.old.fed.items }
+        requires there { IsLineBelow header.now.count from }
         requires low { to.1 < 4 }
-        ensures added { OnOk result (Connects header.now from (named to)
-            self.old.wires.items self.new.wires.items self.new.fed.items) }
-        ensures refused { IfErr result (RefusesBy
-            (wire_fault (header_then header.now []) self.old.wires.items from (named to)) line) }
+        ensures added { OnOk result ((ws : List Wire)
+            → AreKept header.now.count ws self.old.drawn self.old.fed.items
+            → Connects header.now from (named to) ws self.new.drawn self.new.fed.items) }
+        ensures sized { OnOk result (IsSized header.now.count self.new.drawn self.new.fed.items) }
+        ensures refused { IfErr result (λ r. (ws : List Wire)
+            → AreKept header.now.count ws self.old.drawn self.old.fed.items
+            → RefusesBy (wire_fault (header_then header.now []) ws from (named to)) line r) }
     {
         let to = self.check(header, from, to, line)?;
-        let Ok(()) = self.wires.push(Wire { from, to }) else {
-            return Err(NetlistRefusal::NoMemory);
-        };
+        self.drawn.add(&[Wire { from, to }]);
         self.fed[4 * to.element as usize + to.line as usize] = true;
         Ok(())
     }
@@ -140,11 +159,11 @@ impl Draft {
         to: (u64, u32),
         line: u64,
     ) -> Result<Line, NetlistRefusal>
-        requires fed { IsFed header.now.count self.now.wires.items self.now.fed.items }
+        requires marks { length self.now.fed.items ≡ 4 * header.now.count }
         requires low { to.1 < 4 }
-        ensures { result ≡ tested
-            (wire_fault (header_then header.now []) self.now.wires.items from (named to))
-            line (named to) }
+        ensures tested { (ws : List Wire) → IsFed header.now.count ws self.now.fed.items
+            → result ≡ tested (wire_fault (header_then header.now []) ws from (named to)) line (named to) }
+        ensures there { IfOk result (λ l. IsLineBelow header.now.count l) }
     {
         let Some(to) = existing(to, header.count) else {
             return Err(NetlistRefusal::Target { line });
@@ -172,13 +191,15 @@ impl Draft {
         first: u32,
         rows: u64,
     ) -> Result<Vec<Wire>, NetlistRefusal>
-        requires fed { IsFed header.now.count self.now.wires.items self.now.fed.items }
+        requires marks { length self.now.fed.items ≡ 4 * header.now.count }
         requires some { 0 < rows }
         requires few { header.now.count ≤ MOST_ELEMENTS }
         requires read { rows ≤ greatest }
-        ensures found { IfOk result (λ v. IsInnerOf header.now self.now.wires.items first rows v.items) }
-        ensures refused { IfErr result (RefusesBy
-            (column_fault header.now self.now.wires.items first rows) (first + 7)) }
+        ensures inner { IfOk result (λ v. IsInnerOf header.now first rows v.items) }
+        ensures faultless { OnOk result ((ws : List Wire) → IsFed header.now.count ws self.now.fed.items
+            → column_fault header.now ws first rows ≡ None) }
+        ensures refused { IfErr result (λ r. (ws : List Wire) → IsFed header.now.count ws self.now.fed.items
+            → RefusesBy (column_fault header.now ws first rows) (first + 7) r) }
     {
         let line = u64::from(first) + 7;
         if u64::from(first) + rows >= u64::from(header.count) {
@@ -204,10 +225,11 @@ impl Draft {
 
     // Whether a wire ends where one of these wires does.
     fn are_fed(&self, count: u32, wires: &[Wire]) -> bool
-        requires fed { IsFed count self.now.wires.items self.now.fed.items }
+        requires marks { length self.now.fed.items ≡ 4 * count }
         requires within { (n : ℕ) (w : Wire) → slice_get wires.now n ≡ Some w →
             (w.to.element < count) × (w.to.line < 4) }
-        ensures { result ≡ some_wire (λ w. is_some (source self.now.wires.items w.to)) wires.now }
+        ensures { (ws : List Wire) → IsFed count ws self.now.fed.items
+            → result ≡ some_wire (λ w. is_some (source ws w.to)) wires.now }
     {
         for index in 0..wires.len() {
             if self.is_fed(wires[index].to) {

@@ -6,7 +6,7 @@ ghost use Rattle.bn_net.specs.declared.net.TheConstants.{MOST_ELEMENTS};
 ghost use Rattle.bn_base.specs.Number.{greatest};
 ghost use Rattle.bn_netlist_laws.specs.Sentences.{AreNameable};
 ghost use Rattle.bn_netlist_laws.specs.Reading.{named_target, named_targets};
-ghost use Rattle.bn_netlist.specs.Drafting.{IsFed};
+ghost use Rattle.bn_netlist.specs.Drafting.{IsSized};
 ghost use Rattle.bn_netlist_laws.specs.Sentences.{Sentence, Element, Column, Row};
 ghost use Rattle.bn_netlist_laws.specs.Faults.{fault_of};
 ghost use Rattle.bn_netlist_laws.specs.Spelling.{header_then};
@@ -37,8 +37,9 @@ pub struct Entries {
 impl Entries {
     /// No entry, with room for so many elements.
     pub fn new(alloc: Global, count: u32) -> Result<Entries, NetlistRefusal>
+        requires { count ≤ MOST_ELEMENTS }
         ensures none { IfOk result (λ e. (h : Header) → h.count ≡ count
-            → Holds h [] e.lines e.rows e.states.items e.own.items e.ends.wires.items e.ends.fed.items) }
+            → Holds h [] e.lines e.rows e.states.items e.own.items e.ends.drawn e.ends.fed.items) }
         ensures refused { IfErr result (λ r. r ≡ NetlistRefusal.NoMemory) }
     {
         let Ok(states) = Vec::with_capacity(alloc, count as usize) else {
@@ -64,7 +65,7 @@ impl Entries {
         east: Option<(u64, u32)>,
         west: Option<(u64, u32)>,
     ) -> Result<(), NetlistRefusal>
-        requires fed { IsFed header.now.count self.old.ends.wires.items self.old.ends.fed.items }
+        requires sized { IsSized header.now.count self.old.ends.drawn self.old.ends.fed.items }
         requires nameable { AreNameable (named_targets (east ∷ None ∷ west ∷ [])) }
         requires few { header.now.count ≤ MOST_ELEMENTS }
         requires some { 0 < self.old.rows }
@@ -72,13 +73,13 @@ impl Entries {
         requires room { self.old.lines < header.now.count }
         ensures read { OnOk result ((rows : List Sentence)
             → Holds header.now rows self.old.lines self.old.rows self.old.states.items self.old.own.items
-            self.old.ends.wires.items self.old.ends.fed.items
+            self.old.ends.drawn self.old.ends.fed.items
             → Reads header.now rows (Row (named_target east) (named_target west))
             self.new.lines self.new.rows self.new.states.items self.new.own.items
-            self.new.ends.wires.items self.new.ends.fed.items) }
+            self.new.ends.drawn self.new.ends.fed.items) }
         ensures refused { IfErr result (λ r. (rows : List Sentence)
             → Holds header.now rows self.old.lines self.old.rows self.old.states.items self.old.own.items
-            self.old.ends.wires.items self.old.ends.fed.items
+            self.old.ends.drawn self.old.ends.fed.items
             → RefusesBy (fault_of (header_then header.now rows) (Row (named_target east) (named_target west)))
             (length rows + 7) r) }
     {
@@ -99,19 +100,19 @@ impl Entries {
         state: u32,
         targets: &[Option<(u64, u32)>; 4],
     ) -> Result<(), NetlistRefusal>
-        requires fed { IsFed header.now.count self.old.ends.wires.items self.old.ends.fed.items }
+        requires sized { IsSized header.now.count self.old.ends.drawn self.old.ends.fed.items }
         requires nameable { AreNameable (named_targets targets.now) }
         requires few { header.now.count ≤ MOST_ELEMENTS }
         requires room { self.old.lines < header.now.count }
         ensures read { OnOk result ((rows : List Sentence)
             → Holds header.now rows self.old.lines self.old.rows self.old.states.items self.old.own.items
-            self.old.ends.wires.items self.old.ends.fed.items
+            self.old.ends.drawn self.old.ends.fed.items
             → Reads header.now rows (Element number state (named_targets targets.now))
             self.new.lines self.new.rows self.new.states.items self.new.own.items
-            self.new.ends.wires.items self.new.ends.fed.items) }
+            self.new.ends.drawn self.new.ends.fed.items) }
         ensures refused { IfErr result (λ r. (rows : List Sentence)
             → Holds header.now rows self.old.lines self.old.rows self.old.states.items self.old.own.items
-            self.old.ends.wires.items self.old.ends.fed.items
+            self.old.ends.drawn self.old.ends.fed.items
             → RefusesBy (fault_of (header_then header.now rows) (Element number state (named_targets targets.now)))
             (length rows + 7) r) }
     {
@@ -140,20 +141,20 @@ impl Entries {
         rows: u64,
         state: u32,
     ) -> Result<(), NetlistRefusal>
-        requires fed { IsFed header.now.count self.old.ends.wires.items self.old.ends.fed.items }
+        requires sized { IsSized header.now.count self.old.ends.drawn self.old.ends.fed.items }
         requires few { header.now.count ≤ MOST_ELEMENTS }
         requires some { 0 < rows }
         requires small { rows ≤ greatest }
         requires room { self.old.lines < header.now.count }
         ensures read { OnOk result ((done : List Sentence)
             → Holds header.now done self.old.lines self.old.rows self.old.states.items self.old.own.items
-            self.old.ends.wires.items self.old.ends.fed.items
+            self.old.ends.drawn self.old.ends.fed.items
             → Reads header.now done (Column number rows state)
             self.new.lines self.new.rows self.new.states.items self.new.own.items
-            self.new.ends.wires.items self.new.ends.fed.items) }
+            self.new.ends.drawn self.new.ends.fed.items) }
         ensures refused { IfErr result (λ r. (done : List Sentence)
             → Holds header.now done self.old.lines self.old.rows self.old.states.items self.old.own.items
-            self.old.ends.wires.items self.old.ends.fed.items
+            self.old.ends.drawn self.old.ends.fed.items
             → RefusesBy (fault_of (header_then header.now done) (Column number rows state))
             (length done + 7) r) }
     {
@@ -174,7 +175,7 @@ impl Entries {
             ≡ self.old.states.items ++ (replicate rows 1 ++ state ∷ [])) }
         ensures own { OnOk result (self.new.own.items
             ≡ self.old.own.items ++ (replicate rows false ++ false ∷ [])) }
-        ensures wires { self.new.ends.wires.items ≡ self.old.ends.wires.items }
+        ensures drawn { self.new.ends.drawn ≡ self.old.ends.drawn }
         ensures marks { self.new.ends.fed.items ≡ self.old.ends.fed.items }
         ensures lines { self.new.lines ≡ self.old.lines }
         ensures refused { IfErr result (λ r. r ≡ NetlistRefusal.NoMemory) }

@@ -28,11 +28,11 @@ impl Entries {
     ) -> Result<C, NetlistRefusal>
         requires few { header.now.count ≤ MOST_ELEMENTS }
         requires whole { IsWholeDraft header.now self.lines self.rows self.states.items self.own.items
-            self.ends.wires.items self.ends.fed.items }
+            self.ends.drawn self.ends.fed.items }
         ensures made { IfOk result (λ c. SpellsAll header.now self.lines self.rows self.states.items self.own.items
-            self.ends.wires.items self.ends.fed.items (C.version c) (C.spelling c)) }
+            self.ends.drawn self.ends.fed.items (C.version c) (C.spelling c)) }
         ensures refused { IfErr result (λ r. RefusesAll header.now self.lines self.rows self.states.items
-            self.own.items self.ends.wires.items self.ends.fed.items r) }
+            self.own.items self.ends.drawn self.ends.fed.items r) }
     {
         let Entries {
             states,
@@ -40,12 +40,9 @@ impl Entries {
             ends,
             ..
         } = self;
-        // What is made stands beside the wires of the list for a while, and they are most of what this call
-        // takes: no room is kept.
-        let Draft { mut wires, fed } = ends;
+        let Draft { drawn, fed } = ends;
         drop(fed);
-        wires.shrink_to_fit();
-        let Ok(made) = C::from_wires(alloc, header, wires, states) else {
+        let Ok(made) = C::from_draft(alloc, header, drawn, states) else {
             return Err(NetlistRefusal::NoMemory);
         };
         if let Some(element) = spelled_out_in(&made, own.as_slice()) {

@@ -40,8 +40,6 @@ pub use bn_netlist_laws::{
 pub use bytes::Cursor;
 pub use column::column_at;
 pub use column_lines::column_rows;
-pub use draft::Draft;
-pub use entries::Entries;
 pub use forms::{column_of, element_of, named_after, number_after, sides_of, version_of};
 pub use from_wires::FromWires;
 pub use front::LONGEST_LINE;

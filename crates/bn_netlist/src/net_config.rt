@@ -2,11 +2,12 @@
 
 use crate::from_wires::FromWires;
 use crate::spellable::Spellable;
-use bn_circuits::{Config, Line, Place, States, Wire};
+use bn_circuits::{Config, Line, Place, States};
 use bn_element::Rotary;
 use bn_lists::NoMemory;
 use bn_net::Net;
 use bn_netlist_laws::{Header, Version};
+use bn_packed::{Draft, Packed};
 use std::alloc::Global;
 
 /// A net of rotary elements in a configuration, with the two lines that its text names, and the
@@ -68,22 +69,24 @@ impl Spellable for NetConfig {
 }
 
 impl FromWires for NetConfig {
-    fn from_wires(
+    fn from_draft(
         alloc: Global,
         header: &Header,
-        wires: Vec<Wire>,
+        drawn: Draft,
         states: Vec<u32>,
     ) -> Result<NetConfig, NoMemory> {
-        let elements = vec![in alloc; Rotary; header.count as usize]?;
-        let net = Net::new(alloc, elements, &wires)?;
+        let config = Config {
+            states: States::new(states),
+            place: header.place,
+            steps: header.steps,
+        };
+        let packed = Packed::from_draft(alloc, drawn, config)?;
+        let net = packed.to_net(alloc)?;
+        let config = packed.to_config(alloc)?;
         Ok(NetConfig {
             version: header.version,
             net,
-            config: Config {
-                states: States::new(states),
-                place: header.place,
-                steps: header.steps,
-            },
+            config,
             start: header.start,
             end: header.end,
         })

@@ -2,10 +2,10 @@
 
 use crate::from_wires::FromWires;
 use crate::spellable::Spellable;
-use bn_circuits::{Config, Line, Place, States, Wire};
+use bn_circuits::{Config, Line, Place, States};
 use bn_lists::NoMemory;
 use bn_netlist_laws::{Header, Version};
-use bn_packed::Packed;
+use bn_packed::{Draft, Packed};
 use std::alloc::Global;
 
 /// A packed net of rotary elements in a configuration, with the two lines that its text names, and the version of that
@@ -66,10 +66,10 @@ impl Spellable for PackedConfig {
 }
 
 impl FromWires for PackedConfig {
-    fn from_wires(
+    fn from_draft(
         alloc: Global,
         header: &Header,
-        wires: Vec<Wire>,
+        drawn: Draft,
         states: Vec<u32>,
     ) -> Result<PackedConfig, NoMemory> {
         let config = Config {
@@ -77,7 +77,7 @@ impl FromWires for PackedConfig {
             place: header.place,
             steps: header.steps,
         };
-        let packed = Packed::from_wires(alloc, header.count, wires, config)?;
+        let packed = Packed::from_draft(alloc, drawn, config)?;
         Ok(PackedConfig {
             version: header.version,
             packed,

@@ -40,6 +40,7 @@ pub fn read_text<C: FromWires, I: Input>(
         Rose (I.faults input.old) (I.faults input.new) }
     ensures stays { StaysUnless (IsErrOf result FromRefusal.ReadFault) (I.faults input.old)
         (I.faults input.new) }
+    ensures in_time { I.open input.old → I.overrun input.new → I.overrun input.old }
 {
     let pieces = read_input(alloc, input, limit)?;
     config_of(alloc, pieces)
@@ -62,6 +63,7 @@ pub fn read_config_from<S: Source>(
         Rose (S.faults source.old) (S.faults source.new) }
     ensures stays { StaysUnless (IsErrOf result FromRefusal.ReadFault) (S.faults source.old)
         (S.faults source.new) }
+    ensures in_time { S.open source.old → S.overrun source.new → S.overrun source.old }
 {
     read_text(alloc, source, limit)
 }
@@ -94,16 +96,18 @@ fn read_input<I: Input>(alloc: Global, input: &mut I, limit: u64) -> Result<Piec
         Rose (I.faults input.old) (I.faults input.new) }
     ensures stays { StaysUnless (IsErrOf result FromRefusal.ReadFault) (I.faults input.old)
         (I.faults input.new) }
+    ensures in_time { I.open input.old → I.overrun input.new → I.overrun input.old }
 {
     let Ok(start) = Pieces::new(alloc) else {
         return Err(FromRefusal::NoMemory);
     };
     match input.rest() {
         Some(bytes) if bytes.len() as u64 <= limit => {
+            let count = bytes.len();
             let Ok(pieces) = start.push(alloc, bytes) else {
                 return Err(FromRefusal::NoMemory);
             };
-            input.take_rest();
+            input.take_lent(count);
             Ok(pieces)
         }
         _ => {
@@ -135,6 +139,7 @@ fn read_pieces<I: Input>(
         Rose (I.faults input.old) (I.faults input.new) }
     ensures stays { StaysUnless (IsErrOf result FromRefusal.ReadFault) (I.faults input.old)
         (I.faults input.new) }
+    ensures in_time { I.open input.old → I.overrun input.new → I.overrun input.old }
 {
     let mut pieces = start;
     let mut taken: u64 = 0;
@@ -161,12 +166,14 @@ fn read_piece<I: Input>(input: &mut I, buffer: &mut [u8], room: u64) -> Result<u
     ensures bound { IfOk result (λ c. c ≤ length buffer.old) }
     ensures within { IfOk result (λ c. c ≤ room) }
     ensures ended { IfOk result (λ c. c ≡ 0 → Ends (I.left input.old) (I.left input.new)) }
+    ensures goes_on { IfOk result (λ c. 0 < c → I.open input.old → I.open input.new) }
     ensures no_text { IfErr result (λ r. HasWhole r → ⊥) }
     ensures later { I.faults input.old ≤ I.faults input.new }
     ensures read_fault { IsErrOf result FromRefusal.ReadFault →
         Rose (I.faults input.old) (I.faults input.new) }
     ensures stays { StaysUnless (IsErrOf result FromRefusal.ReadFault) (I.faults input.old)
         (I.faults input.new) }
+    ensures in_time { I.open input.old → I.overrun input.new → I.overrun input.old }
 {
     let asked = piece_size(room, buffer.len());
     let count = match input.take(&mut buffer[..asked]) {

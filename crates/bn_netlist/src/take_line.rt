@@ -2,7 +2,7 @@
 
 ghost use Rattle.std.specs.Prelude.{◌≡◌, ◌+◌, ◌<◌, ◌≤◌, ◌++◌, ◌∷◌, [], List, OnOk, IfErr, None};
 ghost use Rattle.bn_net.specs.declared.net.TheConstants.{MOST_ELEMENTS};
-ghost use Rattle.bn_netlist.specs.Drafting.{IsFed};
+ghost use Rattle.bn_netlist.specs.Drafting.{IsSized};
 ghost use Rattle.bn_netlist_laws.specs.Sentences.{Sentence};
 ghost use Rattle.bn_netlist_laws.specs.Spelling.{header_then};
 ghost use Rattle.bn_netlist.specs.Drafting.{Holds};
@@ -23,19 +23,19 @@ impl Entries {
         header: &Header,
         line: &[u8],
     ) -> Result<(), NetlistRefusal>
-        requires fed { IsFed header.now.count self.old.ends.wires.items self.old.ends.fed.items }
+        requires sized { IsSized header.now.count self.old.ends.drawn self.old.ends.fed.items }
         requires few { header.now.count ≤ MOST_ELEMENTS }
         requires room { self.old.lines < header.now.count }
         requires begun { 0 < self.old.rows → 0 < self.old.lines }
         ensures read { OnOk result ((rows : List Sentence)
             → Holds header.now rows self.old.lines self.old.rows self.old.states.items self.old.own.items
-            self.old.ends.wires.items self.old.ends.fed.items
+            self.old.ends.drawn self.old.ends.fed.items
             → (x : Sentence) × TakesLine (header_then header.now rows) line.now x
             × Holds header.now (rows ++ x ∷ []) self.new.lines self.new.rows self.new.states.items
-            self.new.own.items self.new.ends.wires.items self.new.ends.fed.items) }
+            self.new.own.items self.new.ends.drawn self.new.ends.fed.items) }
         ensures refused { IfErr result (λ r. (rows : List Sentence)
             → Holds header.now rows self.old.lines self.old.rows self.old.states.items self.old.own.items
-            self.old.ends.wires.items self.old.ends.fed.items
+            self.old.ends.drawn self.old.ends.fed.items
             → RefusesLine (header_then header.now rows) line.now r) }
     {
         if self.rows > 0 {
@@ -47,20 +47,20 @@ impl Entries {
 
     // Takes the line of a row.
     fn take_row_line(&mut self, header: &Header, line: &[u8]) -> Result<(), NetlistRefusal>
-        requires fed { IsFed header.now.count self.old.ends.wires.items self.old.ends.fed.items }
+        requires sized { IsSized header.now.count self.old.ends.drawn self.old.ends.fed.items }
         requires few { header.now.count ≤ MOST_ELEMENTS }
         requires room { self.old.lines < header.now.count }
         requires some { 0 < self.old.rows }
         requires begun { 0 < self.old.lines }
         ensures read { OnOk result ((rows : List Sentence)
             → Holds header.now rows self.old.lines self.old.rows self.old.states.items self.old.own.items
-            self.old.ends.wires.items self.old.ends.fed.items
+            self.old.ends.drawn self.old.ends.fed.items
             → (x : Sentence) × TakesLine (header_then header.now rows) line.now x
             × Holds header.now (rows ++ x ∷ []) self.new.lines self.new.rows self.new.states.items
-            self.new.own.items self.new.ends.wires.items self.new.ends.fed.items) }
+            self.new.own.items self.new.ends.drawn self.new.ends.fed.items) }
         ensures refused { IfErr result (λ r. (rows : List Sentence)
             → Holds header.now rows self.old.lines self.old.rows self.old.states.items self.old.own.items
-            self.old.ends.wires.items self.old.ends.fed.items
+            self.old.ends.drawn self.old.ends.fed.items
             → RefusesLine (header_then header.now rows) line.now r) }
     {
         let Some((east, west)) = sides_of(line) else {
@@ -78,19 +78,19 @@ impl Entries {
         header: &Header,
         line: &[u8],
     ) -> Result<(), NetlistRefusal>
-        requires fed { IsFed header.now.count self.old.ends.wires.items self.old.ends.fed.items }
+        requires sized { IsSized header.now.count self.old.ends.drawn self.old.ends.fed.items }
         requires few { header.now.count ≤ MOST_ELEMENTS }
         requires room { self.old.lines < header.now.count }
         requires none { self.old.rows ≡ 0 }
         ensures read { OnOk result ((rows : List Sentence)
             → Holds header.now rows self.old.lines self.old.rows self.old.states.items self.old.own.items
-            self.old.ends.wires.items self.old.ends.fed.items
+            self.old.ends.drawn self.old.ends.fed.items
             → (x : Sentence) × TakesLine (header_then header.now rows) line.now x
             × Holds header.now (rows ++ x ∷ []) self.new.lines self.new.rows self.new.states.items
-            self.new.own.items self.new.ends.wires.items self.new.ends.fed.items) }
+            self.new.own.items self.new.ends.drawn self.new.ends.fed.items) }
         ensures refused { IfErr result (λ r. (rows : List Sentence)
             → Holds header.now rows self.old.lines self.old.rows self.old.states.items self.old.own.items
-            self.old.ends.wires.items self.old.ends.fed.items
+            self.old.ends.drawn self.old.ends.fed.items
             → RefusesLine (header_then header.now rows) line.now r) }
     {
         match element_of(line) {
@@ -106,20 +106,20 @@ impl Entries {
         header: &Header,
         line: &[u8],
     ) -> Result<(), NetlistRefusal>
-        requires fed { IsFed header.now.count self.old.ends.wires.items self.old.ends.fed.items }
+        requires sized { IsSized header.now.count self.old.ends.drawn self.old.ends.fed.items }
         requires few { header.now.count ≤ MOST_ELEMENTS }
         requires room { self.old.lines < header.now.count }
         requires none { self.old.rows ≡ 0 }
         requires other { element_of line.now ≡ None }
         ensures read { OnOk result ((rows : List Sentence)
             → Holds header.now rows self.old.lines self.old.rows self.old.states.items self.old.own.items
-            self.old.ends.wires.items self.old.ends.fed.items
+            self.old.ends.drawn self.old.ends.fed.items
             → (x : Sentence) × TakesLine (header_then header.now rows) line.now x
             × Holds header.now (rows ++ x ∷ []) self.new.lines self.new.rows self.new.states.items
-            self.new.own.items self.new.ends.wires.items self.new.ends.fed.items) }
+            self.new.own.items self.new.ends.drawn self.new.ends.fed.items) }
         ensures refused { IfErr result (λ r. (rows : List Sentence)
             → Holds header.now rows self.old.lines self.old.rows self.old.states.items self.old.own.items
-            self.old.ends.wires.items self.old.ends.fed.items
+            self.old.ends.drawn self.old.ends.fed.items
             → RefusesLine (header_then header.now rows) line.now r) }
     {
         let here = u64::from(self.lines) + 7;

@@ -80,13 +80,3 @@ added_all count e now vs n fitting all added ws drawn apart =
       fitting = fitting_both count ws vs drawn.fitting fitting;
       ends = subst (λ xs. AreEndsOf (ahead xs) count now) whole (added ws drawn apart);
     }
-
--- wires put in where there were none
-pub drawn_alone : (count : ℕ) (e now : EndList) (vs : List Wire) → e.elements ≡ count
-    → e.ends ≡ replicate (4 * count) None → AreApart vs
-    → ((ws : List Wire) → AreDrawn e.elements ws e → AreApart (ws ++ vs) → AreDrawn e.elements (ws ++ vs) now)
-    → AreEndsOf (ahead vs) count now
-drawn_alone count e now vs elements ends apart added =
-    let none : AreDrawn e.elements [] e = subst (λ n. AreDrawn n [] e) (sym elements) (drawn_none count e elements ends)
-    in
-    subst (λ n. AreEndsOf (ahead vs) n now) elements (added [] none apart).ends

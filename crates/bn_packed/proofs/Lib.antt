@@ -11,3 +11,4 @@ pub mod ReversedLemmas
 pub mod LooseLemmas
 pub mod StepLemmas
 pub mod PutLemmas
+pub mod CopiedLemmas

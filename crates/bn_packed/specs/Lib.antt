@@ -6,3 +6,4 @@ pub mod Ways
 pub mod PackedNets
 pub mod Running
 pub mod Stopping
+pub mod CopiedWires

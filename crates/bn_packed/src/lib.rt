@@ -10,6 +10,7 @@ mod ends;
 mod packed;
 mod signal;
 mod stop;
+mod to_net;
 mod walk;
 mod wires;
 mod wiring;

@@ -73,39 +73,6 @@ impl Packed {
         })
     }
 
-    /// Packs so many elements with the wires of this list, in this configuration. No net is made beside it;
-    /// the states go as soon as the bars are packed, and the list as soon as it is known where each line leads.
-    pub fn from_wires(
-        alloc: Global,
-        count: u32,
-        wires: Vec<Wire>,
-        config: Config,
-    ) -> Result<Packed, NoMemory>
-        requires apart { AreApart wires.items }
-        requires fitting { AreFitting count wires.items }
-        requires good { (net : Parts Rotary) → IsNetOf net count wires.items → IsConfig (rotary_circuit net) config }
-        ensures net { IfOk result (λ p. IsNetOf p.net count wires.items) }
-        ensures circuit { IfOk result (λ p. IsCircuit (rotary_circuit p.net)) }
-        ensures order { IfOk result (λ p. AreInOrder p.net.wires) }
-        ensures config { IfOk result (λ p. p.config ≡ config) }
-    {
-        let Config {
-            states,
-            place,
-            steps,
-        } = config;
-        let bars = Bars::of(alloc, states.as_slice())?;
-        drop(states);
-        let wires = Wires::from_wires(alloc, count, wires)?;
-        // (for the prover: the contract of this call tells what the type keeps. So below.)
-        let _elements = wires.len();
-        Ok(Packed {
-            wires,
-            bars,
-            signal: Signal { place, steps },
-        })
-    }
-
     /// Packs the net of a draft, in this configuration. The states go as soon as the bars are packed.
     pub fn from_draft(alloc: Global, draft: Draft, config: Config) -> Result<Packed, NoMemory>
         requires drawn { (ws : List Wire) × AreDrawn draft.elements ws draft }
@@ -125,6 +92,7 @@ impl Packed {
         let bars = Bars::of(alloc, states.as_slice())?;
         drop(states);
         let wires = Wires::from_draft(alloc, draft)?;
+        // (for the prover: the contract of this call tells what the type keeps.)
         let _elements = wires.len();
         Ok(Packed {
             wires,

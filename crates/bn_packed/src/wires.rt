@@ -42,20 +42,6 @@ impl Wires {
         }
     }
 
-    /// The wires of this list between the lines of so many elements.
-    pub(crate) fn from_wires(alloc: Global, count: u32, wires: Vec<Wire>) -> Result<Wires, NoMemory>
-        requires apart { AreApart wires.items }
-        requires fitting { AreFitting count wires.items }
-        ensures net { IfOk result (λ w. IsNetOf (net_in w) count wires.items) }
-        ensures order { IfOk result (λ w. AreInOrder (net_in w).wires) }
-    {
-        if count <= NARROW {
-            Ok(Wires::Narrow(Wiring::from_wires(alloc, count, wires)?))
-        } else {
-            Ok(Wires::Wide(Wiring::from_wires(alloc, count, wires)?))
-        }
-    }
-
     /// The wires of this draft.
     pub(crate) fn from_draft(alloc: Global, draft: Draft) -> Result<Wires, NoMemory>
         requires { (ws : List Wire) × AreDrawn draft.elements ws draft }

@@ -52,24 +52,6 @@ impl<C: Cell> Wiring<C> {
         Wiring::from_ahead(alloc, ahead_of(alloc, net)?)
     }
 
-    /// The wires of this list between the lines of so many elements. No net is made beside it, and the list goes before
-    /// room is taken for the way back.
-    pub(crate) fn from_wires(
-        alloc: Global,
-        count: u32,
-        wires: Vec<Wire>,
-    ) -> Result<Wiring<C>, NoMemory>
-        requires few { count ≤ C.limit }
-        requires apart { AreApart wires.items }
-        requires fitting { AreFitting count wires.items }
-        ensures net { IfOk result (λ w. IsNetOf w.net count wires.items) }
-        ensures order { IfOk result (λ w. AreInOrder w.net.wires) }
-    {
-        let ahead = ahead_in(alloc, count, wires.as_slice())?;
-        drop(wires);
-        Wiring::from_ahead(alloc, ahead)
-    }
-
     /// The wires by which lines lead on so.
     pub(crate) fn from_ahead(alloc: Global, ahead: Ends<C>) -> Result<Wiring<C>, NoMemory>
         requires { AreTargets ahead }
@@ -152,17 +134,5 @@ fn ahead_of<C: Cell>(alloc: Global, net: &Net<Rotary>) -> Result<Ends<C>, NoMemo
             ends.set(line, to);
         }
     }
-    Ok(ends)
-}
-
-// Where it comes next by the wires of this list.
-fn ahead_in<C: Cell>(alloc: Global, count: u32, wires: &[Wire]) -> Result<Ends<C>, NoMemory>
-    requires few { count ≤ C.limit }
-    requires apart { AreApart wires.now }
-    requires fitting { AreFitting count wires.now }
-    ensures { IfOk result (AreEndsOf (ahead wires.now) count) }
-{
-    let mut ends = Ends::loose(alloc, count)?;
-    ends.lead(wires);
     Ok(ends)
 }

@@ -35,4 +35,6 @@ loop-pieces-preserved g c =
       omega arith,
       subst (λ (z : List ℕ). HaveCome c.in-Ok.next (i.0 ++ z)) (sym t.2) (come i.0 i.5),
       e.stays (λ f. cc) ∙ i.6,
+      λ is_open. e.goes_on (omega arith) (i.7 is_open),
+      λ is_open late. i.8 is_open (e.in_time (i.7 is_open) late),
     )

@@ -14,7 +14,7 @@ use Rattle.bn_netlist.proofs.draft.Draft.check_column.Goals as goal
 pub returns-then-from-rows-clause-refused : goal.returns-then-from-rows-clause-refused
 returns-then-from-rows-clause-refused c =
     let same : c.from-line.result ≡ c.args.first = omega arith in
-    finds no_element (fault_target c.args.header.now c.args.self.now.wires.items c.args.first c.args.rows
+    λ ws fed. finds no_element (fault_target c.args.header.now ws c.args.first c.args.rows
     (inner_wires c.args.first c.args.rows) refl (omega (arith, c.if-from-rows.true)))
     (ap (λ (n : ℕ). Target (n + 7)) same)
 
@@ -34,57 +34,57 @@ pub returns-then-leave-clause-refused : goal.returns-then-leave-clause-refused
 returns-then-leave-clause-refused c =
     let same : c.from-line.result ≡ c.args.first = omega arith in
     let within : c.args.first + c.args.rows < c.args.header.now.count = omega (arith, c.if-from-rows.false) in
-    finds end_wired (fault_end c.args.header.now c.args.self.now.wires.items c.args.first c.args.rows
-    c.in-Ok.inner.items c.in-Ok.ensures within (subst (λ ws. true
-    ≡ some_wire (λ w. same_line c.args.header.now.end w.from) ws) c.as_slice.ensures.value c.if-leave.ensures))
+    λ ws fed. finds end_wired (fault_end c.args.header.now ws c.args.first c.args.rows
+    c.in-Ok.inner.items c.in-Ok.ensures within (subst (λ us. true
+    ≡ some_wire (λ w. same_line c.args.header.now.end w.from) us) c.as_slice.ensures.value c.if-leave.ensures))
     (ap (λ (n : ℕ). EndWired (n + 7)) same)
 
 pub returns-then-leave_behind-clause-refused : goal.returns-then-leave_behind-clause-refused
 returns-then-leave_behind-clause-refused c =
     let same : c.from-line.result ≡ c.args.first = omega arith in
     let within : c.args.first + c.args.rows < c.args.header.now.count = omega (arith, c.if-from-rows.false) in
-    finds left_wired (fault_left c.args.header.now c.args.self.now.wires.items c.args.first c.args.rows
-    c.in-Ok.inner.items c.in-Ok.ensures within (subst (λ ws. false
-    ≡ some_wire (λ w. same_line c.args.header.now.end w.from) ws) c.as_slice.ensures.value c.if-leave.ensures)
-    (subst (λ ws. true ≡ some_wire (λ w. is_left_by c.args.header.now.place w.from) ws) c.as_slice-2.ensures.value
+    λ ws fed. finds left_wired (fault_left c.args.header.now ws c.args.first c.args.rows
+    c.in-Ok.inner.items c.in-Ok.ensures within (subst (λ us. false
+    ≡ some_wire (λ w. same_line c.args.header.now.end w.from) us) c.as_slice.ensures.value c.if-leave.ensures)
+    (subst (λ us. true ≡ some_wire (λ w. is_left_by c.args.header.now.place w.from) us) c.as_slice-2.ensures.value
     c.if-leave_behind.ensures)) (ap (λ (n : ℕ). LeftWired (n + 7)) same)
 
 pub returns-then-end_at-clause-refused : goal.returns-then-end_at-clause-refused
 returns-then-end_at-clause-refused c =
     let same : c.from-line.result ≡ c.args.first = omega arith in
     let within : c.args.first + c.args.rows < c.args.header.now.count = omega (arith, c.if-from-rows.false) in
-    finds start_fed (fault_start c.args.header.now c.args.self.now.wires.items c.args.first c.args.rows
-    c.in-Ok.inner.items c.in-Ok.ensures within (subst (λ ws. false
-    ≡ some_wire (λ w. same_line c.args.header.now.end w.from) ws) c.as_slice.ensures.value c.if-leave.ensures)
-    (subst (λ ws. false ≡ some_wire (λ w. is_left_by c.args.header.now.place w.from) ws) c.as_slice-2.ensures.value
-    c.if-leave_behind.ensures) (subst (λ ws. true ≡ some_wire (λ w. same_line c.args.header.now.start w.to) ws)
+    λ ws fed. finds start_fed (fault_start c.args.header.now ws c.args.first c.args.rows
+    c.in-Ok.inner.items c.in-Ok.ensures within (subst (λ us. false
+    ≡ some_wire (λ w. same_line c.args.header.now.end w.from) us) c.as_slice.ensures.value c.if-leave.ensures)
+    (subst (λ us. false ≡ some_wire (λ w. is_left_by c.args.header.now.place w.from) us) c.as_slice-2.ensures.value
+    c.if-leave_behind.ensures) (subst (λ us. true ≡ some_wire (λ w. same_line c.args.header.now.start w.to) us)
     c.as_slice-3.ensures.value c.if-end_at.ensures)) (ap (λ (n : ℕ). StartFed (n + 7)) same)
 
 pub returns-then-are_fed-clause-refused : goal.returns-then-are_fed-clause-refused
 returns-then-are_fed-clause-refused c =
     let same : c.from-line.result ≡ c.args.first = omega arith in
     let within : c.args.first + c.args.rows < c.args.header.now.count = omega (arith, c.if-from-rows.false) in
-    finds second_source (fault_source c.args.header.now c.args.self.now.wires.items c.args.first c.args.rows
-    c.in-Ok.inner.items c.in-Ok.ensures within (subst (λ ws. false
-    ≡ some_wire (λ w. same_line c.args.header.now.end w.from) ws) c.as_slice.ensures.value c.if-leave.ensures)
-    (subst (λ ws. false ≡ some_wire (λ w. is_left_by c.args.header.now.place w.from) ws) c.as_slice-2.ensures.value
-    c.if-leave_behind.ensures) (subst (λ ws. false ≡ some_wire (λ w. same_line c.args.header.now.start w.to) ws)
-    c.as_slice-3.ensures.value c.if-end_at.ensures) (subst (λ ws. true
-    ≡ some_wire (λ w. is_some (source c.args.self.now.wires.items w.to)) ws) c.as_slice-4.ensures.value
-    c.if-are_fed.ensures)) (ap (λ (n : ℕ). TwoSources (n + 7)) same)
+    λ ws fed. finds second_source (fault_source c.args.header.now ws c.args.first c.args.rows
+    c.in-Ok.inner.items c.in-Ok.ensures within (subst (λ us. false
+    ≡ some_wire (λ w. same_line c.args.header.now.end w.from) us) c.as_slice.ensures.value c.if-leave.ensures)
+    (subst (λ us. false ≡ some_wire (λ w. is_left_by c.args.header.now.place w.from) us) c.as_slice-2.ensures.value
+    c.if-leave_behind.ensures) (subst (λ us. false ≡ some_wire (λ w. same_line c.args.header.now.start w.to) us)
+    c.as_slice-3.ensures.value c.if-end_at.ensures) (subst (λ us. true
+    ≡ some_wire (λ w. is_some (source ws w.to)) us) c.as_slice-4.ensures.value
+    (c.if-are_fed.ensures ws fed))) (ap (λ (n : ℕ). TwoSources (n + 7)) same)
 
-pub returns-clause-found : goal.returns-clause-found
-returns-clause-found c =
+pub returns-clause-inner : goal.returns-clause-inner
+returns-clause-inner c =
+    record { are = c.in-Ok.ensures; within = omega (arith, c.if-from-rows.false) }
+
+pub returns-clause-faultless : goal.returns-clause-faultless
+returns-clause-faultless c =
     let within : c.args.first + c.args.rows < c.args.header.now.count = omega (arith, c.if-from-rows.false) in
-    record {
-      are = c.in-Ok.ensures;
-      within = within;
-      faultless = fault_none c.args.header.now c.args.self.now.wires.items c.args.first c.args.rows c.in-Ok.inner.items
-          c.in-Ok.ensures within (subst (λ ws. false ≡ some_wire (λ w. same_line c.args.header.now.end w.from) ws)
-          c.as_slice.ensures.value c.if-leave.ensures) (subst (λ ws. false
-          ≡ some_wire (λ w. is_left_by c.args.header.now.place w.from) ws) c.as_slice-2.ensures.value
-          c.if-leave_behind.ensures) (subst (λ ws. false ≡ some_wire (λ w. same_line c.args.header.now.start w.to) ws)
-          c.as_slice-3.ensures.value c.if-end_at.ensures) (subst (λ ws. false
-          ≡ some_wire (λ w. is_some (source c.args.self.now.wires.items w.to)) ws) c.as_slice-4.ensures.value
-          c.if-are_fed.ensures);
-    }
+    λ ws fed. fault_none c.args.header.now ws c.args.first c.args.rows c.in-Ok.inner.items
+    c.in-Ok.ensures within (subst (λ us. false ≡ some_wire (λ w. same_line c.args.header.now.end w.from) us)
+    c.as_slice.ensures.value c.if-leave.ensures) (subst (λ us. false
+    ≡ some_wire (λ w. is_left_by c.args.header.now.place w.from) us) c.as_slice-2.ensures.value
+    c.if-leave_behind.ensures) (subst (λ us. false ≡ some_wire (λ w. same_line c.args.header.now.start w.to) us)
+    c.as_slice-3.ensures.value c.if-end_at.ensures) (subst (λ us. false
+    ≡ some_wire (λ w. is_some (source ws w.to)) us) c.as_slice-4.ensures.value
+    (c.if-are_fed.ensures ws fed))

@@ -11,20 +11,20 @@ pub returns-in_default-clause-refused : goal.returns-in_default-clause-refused
 returns-in_default-clause-refused c =
     let same : c.from-here.result ≡ c.args.self.now.lines = omega arith in
     λ rows holds. malformed_line c.args.header.now rows c.args.line.now c.args.self.now.lines c.args.self.now.rows
-    c.from-here.result c.args.self.now.states.items c.args.self.now.own.items c.args.self.now.ends.wires.items
+    c.from-here.result c.args.self.now.states.items c.args.self.now.own.items c.args.self.now.ends.drawn
     c.args.self.now.ends.fed.items holds same (column_unsaid c.args.header.now rows c.args.line.now
     c.args.self.now.lines c.args.self.now.rows c.args.self.now.states.items c.args.self.now.own.items
-    c.args.self.now.ends.wires.items c.args.self.now.ends.fed.items holds c.requires.none c.in-Two.is
+    c.args.self.now.ends.drawn c.args.self.now.ends.fed.items holds c.requires.none c.in-Two.is
     c.requires.other (sym c.in_default.ensures))
 
 pub returns-then-rows-eq0-clause-refused : goal.returns-then-rows-eq0-clause-refused
 returns-then-rows-eq0-clause-refused c =
     let same : c.from-here.result ≡ c.args.self.now.lines = omega arith in
     λ rows holds. malformed_line c.args.header.now rows c.args.line.now c.args.self.now.lines c.args.self.now.rows
-    c.from-here.result c.args.self.now.states.items c.args.self.now.own.items c.args.self.now.ends.wires.items
+    c.from-here.result c.args.self.now.states.items c.args.self.now.own.items c.args.self.now.ends.drawn
     c.args.self.now.ends.fed.items holds same (no_rows_unsaid c.args.header.now rows c.args.line.now
     c.args.self.now.lines c.args.self.now.rows c.args.self.now.states.items c.args.self.now.own.items
-    c.args.self.now.ends.wires.items c.args.self.now.ends.fed.items holds
+    c.args.self.now.ends.drawn c.args.self.now.ends.fed.items holds
     (c.in-Some.number, c.in-Some.rows, c.in-Some.state) c.requires.none c.in-Two.is c.requires.other
     (sym c.in-Some.ensures) c.if-rows-eq0.true)
 
@@ -36,10 +36,10 @@ pub returns-in-One-clause-refused : goal.returns-in-One-clause-refused
 returns-in-One-clause-refused c =
     let same : c.from-here.result ≡ c.args.self.now.lines = omega arith in
     λ rows holds. malformed_line c.args.header.now rows c.args.line.now c.args.self.now.lines c.args.self.now.rows
-    c.from-here.result c.args.self.now.states.items c.args.self.now.own.items c.args.self.now.ends.wires.items
+    c.from-here.result c.args.self.now.states.items c.args.self.now.own.items c.args.self.now.ends.drawn
     c.args.self.now.ends.fed.items holds same (first_version_unsaid c.args.header.now rows c.args.line.now
     c.args.self.now.lines c.args.self.now.rows c.args.self.now.states.items c.args.self.now.own.items
-    c.args.self.now.ends.wires.items c.args.self.now.ends.fed.items holds c.requires.none c.in-One.is
+    c.args.self.now.ends.drawn c.args.self.now.ends.fed.items holds c.requires.none c.in-One.is
     c.requires.other)
 
 pub returns-else-rows-eq0-clause-read : goal.returns-else-rows-eq0-clause-read
@@ -48,10 +48,10 @@ returns-else-rows-eq0-clause-read c =
     (Column c.in-Some.number c.in-Some.rows c.in-Some.state) c.args.self.now.lines c.args.self.now.rows
     c.take_column.new.self.lines c.take_column.new.self.rows c.args.self.now.states.items
     c.take_column.new.self.states.items c.args.self.now.own.items c.take_column.new.self.own.items
-    c.args.self.now.ends.wires.items c.take_column.new.self.ends.wires.items c.args.self.now.ends.fed.items
+    c.args.self.now.ends.drawn c.take_column.new.self.ends.drawn c.args.self.now.ends.fed.items
     c.take_column.new.self.ends.fed.items c.requires.room holds
     (column_line_is c.args.header.now rows c.args.line.now c.args.self.now.lines c.args.self.now.rows
-    c.args.self.now.states.items c.args.self.now.own.items c.args.self.now.ends.wires.items
+    c.args.self.now.states.items c.args.self.now.own.items c.args.self.now.ends.drawn
     c.args.self.now.ends.fed.items holds (c.in-Some.number, c.in-Some.rows, c.in-Some.state) c.requires.none
     c.in-Two.is c.requires.other (sym c.in-Some.ensures) c.if-rows-eq0.false) (reads rows holds))
     c.take_column.ensures.read
@@ -60,9 +60,9 @@ pub returns-else-rows-eq0-clause-refused : goal.returns-else-rows-eq0-clause-ref
 returns-else-rows-eq0-clause-refused c =
     IfErr-weaker c.take_column.result _ _ (λ r refused rows holds. refuses c.args.header.now rows c.args.line.now
     (Column c.in-Some.number c.in-Some.rows c.in-Some.state) c.args.self.now.lines c.args.self.now.rows
-    c.args.self.now.states.items c.args.self.now.own.items c.args.self.now.ends.wires.items
+    c.args.self.now.states.items c.args.self.now.own.items c.args.self.now.ends.drawn
     c.args.self.now.ends.fed.items r c.requires.room holds (column_line_is c.args.header.now rows c.args.line.now
     c.args.self.now.lines c.args.self.now.rows c.args.self.now.states.items c.args.self.now.own.items
-    c.args.self.now.ends.wires.items c.args.self.now.ends.fed.items holds
+    c.args.self.now.ends.drawn c.args.self.now.ends.fed.items holds
     (c.in-Some.number, c.in-Some.rows, c.in-Some.state) c.requires.none c.in-Two.is c.requires.other
     (sym c.in-Some.ensures) c.if-rows-eq0.false) (refused rows holds)) c.take_column.ensures.refused

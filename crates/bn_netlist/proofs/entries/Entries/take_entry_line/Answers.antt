@@ -15,10 +15,10 @@ returns-in-Some-clause-read c =
     (Element c.in-Some.row.number c.in-Some.row.state (named_targets c.in-Some.row.targets)) c.args.self.now.lines
     c.args.self.now.rows c.take_element.new.self.lines c.take_element.new.self.rows c.args.self.now.states.items
     c.take_element.new.self.states.items c.args.self.now.own.items c.take_element.new.self.own.items
-    c.args.self.now.ends.wires.items c.take_element.new.self.ends.wires.items c.args.self.now.ends.fed.items
+    c.args.self.now.ends.drawn c.take_element.new.self.ends.drawn c.args.self.now.ends.fed.items
     c.take_element.new.self.ends.fed.items c.requires.room holds
     (element_line_is c.args.header.now rows c.args.line.now c.args.self.now.lines c.args.self.now.rows
-    c.args.self.now.states.items c.args.self.now.own.items c.args.self.now.ends.wires.items
+    c.args.self.now.states.items c.args.self.now.own.items c.args.self.now.ends.drawn
     c.args.self.now.ends.fed.items holds c.in-Some.row c.requires.none (sym c.in-Some.ensures)) (reads rows holds))
     c.take_element.ensures.read
 
@@ -26,8 +26,8 @@ pub returns-in-Some-clause-refused : goal.returns-in-Some-clause-refused
 returns-in-Some-clause-refused c =
     IfErr-weaker c.take_element.result _ _ (λ r refused rows holds. refuses c.args.header.now rows c.args.line.now
     (Element c.in-Some.row.number c.in-Some.row.state (named_targets c.in-Some.row.targets)) c.args.self.now.lines
-    c.args.self.now.rows c.args.self.now.states.items c.args.self.now.own.items c.args.self.now.ends.wires.items
+    c.args.self.now.rows c.args.self.now.states.items c.args.self.now.own.items c.args.self.now.ends.drawn
     c.args.self.now.ends.fed.items r c.requires.room holds (element_line_is c.args.header.now rows c.args.line.now
     c.args.self.now.lines c.args.self.now.rows c.args.self.now.states.items c.args.self.now.own.items
-    c.args.self.now.ends.wires.items c.args.self.now.ends.fed.items holds c.in-Some.row c.requires.none
+    c.args.self.now.ends.drawn c.args.self.now.ends.fed.items holds c.in-Some.row c.requires.none
     (sym c.in-Some.ensures)) (refused rows holds)) c.take_element.ensures.refused

@@ -13,10 +13,10 @@ pub returns-in_default-clause-refused : goal.returns-in_default-clause-refused
 returns-in_default-clause-refused c =
     let same : c.from.result ≡ c.args.self.now.lines = omega arith in
     λ rows holds. malformed_line c.args.header.now rows c.args.line.now c.args.self.now.lines c.args.self.now.rows
-    c.from.result c.args.self.now.states.items c.args.self.now.own.items c.args.self.now.ends.wires.items
+    c.from.result c.args.self.now.states.items c.args.self.now.own.items c.args.self.now.ends.drawn
     c.args.self.now.ends.fed.items holds same (row_unsaid c.args.header.now rows c.args.line.now
     c.args.self.now.lines c.args.self.now.rows c.args.self.now.states.items c.args.self.now.own.items
-    c.args.self.now.ends.wires.items c.args.self.now.ends.fed.items holds c.requires.some
+    c.args.self.now.ends.drawn c.args.self.now.ends.fed.items holds c.requires.some
     (sym c.in_default.ensures))
 
 pub take_row-requires-clause-nameable : goal.take_row-requires-clause-nameable
@@ -30,10 +30,10 @@ returns-clause-read c =
     (sentences.Row (named_target c.in-Some.east) (named_target c.in-Some.west)) c.args.self.now.lines
     c.args.self.now.rows c.take_row.new.self.lines c.take_row.new.self.rows c.args.self.now.states.items
     c.take_row.new.self.states.items c.args.self.now.own.items c.take_row.new.self.own.items
-    c.args.self.now.ends.wires.items c.take_row.new.self.ends.wires.items c.args.self.now.ends.fed.items
+    c.args.self.now.ends.drawn c.take_row.new.self.ends.drawn c.args.self.now.ends.fed.items
     c.take_row.new.self.ends.fed.items c.requires.room holds
     (row_is c.args.header.now rows c.args.line.now c.args.self.now.lines c.args.self.now.rows
-    c.args.self.now.states.items c.args.self.now.own.items c.args.self.now.ends.wires.items
+    c.args.self.now.states.items c.args.self.now.own.items c.args.self.now.ends.drawn
     c.args.self.now.ends.fed.items holds (c.in-Some.east, c.in-Some.west) c.requires.some (sym c.in-Some.ensures))
     (reads rows holds)) c.take_row.ensures.read
 
@@ -41,8 +41,8 @@ pub returns-clause-refused : goal.returns-clause-refused
 returns-clause-refused c =
     IfErr-weaker c.take_row.result _ _ (λ r refused rows holds. refuses c.args.header.now rows c.args.line.now
     (sentences.Row (named_target c.in-Some.east) (named_target c.in-Some.west)) c.args.self.now.lines
-    c.args.self.now.rows c.args.self.now.states.items c.args.self.now.own.items c.args.self.now.ends.wires.items
+    c.args.self.now.rows c.args.self.now.states.items c.args.self.now.own.items c.args.self.now.ends.drawn
     c.args.self.now.ends.fed.items r c.requires.room holds (row_is c.args.header.now rows c.args.line.now
     c.args.self.now.lines c.args.self.now.rows c.args.self.now.states.items c.args.self.now.own.items
-    c.args.self.now.ends.wires.items c.args.self.now.ends.fed.items holds (c.in-Some.east, c.in-Some.west)
+    c.args.self.now.ends.drawn c.args.self.now.ends.fed.items holds (c.in-Some.east, c.in-Some.west)
     c.requires.some (sym c.in-Some.ensures)) (refused rows holds)) c.take_row.ensures.refused
