@@ -13,6 +13,7 @@ mod locate;
 mod located;
 mod make;
 mod moment;
+mod net_parts;
 mod numbers;
 mod wiring;
 
@@ -21,3 +22,4 @@ pub use bn_net::NoMemory;
 pub use board::Board;
 pub use located::Located;
 pub use make::flatten;
+pub use net_parts::NetParts;
