@@ -3,20 +3,36 @@
 -- text are this project's own profile).
 use Rattle.std.specs.Prelude.{◌≡◌, ℕ, ◌<◌, ◌≤◌, List, ◌++◌, length, Option}
 use Rattle.bn_io.specs.Told.{Grows}
-use Rattle.bn_machine.specs.Outcome.{Limits, Outcome, HasOutcome}
+use Rattle.bn_lists.specs.Runs.{Reaches}
+use Rattle.bn_machine.specs.Machine.{Program}
+use Rattle.bn_machine.specs.Outcome.{Limits, Outcome, Outside, HasOutcome}
+use Rattle.bn_machine.specs.declared.quint.Side.{Side}
 use Rattle.bn_net.specs.declared.net.TheConstants.{MOST_ELEMENTS}
 use Rattle.bn_table.specs.Rows.{Named}
-use Rattle.bn_board_spec.specs.Flats.{Flat}
+use Rattle.bn_assembly.specs.Widening.{first_window, widened}
 use Rattle.bn_reply.specs.declared.limits.TheConstants.{MOST_INPUT_BYTES}
 use Rattle.bn_reply.specs.declared.status.Status.{Status}
 use Rattle.bn_reply.specs.declared.status.Status.TheVariants.{Size}
-use Rattle.bn_reply_boards_laws.specs.Windows.{ComesTo, large_line}
+use Rattle.bn_reply_boards_laws.specs.Windows.{large_line}
 use Rattle.bn_windows_laws.specs.AutoReply.{found_line}
-use Rattle.bn_windows_laws.specs.FoundHeadline.{IsWordGiven, TellsFoundWindow, auto_words}
-use Rattle.bn_windows_laws.specs.Searches.{Found, HasFinding, Large}
+use Rattle.bn_windows_laws.specs.FoundHeadline.{IsWordGiven, auto_words}
 use Rattle.bn_headline_laws.specs.Elements.{elements, most_steps}
-use Rattle.bn_headline_laws.specs.Laws.{RunsBack}
 use Rattle.bn_headline_laws.specs.MachineHeadline.{TellsExit, TookRun, least_steps}
+
+-- One round of the search leads from w to v: the circuit in w isn't too large, the machine's own bounded run in w has
+-- no room at an end of a tape, and v has the number of this end doubled.
+pub record WidensTo (p : Program) (word : List ℕ) (w v : Limits) : Type 0 where
+  pub few : elements p w ≤ MOST_ELEMENTS
+  pub time : ℕ
+  pub tape : ℕ
+  pub side : Side
+  pub outside : HasOutcome p word w time (Outside tape side)
+  pub next : v ≡ widened w tape side
+
+-- the bounded run halts or is stuck
+abbrev pub EndsInside : Outcome → Type 0
+EndsInside (Outside tape side) = ⊥
+EndsInside _ = Unit {0}
 
 -- The line of the window, and behind it what is told of a signal that came after so many steps to the exit that the
 -- outcome of the bounded run in this window names.
@@ -26,34 +42,22 @@ pub record TellsFoundExit (t : Named) (w : Limits) (symbols : List ℕ) (i : ℕ
   pub text_is : text ≡ found_line w ++ ran
   pub exit : TellsExit t w symbols i o cost status ran
 
--- The search found w: however the machine's own bounded run in w comes out, the sink took what tells it, and the signal
--- makes as many element steps as two bounds by the machine allow. By the circuit, which is there: steps back lead back,
--- from the exit to the start.
+-- The search ends at w. A circuit that is too large is refused with the number of its elements; else, where the bounded
+-- run halts or is stuck, the sink took what tells it, and the signal makes as many element steps as two bounds by the
+-- machine allow.
 pub record TookFound (t : Named) (w : Limits) (symbols : List ℕ) (status : Status) (taken took : Option (List ℕ)) :
     Type 0 where
-  pub runs : (i : ℕ) (o : Outcome) → HasOutcome t.machine symbols w i o
+  pub large : MOST_ELEMENTS < elements t.machine w
+      → (status ≡ Size) × Grows taken took (large_line (elements t.machine w))
+  pub runs : elements t.machine w ≤ MOST_ELEMENTS
+      → (i : ℕ) (o : Outcome) → HasOutcome t.machine symbols w i o → EndsInside o
       → TookRun (TellsFoundExit t w symbols i o) (least_steps i o) (most_steps t.machine w) status taken took
-  pub flat : Flat
-  pub comes : ComesTo t.machine w symbols flat
-  pub returns : (f : Flat) → ComesTo t.machine w symbols f → RunsBack f
 
--- The search came to a window whose circuit is too large: the sink took the line of its elements.
-pub record TookLarge (t : Named) (w : Limits) (status : Status) (taken took : Option (List ℕ)) : Type 0 where
-  pub many : MOST_ELEMENTS < elements t.machine w
-  pub status_is : status ≡ Size
-  pub grows : Grows taken took (large_line (elements t.machine w))
-
--- Whatever word the words ask for, on an input within the limit: whatever the search by the machine's own bounded runs
--- finds, a window, or the last one, whose circuit is too large.
+-- Whatever word the words ask for, on an input within the limit: to whatever window the search comes from the first
+-- one.
 unfoldable pub FoundMachineHeadline : List (List ℕ) → List ℕ → Status → Option (List ℕ) → Option (List ℕ) → Type 0
 FoundMachineHeadline words bytes status taken took =
     length bytes ≤ MOST_INPUT_BYTES → (letters : List ℕ) → words ≡ auto_words letters
     → (t : Named) (symbols : List ℕ) → IsWordGiven bytes letters t symbols
-    → ((n : ℕ) (w : Limits) → HasFinding t.machine symbols n (Found w) → TookFound t w symbols status taken took)
-    × ((n count : ℕ) → (found : HasFinding t.machine symbols n (Large count))
-    → TookLarge t found.last status taken took)
-
--- what tells the window that is found tells it by the machine alone
-abbrev pub FoundTellsMachine : Type 0
-FoundTellsMachine = (words : List (List ℕ)) (bytes : List ℕ) (status : Status) (taken took : Option (List ℕ))
-    → TellsFoundWindow words bytes status taken took → FoundMachineHeadline words bytes status taken took
+    → (n : ℕ) (w : Limits) → Reaches (WidensTo t.machine symbols) n (first_window symbols) w
+    → TookFound t w symbols status taken took

@@ -13,3 +13,5 @@ pub mod CommandHeadlines
 pub mod CommandLaws
 pub mod CountLaws
 pub mod FoundMachineHeadline
+pub mod FoundCircuitHeadline
+pub mod FoundLaws

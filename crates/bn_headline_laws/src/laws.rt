@@ -3,7 +3,7 @@ ghost use Rattle.bn_headline_laws.specs.Laws.{ElementsAreCounted, GeneratedTells
 ghost use Rattle.bn_headline_laws.specs.Laws.{IncrementsRun};
 ghost use Rattle.bn_headline_laws.specs.Laws.{BoardsReturn, HeadlinesAgree, OwnRunsAreOne, RepliesTellMachine};
 ghost use Rattle.bn_headline_laws.specs.CircuitLaws.{HeadlineTellsCircuit};
-ghost use Rattle.bn_headline_laws.specs.FoundMachineHeadline.{FoundTellsMachine};
+ghost use Rattle.bn_headline_laws.specs.FoundLaws.{FoundTellsMachine, OwnSearchEnds};
 
 /// The elements of a machine's network are counted by the machine and its limits alone.
 pub fn elements_are_counted()
@@ -51,7 +51,9 @@ pub fn headline_tells_circuit()
     ensures { HeadlineTellsCircuit }
 {}
 
-/// What tells the headline where the window is found tells it by the machine alone.
+/// What tells the headline where the window is found tells it by the machine alone, and by the circuit; and the search
+/// by the machine alone ends.
 pub fn found_tells_machine()
-    ensures { FoundTellsMachine }
+    ensures tells { FoundTellsMachine }
+    ensures ends { OwnSearchEnds }
 {}

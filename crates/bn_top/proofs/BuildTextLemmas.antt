@@ -1,5 +1,5 @@
 -- What `build` printed may be given to the workbench again.
-use Rattle.std.specs.Prelude.{◌≡◌, ℕ, List, refl}
+use Rattle.std.specs.Prelude.{ℕ, List, refl}
 use Rattle.std.proofs.Common.{ap}
 use Rattle.bn_circuits.specs.declared.config.Config.{Config}
 use Rattle.bn_circuits.specs.declared.place.Place.{Place}

@@ -1,9 +1,9 @@
 -- How the top call ends, from how the answer to its words ends; and what it tells then.
-use Rattle.std.specs.Prelude.{◌≡◌, ◌≢◌, ℕ, true, false, ◌≤◌, List, [], Option, IfSome, ◌⊎◌, refl}
-use Rattle.std.proofs.Common.{arith, inl, inr, sym, subst, ◌∙◌}
+use Rattle.std.specs.Prelude.{◌≡◌, ◌≢◌, ℕ, true, false, List, [], Option, IfSome, ◌⊎◌, refl}
+use Rattle.std.proofs.Common.{inl, inr, sym, subst, ◌∙◌}
 use Rattle.std.proofs.lemmas.Bool.{cases_Bool}
 use Rattle.bn_circuits.specs.declared.place.Place.{Place}
-use Rattle.bn_io.specs.Faults.{Rose}
+use Rattle.bn_io.specs.Faults.{Rose, CountsUnless}
 use Rattle.bn_net.proofs.WalkLemmas.{hears-nothing}
 use Rattle.bn_words.specs.Requests.{Request, HasForm, HasNoForm, reads_input}
 use Rattle.bn_words.proofs.DecideLemmas.{words_have_form_or_none}
@@ -13,6 +13,7 @@ use Rattle.bn_reply.specs.Outside.{Outside, outside}
 use Rattle.bn_reply.specs.Streams.{AnswerEnds, StreamEnds}
 use Rattle.bn_reply.specs.declared.status.Status.{Status}
 use Rattle.bn_reply.specs.declared.status.Status.TheVariants.{Usage, Size, ReadFault, WriteFault, NoMemory}
+use Rattle.bn_reply.proofs.CountLemmas.{counts_nothing}
 use Rattle.bn_reply_boards.proofs.ClosedLemmas.{tells}
 use Rattle.bn_reply_boards_laws.specs.Headline.{TellsHeadline}
 use Rattle.bn_headline_laws.specs.CircuitHeadline.{CircuitHeadline}
@@ -20,6 +21,7 @@ use Rattle.bn_headline_laws.specs.Generated.{GeneratedHeadline}
 use Rattle.bn_headline_laws.specs.MachineHeadline.{MachineHeadline, MachineHeadlineWithin}
 use Rattle.bn_headline_laws.proofs.ClosedLemmas.{circuit_told}
 use Rattle.bn_windows_laws.specs.FoundHeadline.{TellsFoundWindow}
+use Rattle.bn_headline_laws.specs.FoundCircuitHeadline.{FoundCircuitHeadline}
 use Rattle.bn_headline_laws.specs.FoundMachineHeadline.{FoundMachineHeadline}
 use Rattle.bn_headline_laws.proofs.FoundMachineLemmas.{found-tells_machine}
 use Rattle.bn_top.specs.Answers.{Replies, usage_text}
@@ -41,7 +43,7 @@ use Rattle.bn_top.proofs.StreamLemmas.{stream_clauses}
 -- words that have no form
 module _ (words : List (List ℕ)) (none : HasNoForm words) (result : Status) (left taken took : Option (List ℕ))
     (told : Option (List Place)) (reads before now : ℕ) (ends : Finishes Usage result taken took before now usage_text)
-    (later : before ≤ now) where
+    (later : CountsUnless (result ≡ WriteFault) before now) where
   never : (other : Status) → (Usage ≡ other → ⊥) → (WriteFault ≡ other → ⊥) → result ≡ other → ⊥
   never other first second is = by ends
     where
@@ -87,7 +89,7 @@ module _ (words : List (List ℕ)) (none : HasNoForm words) (result : Status) (l
     write_fault = λ failed.
         inr (usage_cut words none result taken took told before now usage_text refl ends failed left);
     no_memory = λ is. absurd (never NoMemory (λ e. cc) (λ e. cc) is);
-    later_source = omega arith;
+    later_source = counts_nothing _ reads reads refl;
     later_sink = later;
   }
 
@@ -98,7 +100,8 @@ module _ (words : List (List ℕ)) (none : HasNoForm words) (result : Status) (l
 module _ (words : List (List ℕ)) (request : Request) (form : HasForm words request)
     (nothing : reads_input request ≡ false)
     (result : Status) (left taken took : Option (List ℕ)) (told heard : Option (List Place)) (reads before now : ℕ)
-    (ends : AnswerEnds (Replies request []) result taken took before now told heard) (later : before ≤ now) where
+    (ends : AnswerEnds (Replies request []) result taken took before now told heard)
+    (later : CountsUnless (result ≡ WriteFault) before now) where
   no_read_fault : result ≡ ReadFault → ⊥
   no_read_fault is = never_read_fault words request form [] result taken took told heard before now ends is
 
@@ -121,7 +124,7 @@ module _ (words : List (List ℕ)) (request : Request) (form : HasForm words req
     write_fault = λ failed.
         inr (inputless_cut words request form nothing result taken took told heard before now ends left failed);
     no_memory = inputless_broken words request form nothing result taken took told heard before now ends left;
-    later_source = omega arith;
+    later_source = counts_nothing _ reads reads refl;
     later_sink = later;
   }
 
@@ -164,7 +167,13 @@ module _ (words : List (List ℕ)) (status : Status) (b a : Outside) (ends : Cal
   found_machine_by =
       by_told b.left (λ bytes. TellsFoundWindow words bytes status b.taken a.taken)
       (λ bytes. FoundMachineHeadline words bytes status b.taken a.taken)
-      (λ bytes h. found-tells_machine words bytes status b.taken a.taken h) found_by
+      (λ bytes h. (found-tells_machine words bytes status b.taken a.taken h).0) found_by
+
+  pub found_circuit_by : IfSome b.left (λ bytes. FoundCircuitHeadline words bytes status b.taken a.taken)
+  found_circuit_by =
+      by_told b.left (λ bytes. TellsFoundWindow words bytes status b.taken a.taken)
+      (λ bytes. FoundCircuitHeadline words bytes status b.taken a.taken)
+      (λ bytes h. (found-tells_machine words bytes status b.taken a.taken h).1) found_by
 
   -- what one of the commands prints
   pub command_by : (command : List (List ℕ) → List ℕ → Status → Option (List ℕ) → Option (List ℕ) → Type 0)

@@ -2,6 +2,7 @@ pub mod Commands
 pub mod AnswerLemmas
 pub mod EndLemmas
 pub mod StreamLemmas
+pub mod LentLemmas
 pub mod HeadlineLemmas
 pub mod ClauseLemmas
 pub mod MachineHeadlineLemmas

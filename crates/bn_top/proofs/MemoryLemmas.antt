@@ -15,7 +15,7 @@ use Rattle.bn_top.specs.Clauses.{CallEnds}
 use Rattle.bn_top.specs.CommandLaws.{TellsCommands}
 use Rattle.bn_top.specs.Headlines.{IsReplyTo}
 use Rattle.bn_top.specs.Told.{IsReadFaultCut}
-use Rattle.bn_top.proofs.CallLemmas.{circuit_by, command_by, found_by, found_machine_by}
+use Rattle.bn_top.proofs.CallLemmas.{circuit_by, command_by, found_by, found_circuit_by, found_machine_by}
 use Rattle.bn_top.proofs.CallLemmas.{generated_by, machine_by}
 use Rattle.bn_top.proofs.ClauseLemmas.{ends-give_clauses}
 
@@ -59,6 +59,7 @@ module _ (words : List (List ℕ)) (input : List ℕ) (left : Option (List ℕ))
           headline_circuit = circuit_by words reply.status b a ends is;
           found = found_by words reply.status b a ends is;
           found_machine = found_machine_by words reply.status b a ends is;
+          found_circuit = found_circuit_by words reply.status b a ends is;
           generated = generated_by words reply.status b a ends is;
           commands = command_by words reply.status b a ends is TellsCommands (λ bytes h. h);
         };

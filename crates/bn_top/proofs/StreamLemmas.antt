@@ -14,10 +14,12 @@ use Rattle.bn_reply.specs.Streams.{Whole, TooLong, Failed, Unread, whole, cut, w
 use Rattle.bn_reply.specs.declared.limits.TheConstants.{MOST_INPUT_BYTES}
 use Rattle.bn_reply.specs.declared.status.Status.{Status}
 use Rattle.bn_reply.specs.declared.status.Status.TheVariants.{Usage, Size, ReadFault, WriteFault, NoMemory}
+use Rattle.bn_reply.proofs.CountLemmas.{counts_as}
 use Rattle.bn_reply.proofs.ReplyLemmas.{begun_as, broken_as}
 use Rattle.bn_reply.proofs.StreamLemmas.{at_bytes, at_longer, read_to_end}
 use Rattle.bn_top.specs.Answers.{Answers, Replies, replied, too_long}
 use Rattle.bn_top.specs.Clauses.{ClausesApart}
+use Rattle.bn_top.specs.Outside.{FailsReading, ToldReadFault}
 use Rattle.bn_top.specs.Told.{IsAnswered, IsBegun, IsBroken, IsReadFaultCut}
 use Rattle.bn_top.proofs.Commands.{settled}
 use Rattle.bn_top.proofs.EndLemmas.{for_any, needs_input, reply_answers}
@@ -27,7 +29,7 @@ not_more limit count few more = omega (arith, few, more)
 
 module _ (words : List (List ℕ)) (request : Request) (form : HasForm words request) (reads : reads_input request ≡ true)
     (result : Status)
-    (b a : Outside) (later : IsLater b a) where
+    (b a : Outside) (later : IsLater (FailsReading result b a) (result ≡ WriteFault) b a) where
   abbrev Sized : List ℕ → Type 0
   Sized bytes = result ≡ Size → MOST_INPUT_BYTES < length bytes → GaveMore b.left a.left MOST_INPUT_BYTES
 
@@ -251,8 +253,39 @@ module _ (words : List (List ℕ)) (request : Request) (form : HasForm words req
   input_clauses Failed gives ends = failed_clauses gives ends.0 ends.1
   input_clauses Unread gives ends = unread_clauses ends
 
+-- ---- what is counted
+
+-- how a line ends that tells that reading failed
+failure_told : (result : Status) (b a : Outside)
+    → written.Finishes ReadFault result b.taken a.taken b.write_faults a.write_faults read_fault_text
+    → Hears b.told [] a.told → ToldReadFault result b a
+failure_told result b a (written.whole is grows) hears =
+    let gave : ToldReadFault ReadFault b a = record { grows = grows; hears = hears } in
+    subst (λ s. ToldReadFault s b a) (sym is) gave
+failure_told result b a (written.cut is rose front) hears =
+    let cut_off : ToldReadFault WriteFault b a =
+    (rose, (front.0, front.1, front.2, record { grows = front.3; hears = hears })) in
+    subst (λ s. ToldReadFault s b a) (sym is) cut_off
+
+-- where reading came to a failure, the call fails in reading
+failed_reading : (replies : List ℕ → Status → List ℕ → List Place → Type 0) (result : Status) (b a : Outside)
+    (input : Input) → Gives input b a → EndsAfter input replies result b a → input ≡ Failed → FailsReading result b a
+failed_reading replies result b a (Whole bytes) gives ends is = absurd (cc)
+failed_reading replies result b a TooLong gives ends is = absurd (cc)
+failed_reading replies result b a Failed gives ends is =
+    record { read = gives; told = failure_told result b a ends.0 ends.1 }
+failed_reading replies result b a Unread gives ends is = absurd (cc)
+
+later_call : (replies : List ℕ → Status → List ℕ → List Place → Type 0) (result : Status) (b a : Outside)
+    → StreamEnds replies result b a → IsLater (FailsReading result b a) (result ≡ WriteFault) b a
+later_call replies result b a h = record {
+  read = counts_as (h.input ≡ Failed) (FailsReading result b a) b.read_faults a.read_faults
+      (failed_reading replies result b a h.input h.gives h.ends) h.later.read;
+  write = h.later.write;
+}
+
 pub stream_clauses : (words : List (List ℕ)) (request : Request) → HasForm words request → reads_input request ≡ true
     → (result : Status) (b a : Outside) →
     StreamEnds (Replies request) result b a → ClausesApart words result b a
-stream_clauses words request form reads result b a h = input_clauses words request form reads result b a h.later h.input
-    h.gives h.ends
+stream_clauses words request form reads result b a h =
+    input_clauses words request form reads result b a (later_call (Replies request) result b a h) h.input h.gives h.ends

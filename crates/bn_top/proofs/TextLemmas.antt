@@ -9,7 +9,6 @@ use Rattle.bn_netlist_laws.specs.Spelling.{Spelled, Spelling, circuit_of, moved_
 use Rattle.bn_netlist_laws.specs.declared.version.Version.TheVariants.{Two}
 use Rattle.bn_netlist_laws.proofs.VersionLemmas.{spellings-move}
 use Rattle.bn_headline_laws.proofs.CommandLemmas.{back-tells, step-tells}
-use Rattle.bn_reply.specs.declared.status.Status.{Status}
 use Rattle.bn_reply.specs.declared.status.Status.TheVariants.{Done}
 use Rattle.bn_reply_boards_laws.proofs.CompileLemmas.{compiled, steps_back}
 use Rattle.bn_reply_circuits.specs.MirrorLaws.{IsUncounted}

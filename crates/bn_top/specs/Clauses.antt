@@ -1,6 +1,6 @@
 -- How a call of the workbench ends, over the outside as one thing; and the same clause by clause.
 use Rattle.std.specs.Prelude.{◌≡◌, ◌≢◌, ℕ, ◌≤◌, ◌<◌, List, [], length, Some, IfSome, ◌⊎◌}
-use Rattle.bn_io.specs.Faults.{Rose}
+use Rattle.bn_io.specs.Faults.{Rose, CountsUnless}
 use Rattle.bn_io.specs.Told.{Grows}
 use Rattle.bn_net.specs.Watching.{Hears}
 use Rattle.bn_words.specs.Requests.{HasNoForm}
@@ -12,7 +12,7 @@ use Rattle.bn_reply.specs.Outside.{Outside, GaveMore, IsLater}
 use Rattle.bn_reply.specs.Streams.{read_fault_text}
 use Rattle.bn_top.specs.Told as told
 use Rattle.bn_top.specs.Told.{EndsWithoutInput, NeedsNoInput, UsageEnds}
-use Rattle.bn_top.specs.Outside.{Ends, EndsOn, IsWithoutFault, NeedNoInput, ReadsAll}
+use Rattle.bn_top.specs.Outside.{Ends, EndsOn, IsWithoutFault, NeedNoInput, ReadsAll, FailsReading}
 
 -- The clauses apart, by their names.
 pub record ClausesApart (words : List (List ℕ)) (status : Status) (b a : Outside) : Type 0 where
@@ -37,11 +37,11 @@ pub record ClausesApart (words : List (List ℕ)) (status : Status) (b a : Outsi
       ⊎ IfSome b.left (λ bytes. told.IsBegun words bytes b.taken a.taken b.told a.told)
   pub no_memory : status ≡ NoMemory
       → IfSome b.left (λ bytes. told.IsBroken words bytes b.taken a.taken b.told a.told)
-  pub later_source : b.read_faults ≤ a.read_faults
-  pub later_sink : b.write_faults ≤ a.write_faults
+  pub later_source : CountsUnless (FailsReading status b a) b.read_faults a.read_faults
+  pub later_sink : CountsUnless (status ≡ WriteFault) b.write_faults a.write_faults
 
 -- How the call ends; that without a fault there is an answer unless memory is wanting; when usage comes; how it ends
--- where the words need no input; how much is read elsewhere; and that no count of faults falls.
+-- where the words need no input; how much is read elsewhere; and that no failure but the one that is told was counted.
 pub record CallEnds (words : List (List ℕ)) (status : Status) (b a : Outside) : Type 0 where
   pub ends : Ends words status b a
   pub complete : IsWithoutFault b a → IsAnswer status ⊎ (status ≡ NoMemory)
@@ -49,7 +49,7 @@ pub record CallEnds (words : List (List ℕ)) (status : Status) (b a : Outside) 
   pub usage : HasNoForm words → (status ≡ Usage) ⊎ (status ≡ WriteFault)
   pub unread_ends : NeedNoInput words → EndsOn (λ claim. claim []) words status b a
   pub read : (NeedsNoInput words → ⊥) → ReadsAll status b a
-  pub later : IsLater b a
+  pub later : IsLater (FailsReading status b a) (status ≡ WriteFault) b a
 
 -- how the call ends gives each of the clauses apart
 abbrev pub EndsGiveClauses : Type 0

@@ -8,6 +8,7 @@ use Rattle.bn_reply.specs.declared.reply.Reply.{Reply}
 use Rattle.bn_reply.specs.declared.status.Status.{Status}
 use Rattle.bn_headline_laws.specs.MachineHeadline.{MachineHeadline, MachineHeadlineWithin}
 use Rattle.bn_headline_laws.specs.CircuitHeadline.{CircuitHeadline}
+use Rattle.bn_headline_laws.specs.FoundCircuitHeadline.{FoundCircuitHeadline}
 use Rattle.bn_headline_laws.specs.FoundMachineHeadline.{FoundMachineHeadline}
 use Rattle.bn_headline_laws.specs.Generated.{GeneratedHeadline}
 use Rattle.bn_windows_laws.specs.FoundHeadline.{TellsFoundWindow}
@@ -24,6 +25,7 @@ pub record TellsHeadlines (words : List (List ℕ)) (bytes : List ℕ) (status :
   pub headline_circuit : CircuitHeadline words bytes status taken took
   pub found : TellsFoundWindow words bytes status taken took
   pub found_machine : FoundMachineHeadline words bytes status taken took
+  pub found_circuit : FoundCircuitHeadline words bytes status taken took
   pub generated : GeneratedHeadline words status taken took
   pub commands : TellsCommands words bytes status taken took
 

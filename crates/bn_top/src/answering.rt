@@ -1,7 +1,8 @@
 //! The one way of every command: from its words to the text that it gives, and the match that names each command once.
 
-ghost use Rattle.std.specs.Prelude.{◌≡◌, ℕ, ◌≤◌, [], Some, length, map};
+ghost use Rattle.std.specs.Prelude.{◌≡◌, ℕ, ◌+◌, ◌≤◌, Some, drop, length, map};
 ghost use Rattle.std.specs.String.{string_bytes};
+ghost use Rattle.bn_io.specs.Faults.{CountsUnless};
 ghost use Rattle.bn_reply.specs.Outside.{outside};
 ghost use Rattle.bn_reply.specs.Streams.{AnswerEnds, StreamEnds};
 ghost use Rattle.bn_reply.specs.declared.limits.TheConstants.{MOST_INPUT_BYTES};
@@ -10,7 +11,7 @@ ghost use Rattle.bn_top.specs.Answers.{Replies};
 ghost use Rattle.bn_top.specs.Clauses.{CallEnds};
 ghost use Rattle.bn_top.specs.Outside.{NeedNoInput};
 
-use bn_io::{Input, ReadRefusal, Sink, read_whole};
+use bn_io::{Input, ReadRefusal, Sink, piece_size, read_whole};
 use bn_net::Watch;
 use bn_reply::{MOST_INPUT_BYTES, Status, finish, give_reply, tell_long_input, tell_read_fault};
 use bn_reply_boards::{answer_compile, reply_generate, reply_run};
@@ -43,6 +44,7 @@ pub(crate) fn answer_words<I: Input, K: Sink, W: Watch>(
     ensures ends { CallEnds (map string_bytes words.now) result
         (outside (I.left input.old) (K.taken sink.old) (W.told watch.old) (I.faults input.old) (K.faults sink.old))
         (outside (I.left input.new) (K.taken sink.new) (W.told watch.new) (I.faults input.new) (K.faults sink.new)) }
+    ensures in_time { I.open input.old → I.overrun input.new → I.overrun input.old }
     ensures unread { NeedNoInput (map string_bytes words.now) → input.new ≡ input.old }
 {
     match read_words(words) {
@@ -65,9 +67,10 @@ fn answer_configuration<I: Input, K: Sink, W: Watch>(
     sink: &mut K,
     watch: &mut W,
 ) -> Status
-    ensures { StreamEnds (Replies (of_configuration asked.now)) result
+    ensures ends { StreamEnds (Replies (of_configuration asked.now)) result
         (outside (I.left input.old) (K.taken sink.old) (W.told watch.old) (I.faults input.old) (K.faults sink.old))
         (outside (I.left input.new) (K.taken sink.new) (W.told watch.new) (I.faults input.new) (K.faults sink.new)) }
+    ensures in_time { I.open input.old → I.overrun input.new → I.overrun input.old }
 {
     match *asked {
         ConfigurationRequest::Step { most_steps } => {
@@ -91,19 +94,22 @@ fn answer_whole<I: Input, K: Sink, W: Watch>(
     watch: &mut W,
 ) -> Status
     requires { IsAllowed (of_whole asked.now) }
-    ensures { StreamEnds (Replies (of_whole asked.now)) result
+    ensures ends { StreamEnds (Replies (of_whole asked.now)) result
         (outside (I.left input.old) (K.taken sink.old) (W.told watch.old) (I.faults input.old) (K.faults sink.old))
         (outside (I.left input.new) (K.taken sink.new) (W.told watch.new) (I.faults input.new) (K.faults sink.new)) }
+    ensures in_time { I.open input.old → I.overrun input.new → I.overrun input.old }
 {
     let Some(bytes) = input.rest() else {
         return answer_read(alloc, asked, input, sink, watch);
     };
+    let count = piece_size(MOST_INPUT_BYTES, bytes.len());
     let status = answer_lent(alloc, asked, bytes, sink, watch);
-    input.take_rest();
+    input.take_lent(count);
     status
 }
 
-// Answers what is asked of bytes that are lent, as of all that an input had left.
+// Answers what is asked of bytes that are lent, as of all that an input had left: of them it takes at most one more
+// than the limit.
 fn answer_lent<K: Sink, W: Watch>(
     alloc: Global,
     asked: &WholeRequest<'_>,
@@ -114,7 +120,8 @@ fn answer_lent<K: Sink, W: Watch>(
     requires { IsAllowed (of_whole asked.now) }
     ensures { (reads : ℕ) → StreamEnds (Replies (of_whole asked.now)) result
         (outside (Some bytes.now) (K.taken sink.old) (W.told watch.old) reads (K.faults sink.old))
-        (outside (Some []) (K.taken sink.new) (W.told watch.new) reads (K.faults sink.new)) }
+        (outside (Some (drop (MOST_INPUT_BYTES + 1) bytes.now)) (K.taken sink.new) (W.told watch.new) reads
+        (K.faults sink.new)) }
 {
     if bytes.len() as u64 > MOST_INPUT_BYTES {
         return tell_long_input(sink);
@@ -131,9 +138,10 @@ fn answer_read<I: Input, K: Sink, W: Watch>(
     watch: &mut W,
 ) -> Status
     requires { IsAllowed (of_whole asked.now) }
-    ensures { StreamEnds (Replies (of_whole asked.now)) result
+    ensures ends { StreamEnds (Replies (of_whole asked.now)) result
         (outside (I.left input.old) (K.taken sink.old) (W.told watch.old) (I.faults input.old) (K.faults sink.old))
         (outside (I.left input.new) (K.taken sink.new) (W.told watch.new) (I.faults input.new) (K.faults sink.new)) }
+    ensures in_time { I.open input.old → I.overrun input.new → I.overrun input.old }
 {
     match read_whole(alloc, input, MOST_INPUT_BYTES) {
         Ok(bytes) => answer_bytes(alloc, asked, bytes.as_slice(), sink, watch),
@@ -155,7 +163,7 @@ fn answer_bytes<K: Sink, W: Watch>(
     requires short { length bytes.now ≤ MOST_INPUT_BYTES }
     ensures ends { AnswerEnds (Replies (of_whole asked.now) bytes.now) result (K.taken sink.old) (K.taken sink.new)
         (K.faults sink.old) (K.faults sink.new) (W.told watch.old) (W.told watch.new) }
-    ensures later { K.faults sink.old ≤ K.faults sink.new }
+    ensures later { CountsUnless (result ≡ Status.WriteFault) (K.faults sink.old) (K.faults sink.new) }
 {
     match *asked {
         WholeRequest::Check => give_reply(sink, reply_check(alloc, bytes)),

@@ -6,6 +6,7 @@ ghost use Rattle.bn_reply.specs.Codes.{IsAnswer};
 ghost use Rattle.bn_headline_laws.specs.MachineHeadline.{MachineHeadline, MachineHeadlineWithin};
 ghost use Rattle.bn_headline_laws.specs.CircuitHeadline.{CircuitHeadline};
 ghost use Rattle.bn_headline_laws.specs.CommandHeadlines.{BackCommand, BennettCommand, MachineCommand, StepCommand};
+ghost use Rattle.bn_headline_laws.specs.FoundCircuitHeadline.{FoundCircuitHeadline};
 ghost use Rattle.bn_headline_laws.specs.FoundMachineHeadline.{FoundMachineHeadline};
 ghost use Rattle.bn_headline_laws.specs.Generated.{GeneratedHeadline};
 ghost use Rattle.bn_windows_laws.specs.FoundHeadline.{TellsFoundWindow};
@@ -51,9 +52,14 @@ pub fn workbench<S: Source, K: Sink, W: Watch>(
         (λ bytes. TellsFoundWindow (map string_bytes words.now.items) bytes result (K.taken sink.old)
         (K.taken sink.new)) }
 
-    // And by the machine alone: its elements, exit, steps and tapes in that window; and steps back lead back.
+    // And by the machine alone: its elements, exit, steps and tapes in that window; or that its circuit is too large.
     ensures found_machine { IsAnswer result → IfSome (S.left source.old)
         (λ bytes. FoundMachineHeadline (map string_bytes words.now.items) bytes result (K.taken sink.old)
+        (K.taken sink.new)) }
+
+    // And by the circuit, which is there: it comes in exactly its cost to that exit, and steps back lead back.
+    ensures found_circuit { IsAnswer result → IfSome (S.left source.old)
+        (λ bytes. FoundCircuitHeadline (map string_bytes words.now.items) bytes result (K.taken sink.old)
         (K.taken sink.new)) }
 
     // The headline of `generate`, whatever the source tells.
@@ -95,6 +101,9 @@ pub fn workbench<S: Source, K: Sink, W: Watch>(
     ensures ends { CallEnds (map string_bytes words.now.items) result
         (outside (S.left source.old) (K.taken sink.old) (W.told watch.old) (S.faults source.old) (K.faults sink.old))
         (outside (S.left source.new) (K.taken sink.new) (W.told watch.new) (S.faults source.new) (K.faults sink.new)) }
+
+    // The source isn't asked for bytes after it has failed, nor after it has said that it has ended.
+    ensures in_time { S.open source.old → S.overrun source.new → S.overrun source.old }
 
     // Words that need no input: the source is as it was.
     ensures unread { NeedNoInput (map string_bytes words.now.items) → source.new ≡ source.old }

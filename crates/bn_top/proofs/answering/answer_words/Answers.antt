@@ -14,7 +14,7 @@ returns-in-Some-OnConfiguration-clause-ends g c =
     let form = subst (λ r. HasForm words (request_of r)) c.in-Some-OnConfiguration.field-0-is
     c.in-Some-OnConfiguration.ensures in
     stream_call words (of_configuration asked) form (configuration_reads asked) c.answer_configuration.result _ _
-    c.answer_configuration.ensures
+    c.answer_configuration.ensures.ends
 
 pub returns-in-Some-OnConfiguration-clause-unread : goal.returns-in-Some-OnConfiguration-clause-unread
 returns-in-Some-OnConfiguration-clause-unread g c = λ needs.
@@ -29,7 +29,7 @@ returns-in-Some-OnWhole-clause-ends g c =
     let words = map (string_bytes {Z = Global}) c.args.words.now in
     let asked = c.in-Some-OnWhole.asked in
     let form = subst (λ r. HasForm words (request_of r)) c.in-Some-OnWhole.field-0-is c.in-Some-OnWhole.ensures in
-    stream_call words (of_whole asked) form (whole_reads asked) c.answer_whole.result _ _ c.answer_whole.ensures
+    stream_call words (of_whole asked) form (whole_reads asked) c.answer_whole.result _ _ c.answer_whole.ensures.ends
 
 pub returns-in-Some-OnWhole-clause-unread : goal.returns-in-Some-OnWhole-clause-unread
 returns-in-Some-OnWhole-clause-unread g c = λ needs.

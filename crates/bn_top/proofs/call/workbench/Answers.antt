@@ -5,7 +5,7 @@ use Rattle.bn_reply.specs.Outside.{outside}
 use Rattle.bn_top.specs.Clauses.{CallEnds}
 use Rattle.bn_top.specs.Outside.{NeedNoInput}
 use Rattle.bn_top.specs.QuadHeadlines.{BuildHeadline, DriveCircuitHeadline, DriveHeadline, InverseCommand}
-use Rattle.bn_top.proofs.CallLemmas.{circuit_by, command_by, found_by, found_machine_by}
+use Rattle.bn_top.proofs.CallLemmas.{circuit_by, command_by, found_by, found_circuit_by, found_machine_by}
 use Rattle.bn_top.proofs.CallLemmas.{generated_by, machine_by}
 use Rattle.bn_top.proofs.call.workbench.Goals as goal
 
@@ -46,6 +46,11 @@ returns-clause-found g c =
 pub returns-clause-found_machine : goal.returns-clause-found_machine
 returns-clause-found_machine g c =
     found_machine_by (map (string_bytes {Z = Global}) c.args.words.now.items) c.answer_words.result _ _
+    (returns-clause-ends g c)
+
+pub returns-clause-found_circuit : goal.returns-clause-found_circuit
+returns-clause-found_circuit g c =
+    found_circuit_by (map (string_bytes {Z = Global}) c.args.words.now.items) c.answer_words.result _ _
     (returns-clause-ends g c)
 
 pub returns-clause-generated : goal.returns-clause-generated
