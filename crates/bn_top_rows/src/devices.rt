@@ -61,6 +61,13 @@ const COMMANDS: [(&[&str], &str); 21] = [
     (&["check"], "S,_\n"),
 ];
 
+/// Each command that makes a board and answers a short text, with a small input.
+const BOARDS: [(&[&str], &str); 3] = [
+    (&["run", "=", "0", "2", "0", "1"], LEAST),
+    (&["view", "=", "0", "2", "2", "1", "9"], LEAST),
+    (&["session", "=", "0", "2", "2", "1"], SESSION),
+];
+
 /// How many bytes a call of a device passes on at most.
 #[derive(Clone, Copy)]
 enum Piece {
@@ -202,6 +209,47 @@ fn sink_fails(
     Ok(())
 }
 
+/// In whichever of these calls, counted from 0, the sink fails, that is told, and it has taken exactly what the calls
+/// before were given of this answer. They come before the answer's 4,097th byte, which is handed over later.
+fn sink_fails_exactly(
+    rt: &impl Abort,
+    alloc: Global,
+    list: &[&str],
+    input: &str,
+    whole: &[u8],
+    piece: Piece,
+    calls: &[u64],
+) -> Result<(), Fail> {
+    for call in calls {
+        let answer = answer_into(alloc, list, input, piece, call.saturating_add(1))?;
+        let taken = (*call as usize).saturating_mul(piece.bytes());
+        assert_eq!(rt; answer.status.code(), 8, "{input} {call}");
+        assert_eq!(rt;
+            Some(answer.text.as_slice()),
+            whole.get(..taken),
+            "{input} {call}"
+        );
+    }
+    Ok(())
+}
+
+/// The same at small pieces, in the first two calls, in the one in the middle and in the last.
+fn sink_of_small_pieces_fails(
+    rt: &impl Abort,
+    alloc: Global,
+    list: &[&str],
+    input: &str,
+) -> Result<(), Fail> {
+    let whole = answer(alloc, list, input.as_bytes())?;
+    let text = whole.text.as_slice();
+    for piece in [Piece::One, Piece::Seven] {
+        let made = piece.calls(text.len());
+        let calls = [0, 1, made / 2, made.saturating_sub(1)];
+        sink_fails_exactly(rt, alloc, list, input, text, piece, &calls)?;
+    }
+    Ok(())
+}
+
 #[test]
 fn a_source_may_fail_in_each_call(rt: HostRuntime) -> Result<(), Fail> {
     for (list, input) in COMMANDS {
@@ -220,6 +268,45 @@ fn a_sink_may_fail_in_each_call(rt: HostRuntime) -> Result<(), Fail> {
         }
     }
     Ok(())
+}
+
+#[test]
+fn a_sink_of_small_pieces_keeps_exactly_a_front(rt: HostRuntime) -> Result<(), Fail> {
+    for (list, input) in BOARDS {
+        sink_of_small_pieces_fails(&rt, rt.alloc(), list, input)?;
+    }
+    Ok(())
+}
+
+#[test]
+fn a_sink_keeps_exactly_a_front_of_a_compiled_text(rt: HostRuntime) -> Result<(), Fail> {
+    let list = ["compile", "=", "0", "2", "0", "1"];
+    let whole = answer(rt.alloc(), &list, LEAST.as_bytes())?;
+    let calls: Vec<u64> = (0u64..40).collect(rt.alloc())?;
+    sink_fails_exactly(
+        &rt,
+        rt.alloc(),
+        &list,
+        LEAST,
+        whole.text.as_slice(),
+        Piece::Hundred,
+        calls.as_slice(),
+    )
+}
+
+#[test]
+fn a_command_that_reads_nothing_needs_its_sink(rt: HostRuntime) -> Result<(), Fail> {
+    let list = ["generate", "1"];
+    let whole = answer(rt.alloc(), &list, b"")?;
+    sink_fails_exactly(
+        &rt,
+        rt.alloc(),
+        &list,
+        "",
+        whole.text.as_slice(),
+        Piece::Hundred,
+        &[0, 1],
+    )
 }
 
 #[test]

@@ -82,3 +82,21 @@ fn a_sink_that_fails_keeps_a_front(rt: HostRuntime) -> Result<(), Fail> {
     }
     Ok(())
 }
+
+#[test]
+fn a_fault_that_can_not_be_told_is_the_sinks(rt: HostRuntime) -> Result<(), Fail> {
+    let all = words(rt.alloc(), &["check"])?;
+    let mut source = MemSource::new(
+        Vec::from_slice(rt.alloc(), b"S,_\n")?,
+        10,
+        vec![in rt.alloc(); 1u64]?,
+    );
+    let failing = vec![in rt.alloc(); 1u64]?;
+    let Ok(mut sink) = MemSink::try_new(rt.alloc(), 100, 100, failing) else {
+        return Err(Fail::from(std::alloc::AllocError));
+    };
+    let status = workbench(rt.alloc(), &all, &mut source, &mut sink, &mut Quiet);
+    assert_eq!(rt; status.code(), 8);
+    assert!(rt; sink.taken().is_empty());
+    Ok(())
+}

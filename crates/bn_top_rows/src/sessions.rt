@@ -76,3 +76,19 @@ fn cuts_its_input_before_the_table_is_read(rt: HostRuntime) -> Result<(), Fail> 
     ];
     hold(&rt, rt.alloc(), &WORDS, &rows)
 }
+
+#[test]
+fn what_is_shown_after_steps_back_is_the_view_of_that_step(rt: HostRuntime) -> Result<(), Fail> {
+    let script = b"S,_,_,+,T\nT,_,_,0,F\n%\nstep 2000\nback 2\nview\n";
+    let session = answer(rt.alloc(), &WORDS, script.as_slice())?;
+    let view = answer(
+        rt.alloc(),
+        &["view", "=", "0", "2", "2", "1", "1998"],
+        b"S,_,_,+,T\nT,_,_,0,F\n",
+    )?;
+    assert_eq!(rt; session.status.code(), 0);
+    assert_eq!(rt; view.status.code(), 0);
+    assert!(rt; view.text.as_slice().starts_with(b"element at "));
+    assert!(rt; session.text.as_slice().ends_with(view.text.as_slice()));
+    Ok(())
+}
