@@ -1,0 +1,140 @@
+"""What no clause sees, held by bounds on large inputs: the peak of memory, and seconds of the processor.
+
+A body would still be proved that keeps a text whole, reads a byte at a time, has 64 bits for each line where 32 are enough,
+or looks a rule up by going through all. Each costs more than what is measured here may. That the bounds see it is tried with
+the first three planted beneath the program, in the calls that it makes of the system (a library laid before the system's;
+a C compiler makes it), and with the last one as so much more work behind the same answer.
+
+A bound in bytes is a tenth above what was measured, of a text that is kept far less than the text; one in seconds is several
+times what was measured, times how much slower this machine is now.
+"""
+import os
+import shutil
+import subprocess
+import sys
+from types import SimpleNamespace
+
+import limits
+import places
+import pytest
+
+sys.path.append(os.path.join(places.TOP, "bench"))
+from bench import RING, launched, ring
+from run import increments
+
+pytestmark = [pytest.mark.slow, pytest.mark.engine]
+
+# Bytes an element at the peak, and seconds of the processor on an idle machine.
+MOST_OF_READING, MOST_OF_WRITING, MOST_OF_READING_SECONDS, MOST_OF_LOOKING_UP_SECONDS = 27, 25, 0.6, 0.6
+
+BENEATH = r"""#define _GNU_SOURCE
+#include <dlfcn.h>
+#include <stdlib.h>
+#include <string.h>
+#include <unistd.h>
+extern void *__libc_malloc(size_t);
+static int is(const char *name) { const char *told = getenv("PLANTED"); return told && !strcmp(told, name); }
+static void keep(const void *bytes, ssize_t count) {
+    if (count > 0) { void *copy = __libc_malloc((size_t)count); if (copy) memcpy(copy, bytes, (size_t)count); }
+}
+ssize_t read(int file, void *bytes, size_t count) {
+    static ssize_t (*real)(int, void *, size_t);
+    if (!real) *(void **)&real = dlsym(RTLD_NEXT, "read");
+    return real(file, bytes, count && is("a byte at a time") ? 1 : count);
+}
+ssize_t write(int file, const void *bytes, size_t count) {
+    static ssize_t (*real)(int, const void *, size_t);
+    if (!real) *(void **)&real = dlsym(RTLD_NEXT, "write");
+    ssize_t given = real(file, bytes, count);
+    if (is("a text kept whole")) keep(bytes, given);
+    return given;
+}
+void *malloc(size_t count) {
+    if (count < 1 << 24 || !is("64 bits a line")) return __libc_malloc(count);
+    char *room = __libc_malloc(2 * count);
+    if (room) memset(room + count, 1, count);
+    return room;
+}
+"""
+
+
+def held(cost, most, what):
+    assert cost <= most, f"{what}: {cost:.2f}, where {most:.2f} is the most"
+
+
+def hold_reading(program):
+    """`step 0` of a ring: its wires take 16 bytes an element, in 32 bits a line, and its text isn't kept."""
+    text = ring(list(range(RING)), 1)
+    _, seconds, memory, out = launched(program, ["step", "0"], text)
+    assert out == text
+    held(memory / RING, MOST_OF_READING, "`step 0` of a ring, bytes an element")
+    held(seconds, MOST_OF_READING_SECONDS * limits.slowness(), "`step 0` of a ring, seconds")
+
+
+def hold_writing(program):
+    """`compile` of the widest window: its text of 220 MB isn't kept."""
+    _, _, memory, out = launched(program, ["compile", *limits.WIDEST], increments(1))
+    assert out.startswith(f"rotary 2\nelements {limits.WIDEST_ELEMENTS}\n".encode())
+    held(memory / limits.WIDEST_ELEMENTS, MOST_OF_WRITING, "`compile` of the widest window, bytes an element")
+
+
+def hold_looking_up(program):
+    """`machine` for the most steps, by the last two of the most quintuples."""
+    passed = "".join(f"U{number},_,_,0,U{number + 1}\n" for number in range(1, limits.MOST_QUINTUPLES - 3))
+    table = f"S,_,_,+,R\n{passed}U{limits.MOST_QUINTUPLES - 3},_,_,0,F\nR,_,_,+,R\n".encode()
+    words = ["machine", "=", str(limits.MOST_MACHINE_STEPS)]
+    _, seconds, _, out = launched(program, words, table, limits.INSIDE)
+    assert out
+    held(seconds, MOST_OF_LOOKING_UP_SECONDS * limits.slowness(), "`machine` with the most quintuples, seconds")
+
+
+HOLDS = [hold_reading, hold_writing, hold_looking_up]
+
+
+@pytest.mark.parametrize("hold", HOLDS, ids=lambda it: it.__name__)
+def test_what_a_command_costs(hold, proved_program):
+    hold(proved_program)
+
+
+@pytest.fixture(scope="module")
+def planted(proved_program, tmp_path_factory):
+    """Programs with one of the bodies planted: each a script that runs the proved one."""
+    compiler = shutil.which(os.environ.get("CC", "cc"))
+    if not compiler:
+        pytest.skip("a C compiler isn't installed: tools/setup")
+    work = str(tmp_path_factory.mktemp("planted"))
+    source, library = os.path.join(work, "beneath.c"), os.path.join(work, "beneath.so")
+    places.write(source, BENEATH)
+    subprocess.run([compiler, "-O1", "-fno-builtin", "-shared", "-fPIC", "-o", library, source, "-ldl"], check=True)
+
+    def program(name, behind=""):
+        path = os.path.join(work, name.replace(" ", "-"))
+        places.write(
+            path,
+            f'#!/bin/sh\nLD_PRELOAD={library} PLANTED="{name}" {proved_program} "$@"\nended=$?\n{behind}\nexit $ended\n',
+        )
+        os.chmod(path, 0o755)
+        return path
+
+    return SimpleNamespace(program=program)
+
+
+@pytest.mark.parametrize(
+    "name, hold",
+    [
+        ("a text kept whole", hold_reading),
+        ("a text kept whole", hold_writing),
+        ("a byte at a time", hold_reading),
+        ("64 bits a line", hold_reading),
+    ],
+)
+def test_a_planted_body_is_seen(planted, name, hold):
+    with pytest.raises(AssertionError, match="is the most"):
+        hold(planted.program(name))
+
+
+def test_a_rule_that_is_found_by_looking_through_all_is_seen(planted):
+    """2,000 rules are looked at on the way to one, a million times: no less than as many steps of a loop in C."""
+    looked = "i=0; while [ $i -lt 3000000 ]; do i=$((i+1)); done"
+    with pytest.raises(AssertionError, match="seconds"):
+        hold_looking_up(planted.program("looking through all", looked))
