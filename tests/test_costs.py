@@ -25,7 +25,7 @@ from run import increments
 pytestmark = [pytest.mark.slow, pytest.mark.engine]
 
 # Bytes an element at the peak, and seconds of the processor on an idle machine.
-MOST_OF_READING, MOST_OF_WRITING, MOST_OF_READING_SECONDS, MOST_OF_LOOKING_UP_SECONDS = 27, 25, 0.6, 0.6
+MOST_OF_READING, MOST_OF_WRITING, MOST_OF_READING_SECONDS, MOST_OF_LOOKING_UP_SECONDS = 29, 25, 0.6, 2
 
 BENEATH = r"""#define _GNU_SOURCE
 #include <dlfcn.h>
@@ -79,13 +79,14 @@ def hold_writing(program):
 
 
 def hold_looking_up(program):
-    """`machine` for the most steps, by the last two of the most quintuples."""
-    passed = "".join(f"U{number},_,_,0,U{number + 1}\n" for number in range(1, limits.MOST_QUINTUPLES - 3))
-    table = f"S,_,_,+,R\n{passed}U{limits.MOST_QUINTUPLES - 3},_,_,0,F\nR,_,_,+,R\n".encode()
-    words = ["machine", "=", str(limits.MOST_MACHINE_STEPS)]
+    """`moments` of as many steps as may be, by the first and the last but one of the most quadruples."""
+    count = limits.MOST_QUADRUPLES - 3
+    passed = "".join(f"U{number},_,/,/,_,0,0,U{number + 1}\n" for number in range(1, count + 1))
+    table = f"A,/,/,/,+,-,0,B\n{passed}B,_,/,/,_,0,0,A\nC,_,_,_,_,_,_,F\n".encode()
+    words = ["moments", "=", str(limits.MOST_MACHINE_STEPS)]
     _, seconds, _, out = launched(program, words, table, limits.INSIDE)
-    assert out
-    held(seconds, MOST_OF_LOOKING_UP_SECONDS * limits.slowness(), "`machine` with the most quintuples, seconds")
+    assert out.endswith(f"running {limits.MOST_MACHINE_STEPS}\n".encode())
+    held(seconds, MOST_OF_LOOKING_UP_SECONDS * limits.slowness(), "`moments` with the most quadruples, seconds")
 
 
 HOLDS = [hold_reading, hold_writing, hold_looking_up]
@@ -134,7 +135,7 @@ def test_a_planted_body_is_seen(planted, name, hold):
 
 
 def test_a_rule_that_is_found_by_looking_through_all_is_seen(planted):
-    """2,000 rules are looked at on the way to one, a million times: no less than as many steps of a loop in C."""
-    looked = "i=0; while [ $i -lt 3000000 ]; do i=$((i+1)); done"
+    """20,000 rules are looked at for every other step of a million, which is no less than such a sum."""
+    looked = f"{sys.executable} -c 'sum(range(1_000_000_000))'"
     with pytest.raises(AssertionError, match="seconds"):
         hold_looking_up(planted.program("looking through all", looked))
