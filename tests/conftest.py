@@ -154,6 +154,23 @@ def proved_program(pytestconfig):
 
 
 @pytest.fixture(scope="session")
+def laid_before(tmp_path_factory):
+    """Makes a library of C that is laid before the system's (LD_PRELOAD), and gives its path; skips where no compiler is."""
+
+    def made(name, text):
+        compiler = shutil.which(os.environ.get("CC", "cc"))
+        if not compiler:
+            pytest.skip("a C compiler isn't installed: tools/setup")
+        work = str(tmp_path_factory.mktemp(name))
+        source, library = os.path.join(work, f"{name}.c"), os.path.join(work, f"{name}.so")
+        places.write(source, text)
+        subprocess.run([compiler, "-O1", "-fno-builtin", "-shared", "-fPIC", "-o", library, source, "-ldl"], check=True)
+        return library
+
+    return made
+
+
+@pytest.fixture(scope="session")
 def module():
     """The path of bin/hithwelor, the same code under node, where it is built of the sources that stand."""
     found = places.told_program("--module")

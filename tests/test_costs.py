@@ -5,14 +5,11 @@ or looks a rule up by going through all. Each costs more than what is measured h
 the first three planted beneath the program, in the calls that it makes of the system (a library laid before the system's;
 a C compiler makes it), and with the last one as so much more work behind the same answer.
 
-A bound in bytes is a tenth above what was measured, of a text that is kept far less than the text; one in seconds is several
-times what was measured, times how much slower this machine is now.
+A bound in bytes is a tenth above what was measured, which is far less than a text more; one in seconds is some times what was
+measured, and greater where this machine is slower now.
 """
 import os
-import shutil
-import subprocess
 import sys
-from types import SimpleNamespace
 
 import limits
 import places
@@ -98,26 +95,17 @@ def test_what_a_command_costs(hold, proved_program):
 
 
 @pytest.fixture(scope="module")
-def planted(proved_program, tmp_path_factory):
-    """Programs with one of the bodies planted: each a script that runs the proved one."""
-    compiler = shutil.which(os.environ.get("CC", "cc"))
-    if not compiler:
-        pytest.skip("a C compiler isn't installed: tools/setup")
-    work = str(tmp_path_factory.mktemp("planted"))
-    source, library = os.path.join(work, "beneath.c"), os.path.join(work, "beneath.so")
-    places.write(source, BENEATH)
-    subprocess.run([compiler, "-O1", "-fno-builtin", "-shared", "-fPIC", "-o", library, source, "-ldl"], check=True)
+def planted(proved_program, laid_before, tmp_path_factory):
+    """Makes a script that runs the proved program with one of the bodies planted, and gives its path."""
+    library, work = laid_before("beneath", BENEATH), str(tmp_path_factory.mktemp("planted"))
 
-    def program(name, behind=""):
+    def script(name, behind=""):
         path = os.path.join(work, name.replace(" ", "-"))
-        places.write(
-            path,
-            f'#!/bin/sh\nLD_PRELOAD={library} PLANTED="{name}" {proved_program} "$@"\nended=$?\n{behind}\nexit $ended\n',
-        )
-        os.chmod(path, 0o755)
+        run = f'LD_PRELOAD={library} PLANTED="{name}" {proved_program} "$@"'
+        places.write(path, f"#!/bin/sh\n{run}\nended=$?\n{behind}\nexit $ended\n", is_run=True)
         return path
 
-    return SimpleNamespace(program=program)
+    return script
 
 
 @pytest.mark.parametrize(
@@ -131,11 +119,11 @@ def planted(proved_program, tmp_path_factory):
 )
 def test_a_planted_body_is_seen(planted, name, hold):
     with pytest.raises(AssertionError, match="is the most"):
-        hold(planted.program(name))
+        hold(planted(name))
 
 
 def test_a_rule_that_is_found_by_looking_through_all_is_seen(planted):
     """20,000 rules are looked at for every other step of a million, which is no less than such a sum."""
     looked = f"{sys.executable} -c 'sum(range(1_000_000_000))'"
     with pytest.raises(AssertionError, match="seconds"):
-        hold_looking_up(planted.program("looking through all", looked))
+        hold_looking_up(planted("looking through all", looked))

@@ -6,7 +6,6 @@ close together at first and far apart later; with `--every` at every one, and on
 The heap is a library that is laid before the system's; a C compiler makes it.
 """
 import os
-import shutil
 import subprocess
 from concurrent.futures import ThreadPoolExecutor
 
@@ -84,16 +83,10 @@ pytestmark = [pytest.mark.slow, pytest.mark.engine]
 
 
 @pytest.fixture(scope="module")
-def refusals(proved_program, tmp_path_factory):
+def refusals(proved_program, laid_before):
     """Runs commands of the proved program on a heap that refuses."""
-    compiler = shutil.which(os.environ.get("CC", "cc"))
-    if not compiler:
-        pytest.skip("a C compiler isn't installed: tools/setup")
-    work = str(tmp_path_factory.mktemp("heap"))
-    source, path = os.path.join(work, "heap.c"), os.path.join(work, "heap.so")
-    places.write(source, HEAP)
-    subprocess.run([compiler, "-O1", "-fno-builtin", "-shared", "-fPIC", "-o", path, source], check=True)
-    return Refusals(proved_program, path, work)
+    path = laid_before("heap", HEAP)
+    return Refusals(proved_program, path, os.path.dirname(path))
 
 
 class Refusals:
