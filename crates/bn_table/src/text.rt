@@ -1,6 +1,6 @@
 //! Reading and writing the text of a table.
 
-ghost use Rattle.std.specs.Prelude.{◌≡◌, ◌<◌, ◌++◌, ◌∷◌, [], true, ◌≢◌, Some, IfOk, IfErr, OnOk};
+ghost use Rattle.std.specs.Prelude.{◌≡◌, ◌<◌, ◌++◌, ◌∷◌, [], true, ◌≢◌, Some, IfOk, IfErr, OnOk, OnErr};
 ghost use Rattle.bn_csv.specs.Entries.{entries_of};
 ghost use Rattle.bn_csv.specs.Lines.{is_plain_entry, line_of, lines_of};
 ghost use Rattle.bn_machine.specs.Machine.{IsInRange};
@@ -38,14 +38,15 @@ fn write_fields<'a>(
     next: &'a [u8],
 ) -> Result<(), NoMemory>
     requires { is_plain_entry (state.now ∷ read.now ∷ write.now ∷ shift.now ∷ next.now ∷ []) ≡ true }
-    ensures { OnOk result (writer.new
+    ensures written { OnOk result (writer.new
         ≡ writer.old ++ line_of (state.now ∷ read.now ∷ write.now ∷ shift.now ∷ next.now ∷ [])) }
+    ensures lost { OnErr result (writer.new ≡ []) }
 {
     writer.write_entry(&[state, read, write, shift, next])
 }
 
 /// Writes the entry of a quintuple, by the names of its states and the letters of its symbols, each in the form that
-/// tables want. After `NoMemory` the text is lost.
+/// tables want. After `NoMemory` the writer's text is empty.
 pub fn write_row(
     writer: &mut EntryWriter,
     state: &[u8],
@@ -55,7 +56,9 @@ pub fn write_row(
     next: &[u8],
 ) -> Result<(), NoMemory>
     requires { HasForms (said state.now read write shift next.now) }
-    ensures { OnOk result (writer.new ≡ writer.old ++ line_of (entry_of (said state.now read write shift next.now))) }
+    ensures written { OnOk result (writer.new
+        ≡ writer.old ++ line_of (entry_of (said state.now read write shift next.now))) }
+    ensures lost { OnErr result (writer.new ≡ []) }
 {
     write_fields(writer, state, &[read], &[write], text_of_shift(shift), next)
 }

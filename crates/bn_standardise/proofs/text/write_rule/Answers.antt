@@ -37,4 +37,4 @@ returns c =
     subst P (row_is letters r c.as_slice.result.now c.as_slice-2.result.now c.letter.result c.letter-2.result
     (c.as_slice.ensures.value ∙ c.in_ok-state.ensures) (c.as_slice-2.ensures.value ∙ c.in_ok-next.ensures)
     (get_or_from_slice_get letters r.read c.letter.result 0 c.letter.ensures)
-    (get_or_from_slice_get letters r.write c.letter-2.result 0 c.letter-2.ensures)) c.write_row.ensures
+    (get_or_from_slice_get letters r.write c.letter-2.result 0 c.letter-2.ensures)) c.write_row.ensures.written

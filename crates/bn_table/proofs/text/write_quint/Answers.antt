@@ -27,4 +27,4 @@ returns c =
       get_or_from_slice_get t.letters c.args.quint.now.read c.letter.result 0 c.letter.ensures,
       get_or_from_slice_get t.letters c.args.quint.now.write c.letter-2.result 0 c.letter-2.ensures,
       get_or_from_slice_get t.names c.args.quint.now.next c.state_name-2.result.now [] c.state_name-2.ensures,
-    ) c.write_row.ensures
+    ) c.write_row.ensures.written
