@@ -1,9 +1,9 @@
 -- The letters of a word, one after another.
-use Rattle.std.proofs.Common.{append_assoc, ◌≡◌, ◌≢◌, ◌<◌, ◌+◌, ◌++◌, ◌∷◌, ◌∙◌, ℕ, suc, List, [], length, take, get_or}
+use Rattle.std.proofs.Common.{append_assoc, ◌≡◌, ◌≢◌, ◌<◌, ◌+◌, ◌++◌, ◌∷◌, ◌∙◌, ℕ, suc, List, [], length, take, drop, get_or}
 use Rattle.std.proofs.Common.{Option, Some, None, arith, sym, ap}
 use Rattle.std.proofs.Common.{subst, refl}
 use Rattle.std.specs.Prelude.{Contains, IfSome, IfNone, MatchOption, slice_get}
-use Rattle.std.proofs.lemmas.List.{take_more, map-append}
+use Rattle.std.proofs.lemmas.List.{take_more, map-append, take-append-drop}
 use Rattle.std.proofs.lemmas.List.Elements.{All-push}
 use Rattle.std.proofs.lemmas.Option.{slice_get_within, get_or_from_slice_get, slice_get-get_or}
 use Rattle.bn_lists.specs.Lists.{nth, AllBefore}
@@ -109,3 +109,10 @@ letters_of-next t text symbols n byte inside here =
     append_assoc text (letters_of t (take n symbols)) (byte ∷ [])
     ∙ ap (λ (rest : List ℕ). text ++ rest) (sym (letters_of-more t (take n symbols) (get_or symbols n 0) byte here)
     ∙ ap (letters_of t) (sym (take_more symbols n 0 inside)))
+
+-- the letters of the first symbols, and those of the rest
+pub letters_of-front : (t : Named) (symbols : List ℕ) (n : ℕ)
+    → letters_of t symbols ≡ letters_of t (take n symbols) ++ letters_of t (drop n symbols)
+letters_of-front t symbols n =
+    ap (letters_of t) (sym (take-append-drop n symbols))
+    ∙ map-append (λ symbol. get_or t.letters symbol 0) (take n symbols) (drop n symbols)

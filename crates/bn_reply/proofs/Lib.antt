@@ -7,3 +7,4 @@ pub mod ReplyLemmas
 pub mod StreamLemmas
 pub mod PieceLemmas
 pub mod CountLemmas
+pub mod FrontLemmas

@@ -9,3 +9,4 @@ pub mod Words
 pub mod TableReply
 pub mod Letters
 pub mod Opened
+pub mod Fronts

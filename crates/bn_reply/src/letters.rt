@@ -1,6 +1,7 @@
 //! The letters of a table and the symbols of a word.
 
-ghost use Rattle.std.specs.Prelude.{◌≡◌, ◌<◌, ◌++◌, All, OnOk, MatchOption};
+ghost use Rattle.std.specs.Prelude.{◌≡◌, ◌<◌, ◌++◌, All, OnOk, OnErr, MatchOption};
+ghost use Rattle.bn_reply.specs.Fronts.{GrewInPart};
 ghost use Rattle.bn_reply.specs.Letters.{IsSymbolOf};
 ghost use Rattle.bn_reply.specs.Words.{IsLetterOf, letters_of};
 
@@ -22,10 +23,11 @@ pub(crate) fn symbol_of(table: &Table, byte: u8) -> Option<u32>
     table.symbol_of(byte)
 }
 
-/// Appends the letters of some symbols.
+/// Appends the letters of some symbols. After `NoMemory` the letters of the first of them may stand behind the text.
 pub fn push_letters(text: &mut Vec<u8>, table: &Table, symbols: &[u32]) -> Result<(), NoMemory>
     requires { All (λ symbol. symbol < table.now.machine.symbols) symbols.now }
-    ensures { OnOk result (text.new.items ≡ text.old.items ++ letters_of table.now symbols.now) }
+    ensures added { OnOk result (text.new.items ≡ text.old.items ++ letters_of table.now symbols.now) }
+    ensures refused { OnErr result (GrewInPart text.old.items text.new.items (letters_of table.now symbols.now)) }
 {
     for symbol in symbols {
         text.push(table.letter(*symbol))?;
