@@ -12,3 +12,4 @@ pub mod SameNames
 pub mod Tables
 pub mod Texts
 pub mod ThereLemmas
+mod InPartLemmas

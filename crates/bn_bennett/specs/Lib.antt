@@ -5,3 +5,4 @@ pub mod Meaning
 pub mod Printed
 pub mod Runs
 pub mod Laws
+pub mod InPart

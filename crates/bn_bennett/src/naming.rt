@@ -1,5 +1,5 @@
 //! The printed names of the reversible machine's states and symbols.
-ghost use Rattle.std.specs.Prelude.{◌≡◌, ◌+◌, ◌-◌, ◌^◌, ◌<◌, ◌≤◌, [], ◌∷◌, IfOk, OnOk, length, map, decimal};
+ghost use Rattle.std.specs.Prelude.{◌≡◌, ◌+◌, ◌-◌, ◌^◌, ◌<◌, ◌≤◌, [], ◌∷◌, IfOk, OnOk, OnErr, length, map, decimal};
 ghost use Rattle.std.specs.List.{range_with_len};
 ghost use Rattle.bn_quad.specs.Names.{nameless, symbols_on};
 ghost use Rattle.bn_qtable.specs.Named.{HasNames};
@@ -8,6 +8,7 @@ ghost use Rattle.bn_bennett.specs.Translation.{IsTranslation};
 ghost use Rattle.bn_bennett.specs.Printed.{print_of, bennett_state_text, one_byte, number_names, ArePrintable};
 ghost use Rattle.bn_bennett.specs.Printed.{AreLetters, with_states};
 ghost use Rattle.bn_bennett.specs.Printed.{on_tape, translation_names};
+ghost use Rattle.bn_bennett.specs.InPart.{AreNamedInPart};
 
 use crate::laws::{translations_are_tables, translations_have_names};
 use crate::translated::Translated;
@@ -84,13 +85,14 @@ fn add_states(alloc: Global, names: &mut QuadNames, states: &[Name]) -> Result<(
 }
 
 /// Names the symbols of a tape from 1 to 3, which have no names yet, by these letters, no two of them the same. After
-/// `NoMemory` some of the symbols have names.
+/// `NoMemory` the first of the symbols may have their names, and nothing else has changed.
 pub fn add_letters(names: &mut QuadNames, tape: u32, letters: &[u8]) -> Result<(), NoMemory>
     requires first { 1 ≤ tape }
     requires last { tape ≤ 3 }
     requires letters { AreLetters letters.now }
     requires empty { symbols_on names.old tape ≡ [] }
-    ensures { OnOk result (names.new ≡ on_tape names.old tape (map one_byte letters.now)) }
+    ensures named { OnOk result (names.new ≡ on_tape names.old tape (map one_byte letters.now)) }
+    ensures refused { OnErr result (AreNamedInPart names.old names.new tape (map one_byte letters.now)) }
 {
     for letter in letters {
         names.add_symbol(tape, &[*letter])?;
@@ -99,11 +101,12 @@ pub fn add_letters(names: &mut QuadNames, tape: u32, letters: &[u8]) -> Result<(
 }
 
 /// Names the symbols of tape 2, the history, which have no names yet: `_` for the blank, and the numbers from 1 to
-/// `count`. After `NoMemory` some of them have names.
+/// `count`. After `NoMemory` the first of them may have their names, and nothing else has changed.
 pub fn add_history_symbols(alloc: Global, names: &mut QuadNames, count: u32) -> Result<(), NoMemory>
     requires few { count < 2 ^ 32 - 2 }
     requires empty { symbols_on names.old 2 ≡ [] }
-    ensures { OnOk result (names.new ≡ on_tape names.old 2 (number_names count)) }
+    ensures named { OnOk result (names.new ≡ on_tape names.old 2 (number_names count)) }
+    ensures refused { OnErr result (AreNamedInPart names.old names.new 2 (number_names count)) }
 {
     names.add_symbol(2, b"_")?;
     for index in 0..count {

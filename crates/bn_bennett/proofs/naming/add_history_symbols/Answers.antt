@@ -5,6 +5,7 @@ use Rattle.bn_quad.specs.Names.{symbols_on}
 use Rattle.bn_bennett.specs.Printed.{number_names, on_tape}
 use Rattle.bn_bennett.proofs.Texts.{length-number_names, number_new, numbers_more, symbol_new, symbols_before}
 use Rattle.bn_bennett.proofs.Texts.{symbols_more}
+use Rattle.bn_bennett.proofs.InPartLemmas.{if_refused, numbers_in_part}
 use Rattle.bn_bennett.proofs.naming.add_history_symbols.Goals as goal
 
 pub add_symbol-requires-in-loop-index-clause-new :
@@ -33,3 +34,13 @@ loop-index-preserved c =
     (number_names i) c.as_slice.result.now c.loop-index.invariant c.in_ok-add_symbol-2.ensures.ok
     ∙ ap (λ t. on_tape c.args.names.now 2 (number_names i ++ t ∷ [])) text
     ∙ ap (on_tape c.args.names.now 2) (numbers_more i)
+
+pub returns-in_err-text-clause-refused : goal.returns-in_err-text-clause-refused
+returns-in_err-text-clause-refused c = if_refused c.from_residual-in_err-text.result
+    (numbers_in_part c.args.names.now c.loop-index.names 2 c.loop-index.index c.args.count (omega arith)
+    c.loop-index.invariant)
+
+pub returns-in_err-add_symbol-2-clause-refused : goal.returns-in_err-add_symbol-2-clause-refused
+returns-in_err-add_symbol-2-clause-refused c = if_refused c.from_residual-in_err-add_symbol-2.result
+    (numbers_in_part c.args.names.now c.add_symbol-in-loop-index.new.self 2 c.loop-index.index c.args.count
+    (omega arith) (c.in_err-add_symbol-2.ensures.err ∙ c.loop-index.invariant))

@@ -3,6 +3,7 @@ use Rattle.std.proofs.Common.{◌≡◌, ◌∙◌, ap, arith, length, map, take
 use Rattle.bn_quad.specs.Names.{symbols_on}
 use Rattle.bn_bennett.specs.Printed.{one_byte, on_tape}
 use Rattle.bn_bennett.proofs.Texts.{letter_new, letters_before, letters_more, symbol_new, symbols_before, symbols_more}
+use Rattle.bn_bennett.proofs.InPartLemmas.{if_refused, letters_in_part}
 use Rattle.bn_bennett.proofs.naming.add_letters.Goals as goal
 
 pub add_symbol-requires-clause-new : goal.add_symbol-requires-clause-new
@@ -31,3 +32,8 @@ loop-letter-preserved c =
     (map one_byte (take i letters)) (one_byte (get_or letters i 0)) c.loop-letter.invariant
     c.in_ok-add_symbol.ensures.ok
     ∙ ap (on_tape c.args.names.now c.args.tape) (letters_more letters i 0 c.loop-letter-test.true)
+
+pub returns-in_err-add_symbol-clause-refused : goal.returns-in_err-add_symbol-clause-refused
+returns-in_err-add_symbol-clause-refused c = if_refused c.from_residual.result
+    (letters_in_part c.args.names.now c.add_symbol.new.self c.args.tape c.args.letters.now c.loop-letter.letter-index
+    (c.in_err-add_symbol.ensures.err ∙ c.loop-letter.invariant))
