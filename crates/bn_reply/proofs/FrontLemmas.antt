@@ -37,3 +37,32 @@ of_equal old new one two e g = let P : List ℕ → Type 0 = λ whole. GrewInPar
 pub if_refused : {T E P : Type 0} (r : Result T E) → P → OnErr r P
 if_refused (Ok x) p = tt
 if_refused (Err y) p = p
+
+-- ---- piece by piece
+
+-- of the whole a front has come, and the rest is to come
+pub record CameSoFar (old now whole rest : List ℕ) : Type 0 where
+  pub front : List ℕ
+  pub split : whole ≡ front ++ rest
+  pub grown : now ≡ old ++ front
+
+pub none_came : (old whole : List ℕ) → CameSoFar old old whole whole
+none_came old whole = record { front = []; split = refl; grown = sym (append-nil old) }
+
+pub more_came : (old now later whole piece left rest : List ℕ) → CameSoFar old now whole rest → rest ≡ piece ++ left
+    → later ≡ now ++ piece → CameSoFar old later whole left
+more_came old now later whole piece left rest h e more = record {
+  front = h.front ++ piece;
+  split = h.split ∙ ap (λ text. h.front ++ text) e ∙ sym (append_assoc h.front piece left);
+  grown = more ∙ ap (λ text. text ++ piece) h.grown ∙ append_assoc old h.front piece;
+}
+
+pub all_came : (old now whole rest : List ℕ) → CameSoFar old now whole rest → rest ≡ [] → now ≡ old ++ whole
+all_came old now whole rest h e =
+    h.grown ∙ ap (λ text. old ++ text) (sym (h.split ∙ ap (λ text. h.front ++ text) e ∙ append-nil h.front))
+
+pub part_came : (old now later whole piece left rest : List ℕ) → CameSoFar old now whole rest → rest ≡ piece ++ left
+    → GrewInPart now later piece → GrewInPart old later whole
+part_came old now later whole piece left rest h e g =
+    of_equal old later (h.front ++ (piece ++ left)) whole (sym (h.split ∙ ap (λ text. h.front ++ text) e))
+    (behind_first old now later h.front (piece ++ left) h.grown (in_first now later piece left g))
