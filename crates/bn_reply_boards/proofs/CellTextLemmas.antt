@@ -1,11 +1,13 @@
 -- The text of cells, one after another, and the output that they show.
-use Rattle.std.specs.Prelude.{◌≡◌, ◌≢◌, ℕ, ◌+◌, ◌-◌, ◌<◌, ◌≤◌, List, [], ◌∷◌, ◌++◌, All, length, drop, take, Option}
+use Rattle.std.specs.Prelude.{◌≡◌, ◌≢◌, ℕ, ◌+◌, ◌-◌, ◌<◌, ◌≤◌, List, [], ◌∷◌, ◌++◌, All, length, drop, take, Option, codes}
 use Rattle.std.specs.Prelude.{Some, None, refl}
 use Rattle.std.proofs.Common.{zero, suc, arith, add-one, drop-cons, get_or, sym, ap, ◌∙◌, append-nil, append_assoc}
 use Rattle.std.proofs.lemmas.List.{drop_all, take_all, length-drop}
 use Rattle.bn_table.specs.Rows.{Named}
-use Rattle.bn_reply_boards_laws.specs.RunText.{cells_text, output_from, symbol_text}
-use Rattle.bn_reply_boards.specs.Shown.{HasLetter, HaveLetters}
+use Rattle.bn_board_spec.specs.declared.spelled.SpelledTape.{SpelledTape}
+use Rattle.bn_reply.specs.Lines.{position_text}
+use Rattle.bn_reply_boards_laws.specs.RunText.{cells_text, head_text, output_from, symbol_text}
+use Rattle.bn_reply_boards.specs.Shown.{HasLetter, HaveLetters, bounds_text}
 
 -- what is left of a list behind one more
 drop_one : {X : Type 0} (xs : List X) (k : ℕ) (d x : X) → k < length xs → get_or xs k d ≡ x
@@ -21,22 +23,21 @@ module _ (t : Named) (tape : ℕ) where
   cell_first (Some s) cells = ap (λ text. 32 ∷ (text ++ cells_text t tape cells))
       (sym (append-nil (symbol_text t tape s)))
 
-  pub cell_pushed : (cells : List (Option ℕ)) (k : ℕ) (d o : Option ℕ) (first before now : List ℕ) → k < length cells
-      → get_or cells k d ≡ o
-      → first ++ cells_text t tape cells ≡ before ++ cells_text t tape (drop k cells)
-      → now ≡ before ++ cells_text t tape (o ∷ [])
-      → first ++ cells_text t tape cells ≡ now ++ cells_text t tape (drop (k + 1) cells)
-  cell_pushed cells k d o first before now low is so_far more =
-      so_far ∙ ap (λ cs. before ++ cells_text t tape cs) (drop_one cells k d o low is)
-      ∙ ap (λ text. before ++ text) (cell_first o (drop (k + 1) cells))
-      ∙ sym (append_assoc before (cells_text t tape (o ∷ [])) (cells_text t tape (drop (k + 1) cells)))
-      ∙ ap (λ text. text ++ cells_text t tape (drop (k + 1) cells)) (sym more)
+  -- the cells from k on are that at k and those behind it
+  pub cells_on : (cells : List (Option ℕ)) (k : ℕ) (d o : Option ℕ) → k < length cells → get_or cells k d ≡ o
+      → cells_text t tape (drop k cells) ≡ cells_text t tape (o ∷ []) ++ cells_text t tape (drop (k + 1) cells)
+  cells_on cells k d o low is = ap (cells_text t tape) (drop_one cells k d o low is)
+      ∙ cell_first o (drop (k + 1) cells)
 
-  pub cells_pushed : (cells : List (Option ℕ)) (k : ℕ) (first now : List ℕ) → length cells ≤ k
-      → first ++ cells_text t tape cells ≡ now ++ cells_text t tape (drop k cells)
-      → now ≡ first ++ cells_text t tape cells
-  cells_pushed cells k first now past so_far =
-      sym (append-nil now) ∙ ap (λ cs. now ++ cells_text t tape cs) (sym (drop_all k cells past)) ∙ sym so_far
+  pub none_left : (cells : List (Option ℕ)) (k : ℕ) → length cells ≤ k → cells_text t tape (drop k cells) ≡ []
+  none_left cells k past = ap (cells_text t tape) (drop_all k cells past)
+
+-- the position of a tape's first cell and that of its head, before what stands behind them
+pub bounds_apart : (s : SpelledTape) (rest : List ℕ) → bounds_text s ++ rest ≡ codes " from " ++ (position_text s.first
+    ++ (codes " head " ++ (head_text s.head ++ (codes ":" ++ rest))))
+bounds_apart s rest = ap (λ text. codes " from " ++ text)
+    (append_assoc (position_text s.first) (codes " head " ++ (head_text s.head ++ codes ":")) rest
+    ∙ ap (λ text. position_text s.first ++ (codes " head " ++ text)) (append_assoc (head_text s.head) (codes ":") rest))
 
 -- ---- the output
 

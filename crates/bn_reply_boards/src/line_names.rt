@@ -1,7 +1,8 @@
 //! The names of the lines of cells and of the control.
 
-ghost use Rattle.std.specs.Prelude.{◌≡◌, ◌<◌, ◌++◌, OnOk};
+ghost use Rattle.std.specs.Prelude.{◌≡◌, ◌<◌, ◌++◌, OnOk, OnErr};
 ghost use Rattle.bn_bennett_laws.specs.List.{symbols_of};
+ghost use Rattle.bn_reply.specs.Fronts.{GrewInPart};
 ghost use Rattle.bn_reply_boards.specs.LineNames.{AreFew, answer_line, answer_text, cell_line_text, control_line_text};
 ghost use Rattle.bn_reply_boards.specs.LineNames.{counts_in};
 
@@ -10,9 +11,10 @@ use bn_network::CellLine;
 use bn_reply::{NoMemory, push};
 use bn_table::Table;
 
-/// Appends the name of a cell's line.
+/// Appends the name of a cell's line. After `NoMemory` a front of the name may stand behind the text.
 pub fn push_cell_line(text: &mut Vec<u8>, line: CellLine) -> Result<(), NoMemory>
-    ensures { OnOk result (text.new.items ≡ text.old.items ++ cell_line_text line) }
+    ensures added { OnOk result (text.new.items ≡ text.old.items ++ cell_line_text line) }
+    ensures refused { OnErr result (GrewInPart text.old.items text.new.items (cell_line_text line)) }
 {
     match line {
         CellLine::Read => push(text, b"Rd"),
@@ -60,13 +62,16 @@ pub fn counts_of_table(table: &Table) -> SymbolCounts
 }
 
 /// Appends the name of an input line of the control of a machine whose tapes have so many symbols, counted from 0.
+/// After `NoMemory` a front of the name may stand behind the text.
 pub fn push_control_line(
     text: &mut Vec<u8>,
     counts: SymbolCounts,
     line: u32,
 ) -> Result<(), NoMemory>
     requires { AreFew counts }
-    ensures { OnOk result (text.new.items ≡ text.old.items ++ control_line_text (counts_in counts) line) }
+    ensures added { OnOk result (text.new.items ≡ text.old.items ++ control_line_text (counts_in counts) line) }
+    ensures refused { OnErr result (GrewInPart text.old.items text.new.items
+        (control_line_text (counts_in counts) line)) }
 {
     let SymbolCounts { one, two, three } = counts;
     if line == 0 {
@@ -83,7 +88,9 @@ pub fn push_control_line(
 // Appends the name of the line by which a tape of so many symbols gives its answer at this place.
 fn push_answer(text: &mut Vec<u8>, symbols: u32, place: u32, tape: u32) -> Result<(), NoMemory>
     requires { symbols < 4294967295 }
-    ensures { OnOk result (text.new.items ≡ text.old.items ++ answer_text (answer_line symbols place) tape) }
+    ensures added { OnOk result (text.new.items ≡ text.old.items ++ answer_text (answer_line symbols place) tape) }
+    ensures refused { OnErr result (GrewInPart text.old.items text.new.items
+        (answer_text (answer_line symbols place) tape)) }
 {
     push_cell_line(text, answer_line(symbols, place))?;
     push(text, b" ")?;

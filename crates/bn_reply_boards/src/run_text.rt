@@ -1,12 +1,13 @@
 //! The text of a run of a board.
 
-ghost use Rattle.std.specs.Prelude.{◌≡◌, ℕ, ◌<◌, ◌≤◌, ◌++◌, ◌∷◌, [], codes, drop, length, IfOk, OnOk};
+ghost use Rattle.std.specs.Prelude.{◌≡◌, ℕ, ◌<◌, ◌≤◌, ◌++◌, ◌∷◌, [], codes, drop, length, IfOk, OnOk, OnErr};
 ghost use Rattle.bn_netlist_laws.specs.Sentences.{line_of_place, line_text};
 ghost use Rattle.bn_bennett.specs.Translation.{name_of};
 ghost use Rattle.bn_bennett.specs.Meaning.{machine_state_by};
 ghost use Rattle.bn_bennett.specs.declared.translated.MachineState.TheVariants.{AtState};
 ghost use Rattle.bn_board_spec.specs.Layouts.{symbol_count_at};
 ghost use Rattle.bn_board_spec.specs.Flats.{Flat};
+ghost use Rattle.bn_reply.specs.Fronts.{GrewInPart};
 ghost use Rattle.bn_reply_boards_laws.specs.RunText.{exit_line, output_from, output_line, quadruple_line, rest_text};
 ghost use Rattle.bn_reply_boards_laws.specs.RunText.{run_text};
 ghost use Rattle.bn_reply_boards_laws.specs.RunText.{state_text, stuck_line, tape_lines, window_line};
@@ -48,7 +49,8 @@ pub fn text_of_run(
 }
 
 /// Appends the line that says where the signal of a board is: inside, about to enter a line of an element, or by which
-/// exit it has left. The table has names for what it names.
+/// exit it has left. The table has names for what it names. After `NoMemory` a front of the line may stand behind the
+/// text.
 pub fn push_exit(
     text: &mut Vec<u8>,
     table: &Table,
@@ -58,8 +60,10 @@ pub fn push_exit(
 ) -> Result<(), NoMemory>
     requires line { (line_of_place place).line < 4 }
     requires names { HasNames table.now translated.now exit }
-    ensures { OnOk result ((f : Flat) → f.translation ≡ translated.now
+    ensures added { OnOk result ((f : Flat) → f.translation ≡ translated.now
         → text.new.items ≡ text.old.items ++ exit_line table.now f place exit) }
+    ensures refused { OnErr result ((f : Flat) → f.translation ≡ translated.now →
+        GrewInPart text.old.items text.new.items (exit_line table.now f place exit)) }
 {
     match exit {
         Exit::Inside => push_inside(text, line_of(place)),
@@ -79,10 +83,13 @@ fn line_of(place: Place) -> Line
     }
 }
 
-/// Appends the line of a signal that is inside, about to enter this line.
+/// Appends the line of a signal that is inside, about to enter this line. After `NoMemory` a front of what is
+/// appended may stand behind the text.
 pub fn push_inside(text: &mut Vec<u8>, line: Line) -> Result<(), NoMemory>
     requires { line.line < 4 }
-    ensures { OnOk result (text.new.items ≡ text.old.items ++ (codes "inside " ++ (line_text line ++ 10 ∷ []))) }
+    ensures added { OnOk result (text.new.items ≡ text.old.items ++ (codes "inside " ++ (line_text line ++ 10 ∷ []))) }
+    ensures refused { OnErr result (GrewInPart text.old.items text.new.items
+        (codes "inside " ++ (line_text line ++ 10 ∷ []))) }
 {
     push(text, b"inside ")?;
     push_u64(text, u64::from(line.element))?;
@@ -103,8 +110,10 @@ fn push_stuck(
     symbol: u32,
 ) -> Result<(), NoMemory>
     requires { IsKnownStuck table.now translated.now state symbol }
-    ensures { OnOk result (text.new.items ≡ text.old.items ++ stuck_line table.now
+    ensures added { OnOk result (text.new.items ≡ text.old.items ++ stuck_line table.now
         (state_text table.now (machine_state_by translated.now.final_state (name_of translated.now state))) symbol) }
+    ensures refused { OnErr result (GrewInPart text.old.items text.new.items (stuck_line table.now
+        (state_text table.now (machine_state_by translated.now.final_state (name_of translated.now state))) symbol)) }
 {
     push(text, b"exit stuck ")?;
     push_state(text, table, translated, state)?;
@@ -123,8 +132,9 @@ fn push_state(
     requires state { state < translated.now.machine.states }
     requires named { (j : ℕ) → machine_state_by translated.now.final_state (name_of translated.now state) ≡ AtState j
         → j < table.now.machine.states }
-    ensures { OnOk result (text.new.items ≡ text.old.items
+    ensures added { OnOk result (text.new.items ≡ text.old.items
         ++ state_text table.now (machine_state_by translated.now.final_state (name_of translated.now state))) }
+    ensures refused { OnErr result (text.new.items ≡ text.old.items) }
 {
     match translated.machine_state_of(state) {
         MachineState::AtState(at) => push(text, table.state_name(at)),
@@ -132,9 +142,11 @@ fn push_state(
     }
 }
 
-/// Appends the line of a head that would leave a tape's window.
+/// Appends the line of a head that would leave a tape's window. After `NoMemory` a front of the line may stand behind
+/// the text.
 pub fn push_window(text: &mut Vec<u8>, tape: u32, side: Side) -> Result<(), NoMemory>
-    ensures { OnOk result (text.new.items ≡ text.old.items ++ window_line tape side) }
+    ensures added { OnOk result (text.new.items ≡ text.old.items ++ window_line tape side) }
+    ensures refused { OnErr result (GrewInPart text.old.items text.new.items (window_line tape side)) }
 {
     push(text, b"exit window ")?;
     push_u64(text, u64::from(tape))?;

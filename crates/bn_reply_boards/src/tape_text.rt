@@ -1,6 +1,7 @@
 //! The lines of a board's tapes, and the output.
 
-ghost use Rattle.std.specs.Prelude.{◌≡◌, ◌≢◌, ◌<◌, ◌≤◌, ◌++◌, ◌∷◌, [], drop, length, Some, IfOk, OnOk};
+ghost use Rattle.std.specs.Prelude.{◌≡◌, ◌≢◌, ◌<◌, ◌≤◌, ◌++◌, ◌∷◌, [], drop, length, Some, IfOk, OnOk, OnErr};
+ghost use Rattle.bn_reply.specs.Fronts.{GrewInPart};
 ghost use Rattle.bn_reply_boards_laws.specs.RunText.{cells_text, head_text, number_text, output_from, output_line};
 ghost use Rattle.bn_reply_boards_laws.specs.RunText.{symbol_text, tape_line, tape_lines};
 ghost use Rattle.bn_reply_boards.specs.Shown.{HasLetter, HaveLetters, bounds_text};
@@ -12,12 +13,15 @@ use bn_table::Table;
 use std::alloc::Global;
 
 /// Appends the lines of three tapes: of each the position of its first cell, of its head, and its cells from left to
-/// right. On tapes 1 and 3 the table has a letter for each symbol that is shown.
+/// right. On tapes 1 and 3 the table has a letter for each symbol that is shown. After `NoMemory` a front of the
+/// lines may stand behind the text.
 pub fn push_tapes(text: &mut Vec<u8>, table: &Table, shown: &Spelled) -> Result<(), NoMemory>
     requires one { HaveLetters table.now 1 shown.now.one.cells }
     requires three { HaveLetters table.now 3 shown.now.three.cells }
-    ensures { OnOk result (text.new.items ≡ text.old.items
+    ensures added { OnOk result (text.new.items ≡ text.old.items
         ++ tape_lines table.now shown.now.one shown.now.two shown.now.three) }
+    ensures refused { OnErr result (GrewInPart text.old.items text.new.items
+        (tape_lines table.now shown.now.one shown.now.two shown.now.three)) }
 {
     push_tape(text, table, 1, &shown.one)?;
     push_tape(text, table, 2, &shown.two)?;
@@ -32,7 +36,8 @@ fn push_tape(
     shown: &SpelledTape,
 ) -> Result<(), NoMemory>
     requires { HaveLetters table.now tape shown.now.cells }
-    ensures { OnOk result (text.new.items ≡ text.old.items ++ tape_line table.now tape shown.now) }
+    ensures added { OnOk result (text.new.items ≡ text.old.items ++ tape_line table.now tape shown.now) }
+    ensures refused { OnErr result (GrewInPart text.old.items text.new.items (tape_line table.now tape shown.now)) }
 {
     push(text, b"tape ")?;
     push_u64(text, u64::from(tape))?;
@@ -41,9 +46,11 @@ fn push_tape(
     push(text, b"\n")
 }
 
-/// Appends the position of a tape's first cell, and of its head.
+/// Appends the position of a tape's first cell, and of its head. After `NoMemory` a front of what is appended may stand
+/// behind the text.
 pub fn push_bounds(text: &mut Vec<u8>, shown: &SpelledTape) -> Result<(), NoMemory>
-    ensures { OnOk result (text.new.items ≡ text.old.items ++ bounds_text shown.now) }
+    ensures added { OnOk result (text.new.items ≡ text.old.items ++ bounds_text shown.now) }
+    ensures refused { OnErr result (GrewInPart text.old.items text.new.items (bounds_text shown.now)) }
 {
     push(text, b" from ")?;
     push_position(text, shown.first)?;
@@ -54,7 +61,8 @@ pub fn push_bounds(text: &mut Vec<u8>, shown: &SpelledTape) -> Result<(), NoMemo
 
 // Appends the position of a head, or a question mark where no cell shows it.
 fn push_head(text: &mut Vec<u8>, head: Option<i64>) -> Result<(), NoMemory>
-    ensures { OnOk result (text.new.items ≡ text.old.items ++ head_text head) }
+    ensures added { OnOk result (text.new.items ≡ text.old.items ++ head_text head) }
+    ensures refused { OnErr result (GrewInPart text.old.items text.new.items (head_text head)) }
 {
     match head {
         Some(position) => push_position(text, position),
@@ -70,7 +78,8 @@ fn push_cells(
     cells: &[Option<u32>],
 ) -> Result<(), NoMemory>
     requires { HaveLetters table.now tape cells.now }
-    ensures { OnOk result (text.new.items ≡ text.old.items ++ cells_text table.now tape cells.now) }
+    ensures added { OnOk result (text.new.items ≡ text.old.items ++ cells_text table.now tape cells.now) }
+    ensures refused { OnErr result (GrewInPart text.old.items text.new.items (cells_text table.now tape cells.now)) }
 {
     for cell in cells {
         push_cell(text, table, tape, *cell)?;
@@ -86,7 +95,8 @@ fn push_cell(
     cell: Option<u32>,
 ) -> Result<(), NoMemory>
     requires { HasLetter table.now tape cell }
-    ensures { OnOk result (text.new.items ≡ text.old.items ++ cells_text table.now tape (cell ∷ [])) }
+    ensures added { OnOk result (text.new.items ≡ text.old.items ++ cells_text table.now tape (cell ∷ [])) }
+    ensures refused { OnErr result (GrewInPart text.old.items text.new.items (cells_text table.now tape (cell ∷ []))) }
 {
     match cell {
         Some(symbol) => {
@@ -100,7 +110,8 @@ fn push_cell(
 // Appends a symbol on a tape.
 fn push_symbol(text: &mut Vec<u8>, table: &Table, tape: u32, symbol: u32) -> Result<(), NoMemory>
     requires { tape ≢ 2 → symbol < table.now.machine.symbols }
-    ensures { OnOk result (text.new.items ≡ text.old.items ++ symbol_text table.now tape symbol) }
+    ensures added { OnOk result (text.new.items ≡ text.old.items ++ symbol_text table.now tape symbol) }
+    ensures refused { OnErr result (GrewInPart text.old.items text.new.items (symbol_text table.now tape symbol)) }
 {
     if tape == 2 {
         push_quintuple(text, symbol)
@@ -111,7 +122,8 @@ fn push_symbol(text: &mut Vec<u8>, table: &Table, tape: u32, symbol: u32) -> Res
 
 // Appends a symbol of the history: the blank, or a quintuple's number.
 fn push_quintuple(text: &mut Vec<u8>, symbol: u32) -> Result<(), NoMemory>
-    ensures { OnOk result (text.new.items ≡ text.old.items ++ number_text symbol) }
+    ensures added { OnOk result (text.new.items ≡ text.old.items ++ number_text symbol) }
+    ensures refused { OnErr result (GrewInPart text.old.items text.new.items (number_text symbol)) }
 {
     if symbol == 0 {
         push(text, b"_")

@@ -13,6 +13,6 @@ returns c =
     (tape_lines table shown.one shown.two shown.three)
     (output_line table (output_from (drop 1 shown.three.cells))) c.push_counted.new.text.items
     c.push_tapes.new.text.items c.push_output.new.text.items
-    c.in_ok-push_counted.ensures c.in_ok-push_tapes.ensures
+    c.in_ok-push_counted.ensures.added c.in_ok-push_tapes.ensures.added
     (last ∙ ap (λ cells. c.push_tapes.new.text.items ++ output_line table (output_from (drop 1 cells)))
     c.as_slice.ensures)) c.push_output.ensures

@@ -36,4 +36,4 @@ returns c =
     on_ok_weaker c.push_tapes.result (λ last f layout.
     other_rest c.args.table.now f c.args.board.now.config c.args.quadruple_steps c.args.board.now.layout
     c.in_ok-shown.shown layout c.in_ok-shown.ensures c.args.exit
-    c.args.text.now.items c.push_tapes.new.text.items c.in_default.not-End last) c.push_tapes.ensures
+    c.args.text.now.items c.push_tapes.new.text.items c.in_default.not-End last) c.push_tapes.ensures.added

@@ -14,12 +14,12 @@ returns c = λ f shown.
     let t = c.args.table.now in
     let d = c.args.board.now.config in
     let place : c.push_exit.new.text.items ≡ c.push_counted.new.text.items ++ exit_line t f d.place c.args.exit =
-    c.in_ok-push_exit.ensures f shown.translation ∙ ap (λ p. c.push_counted.new.text.items
+    c.in_ok-push_exit.ensures.added f shown.translation ∙ ap (λ p. c.push_counted.new.text.items
     ++ exit_line t f p c.args.exit) c.place.ensures in
     let steps : c.push_counted-2.new.text.items ≡ c.push_exit.new.text.items ++ steps_line d.steps =
-    c.in_ok-push_counted-2.ensures ∙ ap (λ n. c.push_exit.new.text.items ++ steps_line n) c.steps.ensures in
+    c.in_ok-push_counted-2.ensures.added ∙ ap (λ n. c.push_exit.new.text.items ++ steps_line n) c.steps.ensures in
     run_joined t f d c.args.quadruple_steps c.args.exit c.from.result c.new-text.result.items
     c.push_counted.new.text.items c.push_exit.new.text.items
     c.push_counted-2.new.text.items c.push_rest.new.text.items
     (shown.elements ∙ sym c.len.ensures.number ∙ sym c.from.ensures) c.new-text.ensures.items
-    c.in_ok-push_counted.ensures place steps (c.in_ok-push_rest.ensures f shown.layout)
+    c.in_ok-push_counted.ensures.added place steps (c.in_ok-push_rest.ensures f shown.layout)
