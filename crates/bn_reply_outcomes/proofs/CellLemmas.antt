@@ -16,19 +16,12 @@ module _ (names : List (List ℕ)) where
   cell_first (Some s) cells = ap (λ text. 32 ∷ (text ++ drive_cells_text names cells))
       (sym (append-nil (name_in names s)))
 
-  pub cell_pushed : (cells : List (Option ℕ)) (k : ℕ) (d o : Option ℕ) (first before now : List ℕ) → k < length cells
-      → get_or cells k d ≡ o
-      → first ++ drive_cells_text names cells ≡ before ++ drive_cells_text names (drop k cells)
-      → now ≡ before ++ drive_cells_text names (o ∷ [])
-      → first ++ drive_cells_text names cells ≡ now ++ drive_cells_text names (drop (k + 1) cells)
-  cell_pushed cells k d o first before now low is so_far more =
-      so_far ∙ ap (λ cs. before ++ drive_cells_text names cs) (drop_one cells k d o low is)
-      ∙ ap (λ text. before ++ text) (cell_first o (drop (k + 1) cells))
-      ∙ sym (append_assoc before (drive_cells_text names (o ∷ [])) (drive_cells_text names (drop (k + 1) cells)))
-      ∙ ap (λ text. text ++ drive_cells_text names (drop (k + 1) cells)) (sym more)
+  -- the cells from k on are that at k and those behind it
+  pub cells_on : (cells : List (Option ℕ)) (k : ℕ) (d o : Option ℕ) → k < length cells → get_or cells k d ≡ o
+      → drive_cells_text names (drop k cells)
+      ≡ drive_cells_text names (o ∷ []) ++ drive_cells_text names (drop (k + 1) cells)
+  cells_on cells k d o low is = ap (drive_cells_text names) (drop_one cells k d o low is)
+      ∙ cell_first o (drop (k + 1) cells)
 
-  pub cells_pushed : (cells : List (Option ℕ)) (k : ℕ) (first now : List ℕ) → length cells ≤ k
-      → first ++ drive_cells_text names cells ≡ now ++ drive_cells_text names (drop k cells)
-      → now ≡ first ++ drive_cells_text names cells
-  cells_pushed cells k first now past so_far =
-      sym (append-nil now) ∙ ap (λ cs. now ++ drive_cells_text names cs) (sym (drop_all k cells past)) ∙ sym so_far
+  pub none_left : (cells : List (Option ℕ)) (k : ℕ) → length cells ≤ k → drive_cells_text names (drop k cells) ≡ []
+  none_left cells k past = ap (drive_cells_text names) (drop_all k cells past)

@@ -1,10 +1,11 @@
 //! The names of a table in the text of a board: where it has come to, and its tapes.
 
-ghost use Rattle.std.specs.Prelude.{◌≡◌, ◌++◌, ◌∷◌, [], ◌<◌, ◌≤◌, ℕ, codes, length, OnOk, Some};
+ghost use Rattle.std.specs.Prelude.{◌≡◌, ◌++◌, ◌∷◌, [], ◌<◌, ◌≤◌, ℕ, codes, length, OnOk, OnErr, Some};
 ghost use Rattle.bn_circuits.specs.declared.line.Line.{Line};
 ghost use Rattle.bn_quad.specs.Names.{symbols_on};
 ghost use Rattle.bn_qtable.specs.Rows.{counts_of, table_of};
 ghost use Rattle.bn_drive_laws.specs.DriveText.{drive_cells_text, drive_tape_line, name_in};
+ghost use Rattle.bn_reply.specs.Fronts.{GrewInPart};
 ghost use Rattle.bn_reply_outcomes.specs.Outcomes.{drive_tape_lines, outcome_line, scanned_text, stop_line};
 
 use crate::outcome::{Outcome, Stop};
@@ -23,7 +24,8 @@ pub struct TableNames<'a> {
     pub names: &'a QuadNames,
 }
 
-/// Appends the line that says where a board has come to.
+/// Appends the line that says where a board has come to. After `NoMemory` a front of the line may stand behind the
+/// text.
 pub fn push_outcome(
     text: &mut Vec<u8>,
     names: &TableNames<'_>,
@@ -32,8 +34,10 @@ pub fn push_outcome(
     requires states { names.now.machine.now.states ≡ length names.now.names.now.states }
     requires symbols { names.now.machine.now.symbols ≡ counts_of names.now.names.now }
     requires inside { (line : Line) → outcome ≡ Outcome.Inside line → line.line < 4 }
-    ensures { OnOk result (text.new.items
+    ensures added { OnOk result (text.new.items
         ≡ text.old.items ++ outcome_line (table_of names.now.machine.now names.now.names.now) outcome) }
+    ensures refused { OnErr result (GrewInPart text.old.items text.new.items
+        (outcome_line (table_of names.now.machine.now names.now.names.now) outcome)) }
 {
     match outcome {
         Outcome::Inside(line) => push_inside(text, line),
@@ -48,8 +52,10 @@ pub fn push_outcome(
 fn push_stop(text: &mut Vec<u8>, names: &TableNames<'_>, stop: Stop) -> Result<(), NoMemory>
     requires states { names.now.machine.now.states ≡ length names.now.names.now.states }
     requires symbols { names.now.machine.now.symbols ≡ counts_of names.now.names.now }
-    ensures { OnOk result (text.new.items
+    ensures added { OnOk result (text.new.items
         ≡ text.old.items ++ stop_line (table_of names.now.machine.now names.now.names.now) stop) }
+    ensures refused { OnErr result (GrewInPart text.old.items text.new.items
+        (stop_line (table_of names.now.machine.now names.now.names.now) stop)) }
 {
     push(text, b"exit stuck ")?;
     push_state(text, names, stop.state)?;
@@ -60,8 +66,10 @@ fn push_stop(text: &mut Vec<u8>, names: &TableNames<'_>, stop: Stop) -> Result<(
 // Appends the names of the symbols that the heads scan, a space before each.
 fn push_scanned(text: &mut Vec<u8>, names: &TableNames<'_>, stop: Stop) -> Result<(), NoMemory>
     requires { names.now.machine.now.symbols ≡ counts_of names.now.names.now }
-    ensures { OnOk result (text.new.items
+    ensures added { OnOk result (text.new.items
         ≡ text.old.items ++ scanned_text (table_of names.now.machine.now names.now.names.now) stop) }
+    ensures refused { OnErr result (GrewInPart text.old.items text.new.items
+        (scanned_text (table_of names.now.machine.now names.now.names.now) stop)) }
 {
     push_spaced(text, names, 1, stop.one)?;
     push_spaced(text, names, 2, stop.two)?;
@@ -78,17 +86,20 @@ fn push_spaced(
     requires first { 1 ≤ tape }
     requires last { tape ≤ 3 }
     requires counted { names.now.machine.now.symbols ≡ counts_of names.now.names.now }
-    ensures { OnOk result (text.new.items
+    ensures added { OnOk result (text.new.items
         ≡ text.old.items ++ (codes " " ++ name_in (symbols_on names.now.names.now tape) symbol)) }
+    ensures refused { OnErr result (GrewInPart text.old.items text.new.items
+        (codes " " ++ name_in (symbols_on names.now.names.now tape) symbol)) }
 {
     push(text, b" ")?;
     push_symbol(text, names, tape, symbol)
 }
 
-/// Appends the name of a state, where one has this number.
+/// Appends the name of a state, where one has this number. After `NoMemory` the text is as it was.
 pub fn push_state(text: &mut Vec<u8>, names: &TableNames<'_>, state: u32) -> Result<(), NoMemory>
     requires { names.now.machine.now.states ≡ length names.now.names.now.states }
-    ensures { OnOk result (text.new.items ≡ text.old.items ++ name_in names.now.names.now.states state) }
+    ensures added { OnOk result (text.new.items ≡ text.old.items ++ name_in names.now.names.now.states state) }
+    ensures refused { OnErr result (text.new.items ≡ text.old.items) }
 {
     if state < names.machine.states() {
         push(text, names.names.state(state))
@@ -107,7 +118,9 @@ fn push_symbol(
     requires first { 1 ≤ tape }
     requires last { tape ≤ 3 }
     requires counted { names.now.machine.now.symbols ≡ counts_of names.now.names.now }
-    ensures { OnOk result (text.new.items ≡ text.old.items ++ name_in (symbols_on names.now.names.now tape) symbol) }
+    ensures added { OnOk result (text.new.items
+        ≡ text.old.items ++ name_in (symbols_on names.now.names.now tape) symbol) }
+    ensures refused { OnErr result (text.new.items ≡ text.old.items) }
 {
     if symbol < names.machine.symbols(tape) {
         push(text, names.names.symbol(tape, symbol))
@@ -116,15 +129,17 @@ fn push_symbol(
     }
 }
 
-/// Appends the lines of the three tapes.
+/// Appends the lines of the three tapes. After `NoMemory` a front of the lines may stand behind the text.
 pub fn push_tapes(
     text: &mut Vec<u8>,
     names: &TableNames<'_>,
     shown: &Spelled,
 ) -> Result<(), NoMemory>
     requires { names.now.machine.now.symbols ≡ counts_of names.now.names.now }
-    ensures { OnOk result (text.new.items
+    ensures added { OnOk result (text.new.items
         ≡ text.old.items ++ drive_tape_lines (table_of names.now.machine.now names.now.names.now) shown.now) }
+    ensures refused { OnErr result (GrewInPart text.old.items text.new.items
+        (drive_tape_lines (table_of names.now.machine.now names.now.names.now) shown.now)) }
 {
     push_tape(text, names, 1, &shown.one)?;
     push_tape(text, names, 2, &shown.two)?;
@@ -141,8 +156,10 @@ fn push_tape(
     requires first { 1 ≤ tape }
     requires last { tape ≤ 3 }
     requires counted { names.now.machine.now.symbols ≡ counts_of names.now.names.now }
-    ensures { OnOk result (text.new.items
+    ensures added { OnOk result (text.new.items
         ≡ text.old.items ++ drive_tape_line (symbols_on names.now.names.now tape) tape shown.now) }
+    ensures refused { OnErr result (GrewInPart text.old.items text.new.items
+        (drive_tape_line (symbols_on names.now.names.now tape) tape shown.now)) }
 {
     push(text, b"tape ")?;
     push_u64(text, u64::from(tape))?;
@@ -161,8 +178,10 @@ fn push_cells(
     requires first { 1 ≤ tape }
     requires last { tape ≤ 3 }
     requires counted { names.now.machine.now.symbols ≡ counts_of names.now.names.now }
-    ensures { OnOk result (text.new.items
+    ensures added { OnOk result (text.new.items
         ≡ text.old.items ++ drive_cells_text (symbols_on names.now.names.now tape) cells.now) }
+    ensures refused { OnErr result (GrewInPart text.old.items text.new.items
+        (drive_cells_text (symbols_on names.now.names.now tape) cells.now)) }
 {
     for cell in cells {
         push_cell(text, names, tape, *cell)?;
@@ -180,8 +199,10 @@ fn push_cell(
     requires first { 1 ≤ tape }
     requires last { tape ≤ 3 }
     requires counted { names.now.machine.now.symbols ≡ counts_of names.now.names.now }
-    ensures { OnOk result (text.new.items
+    ensures added { OnOk result (text.new.items
         ≡ text.old.items ++ drive_cells_text (symbols_on names.now.names.now tape) (cell ∷ [])) }
+    ensures refused { OnErr result (GrewInPart text.old.items text.new.items
+        (drive_cells_text (symbols_on names.now.names.now tape) (cell ∷ []))) }
 {
     match cell {
         Some(symbol) => push_spaced(text, names, tape, symbol),
