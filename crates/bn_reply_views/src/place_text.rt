@@ -1,7 +1,8 @@
 //! The text of a place.
 
-ghost use Rattle.std.specs.Prelude.{◌≡◌, ◌<◌, ◌++◌, OnOk};
+ghost use Rattle.std.specs.Prelude.{◌≡◌, ◌<◌, ◌++◌, OnOk, OnErr};
 ghost use Rattle.bn_netlist_laws.specs.Sentences.{line_of_place, line_text, place_text};
+ghost use Rattle.bn_reply.specs.Fronts.{GrewInPart};
 
 use bn_base::push_u64;
 use bn_element::{EAST, NORTH, SOUTH};
@@ -11,7 +12,8 @@ use bn_reply::{NoMemory, push};
 // Appends a place: the line that the signal is about to enter, or the one by which it has left.
 pub(crate) fn push_place(text: &mut Vec<u8>, place: Place) -> Result<(), NoMemory>
     requires { (line_of_place place).line < 4 }
-    ensures { OnOk result (text.new.items ≡ text.old.items ++ place_text place) }
+    ensures added { OnOk result (text.new.items ≡ text.old.items ++ place_text place) }
+    ensures refused { OnErr result (GrewInPart text.old.items text.new.items (place_text place)) }
 {
     match place {
         Place::Enter { element, line } => {
@@ -28,7 +30,8 @@ pub(crate) fn push_place(text: &mut Vec<u8>, place: Place) -> Result<(), NoMemor
 // Appends a line of an element.
 fn push_line(text: &mut Vec<u8>, line: Line) -> Result<(), NoMemory>
     requires { line.line < 4 }
-    ensures { OnOk result (text.new.items ≡ text.old.items ++ line_text line) }
+    ensures added { OnOk result (text.new.items ≡ text.old.items ++ line_text line) }
+    ensures refused { OnErr result (GrewInPart text.old.items text.new.items (line_text line)) }
 {
     push_u64(text, u64::from(line.element))?;
     match line.line {

@@ -1,10 +1,12 @@
 //! The text of a view of a board.
 
-ghost use Rattle.std.specs.Prelude.{◌≡◌, ℕ, ◌<◌, ◌++◌, ◌∷◌, [], List, codes, length, Some, IfOk, OnOk, slice_get};
+ghost use Rattle.std.specs.Prelude.{◌≡◌, ℕ, ◌<◌, ◌++◌, ◌∷◌, [], List, codes, length, Some, IfOk, OnOk, OnErr};
+ghost use Rattle.std.specs.Prelude.{slice_get};
 ghost use Rattle.bn_netlist_laws.specs.Sentences.{line_of_place};
 ghost use Rattle.bn_bennett_laws.specs.List.{symbols_of};
 ghost use Rattle.bn_bennett.specs.Translation.{IsTranslation};
 ghost use Rattle.bn_board_spec.specs.Flats.{Flat};
+ghost use Rattle.bn_reply.specs.Fronts.{GrewInPart};
 ghost use Rattle.bn_reply.specs.Lines.{line};
 ghost use Rattle.bn_reply_boards.specs.LineNames.{AreFew, counts_in};
 ghost use Rattle.bn_reply_boards.specs.Shown.{HasNames};
@@ -48,10 +50,12 @@ pub(crate) fn view_text(
     Ok(text)
 }
 
-/// Appends the line that says where the signal is, and after how many steps.
+/// Appends the line that says where the signal is, and after how many steps. After `NoMemory` a front of the line may
+/// stand behind the text.
 pub fn push_element(text: &mut Vec<u8>, place: Place, steps: u64) -> Result<(), NoMemory>
     requires { (line_of_place place).line < 4 }
-    ensures { OnOk result (text.new.items ≡ text.old.items ++ element_line place steps) }
+    ensures added { OnOk result (text.new.items ≡ text.old.items ++ element_line place steps) }
+    ensures refused { OnErr result (GrewInPart text.old.items text.new.items (element_line place steps)) }
 {
     push(text, b"element ")?;
     push_place(text, place)?;
@@ -80,14 +84,16 @@ fn push_where(
 }
 
 /// Appends the line of the module in which the signal is, of a board of a machine whose tapes have so many symbols;
-/// none where the signal has left.
+/// none where the signal has left. After `NoMemory` a front of the line may stand behind the text.
 pub fn push_module(
     text: &mut Vec<u8>,
     counts: SymbolCounts,
     signal: ModuleAt,
 ) -> Result<(), NoMemory>
     requires { AreFew counts }
-    ensures { OnOk result (text.new.items ≡ text.old.items ++ module_line (counts_in counts) [] signal) }
+    ensures added { OnOk result (text.new.items ≡ text.old.items ++ module_line (counts_in counts) [] signal) }
+    ensures refused { OnErr result (GrewInPart text.old.items text.new.items
+        (module_line (counts_in counts) [] signal)) }
 {
     match signal {
         ModuleAt::ControlLine(line) => {
@@ -116,7 +122,8 @@ pub fn push_module(
 
 // Appends where a cell is.
 fn push_cell(text: &mut Vec<u8>, tape: u32, position: i64) -> Result<(), NoMemory>
-    ensures { OnOk result (text.new.items ≡ text.old.items ++ cell_text tape position) }
+    ensures added { OnOk result (text.new.items ≡ text.old.items ++ cell_text tape position) }
+    ensures refused { OnErr result (GrewInPart text.old.items text.new.items (cell_text tape position)) }
 {
     push(text, b"module tape ")?;
     push_u64(text, u64::from(tape))?;

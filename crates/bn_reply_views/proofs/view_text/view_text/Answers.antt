@@ -19,7 +19,7 @@ returns c = λ f same.
     (tape_lines t v.tapes.one v.tapes.two v.tapes.three) (machine_line t v.stage v.machine v.machine_step)
     c.push_element.new.text.items c.push_where.new.text.items
     c.push_state.new.text.items c.push_tapes.new.text.items c.push_machine.new.text.items c.new-text.ensures.items
-    c.in_ok-push_element.ensures (c.in_ok-push_where.ensures f same)
+    c.in_ok-push_element.ensures.added (c.in_ok-push_where.ensures f same)
     (c.in_ok-push_state.ensures (bennett_state_text (name_of c.args.translated.now v.state)) name
     ∙ ap (λ (x : Translation). c.push_where.new.text.items ++ state_line (name_of x v.state)) (sym same))
-    c.in_ok-push_tapes.ensures c.in_ok-push_machine.ensures
+    c.in_ok-push_tapes.ensures.added c.in_ok-push_machine.ensures
