@@ -11,6 +11,6 @@ returns c =
     on_ok_weaker c.push_names.result (λ last.
     four_pieces c.args.text.now.items (codes "line ") (decimal c.args.line) (codes " of control in ")
     (names_text (symbols_of c.args.table.now.machine) c.args.line) c.push.new.text.items
-    c.push_u64.new.out.items c.push-2.new.text.items c.push_names.new.text.items c.in_ok-push.ensures
+    c.push_u64.new.out.items c.push-2.new.text.items c.push_names.new.text.items c.in_ok-push.ensures.added
     (c.in_ok-push_u64.ensures.ok ∙ ap (λ n. c.push.new.text.items ++ decimal n) c.from.ensures)
-    c.in_ok-push-2.ensures last) c.push_names.ensures
+    c.in_ok-push-2.ensures.added last) c.push_names.ensures

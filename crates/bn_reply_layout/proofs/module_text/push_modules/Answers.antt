@@ -40,5 +40,6 @@ returns c =
     (all_is l z h states lines same c.row_size.result c.row_size-2.result c.row_size-3.result one two three)
     (modules_are l z h states lines same c.from-2.result count)
     (λ i. record { number = 0; name = Control; first = 0; columns = states; lines = sum i }) first second third
-    c.in_ok-push_counted.ensures c.in_ok-push_counted-2.ensures c.in_ok-push_control.ensures c.in_ok-push_cells.ensures
+    c.in_ok-push_counted.ensures.added c.in_ok-push_counted-2.ensures.added c.in_ok-push_control.ensures
+    c.in_ok-push_cells.ensures
     c.in_ok-push_cells-2.ensures last) c.push_cells-3.ensures

@@ -18,7 +18,7 @@ returns c = elim c.match-place.branch [
         ∙ exit_written (table_of c.args.machine.now c.args.names.now) (table_of w.machine.result.now c.args.names.now)
         w.in_ok-outcome.outcome d e c.new-text.result.items w.push_outcome.new.text.items
         (ap (λ (m : Quadruples). table_of m c.args.names.now) w.machine.ensures.value) c.new-text.ensures.items
-        w.in_ok-push_outcome.ensures (w.in_ok-outcome.ensures.left f d e is same layout fits leaves);
+        w.in_ok-push_outcome.ensures.added (w.in_ok-outcome.ensures.left f d e is same layout fits leaves);
   }
   | in_default w ↦ record {
     inside = λ e l at. ap (λ (x : Vec ℕ Global). x.items) w.text-is ∙ c.new-text.ensures.items;

@@ -19,7 +19,7 @@ returns c =
     let name : c.state_name.result.now ≡ slice_index_or c.args.table.now.names c.args.state [] = sym
     (get_or_from_slice_get c.args.table.now.names c.args.state c.state_name.result.now [] c.state_name.ensures) in
     let letter : c.push_letters.new.text.items ≡ c.extend_from_slice-2.new.self.items ++ letters_of c.args.table.now
-    (c.args.symbol ∷ []) = c.in_ok-push_letters.ensures in
+    (c.args.symbol ∷ []) = c.in_ok-push_letters.ensures.added in
     let count : c.as_bytes.result.now ≡ codes " " ++ (decimal c.args.steps ++ 10 ∷ []) =
     c.as_bytes.ensures.value ∙ c.in_ok-count.ensures.ok in
     third

@@ -19,8 +19,9 @@ returns c = λ e out.
     let whole = five_pieces c.args.text.now.items (codes "stuck ") (slice_index_or t.names s.state []) (codes " ")
     (letters_of t (scanned s.tape.tape ∷ [])) (codes " " ++ (decimal c.args.made ++ 10 ∷ []))
     c.push.new.text.items c.push-2.new.text.items c.push-3.new.text.items c.push_letters.new.text.items
-    c.push_counted-2.new.text.items c.in_ok-push.ensures (rw (sym name) c.in_ok-push-2.ensures) c.in_ok-push-3.ensures
-    (rw (sym c.scanned.ensures) c.in_ok-push_letters.ensures) (search rules)
+    c.push_counted-2.new.text.items c.in_ok-push.ensures.added (rw (sym name) c.in_ok-push-2.ensures.added)
+    c.in_ok-push-3.ensures.added
+    (rw (sym c.scanned.ensures) c.in_ok-push_letters.ensures.added) (search rules)
     in
     stuck_outcome t c.args.made s.state (scanned s.tape.tape) c.args.rule e c.push_counted-2.new.text.items
     c.args.text.now.items none going whole out

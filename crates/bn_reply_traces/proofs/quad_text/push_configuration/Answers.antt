@@ -70,7 +70,7 @@ returns c = λ x at.
     c.push-2.new.text.items c.push_numbered.new.text.items c.push_numbered-2.new.text.items
     c.push_numbered-3.new.text.items
     name (c.in_ok-push_u64.ensures.ok ∙ ap (λ (k : ℕ). c.args.text.now.items ++ decimal k) c.from.ensures)
-    c.in_ok-push.ensures c.in_ok-push-2.ensures one two
+    c.in_ok-push.ensures.added c.in_ok-push-2.ensures.added one two
     (tape_told t.names.three c.symbols-3.result c.symbols-3.ensures x.three c.push_numbered-2.new.text.items
     c.push_numbered-3.new.text.items (codes " tape 3") last))
     (c.push_numbered-3.ensures n i x.three

@@ -38,6 +38,6 @@ returns c = λ n i t at.
         counted = many.1;
         is = refl;
       },
-      last ∙ ap (λ (z : List ℕ). z ++ shown) c.in_ok-push.ensures
+      last ∙ ap (λ (z : List ℕ). z ++ shown) c.in_ok-push.ensures.added
           ∙ append_assoc c.args.text.now.items c.args.number.now shown,
     )) (c.push_tape.ensures t many.0 at.tape many.1)

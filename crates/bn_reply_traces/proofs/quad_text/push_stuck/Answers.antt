@@ -48,9 +48,10 @@ returns c = λ x at.
     c.push.new.text.items c.push-2.new.text.items c.push-3.new.text.items c.push_symbol.new.text.items
     c.push-4.new.text.items
     c.push_symbol-2.new.text.items c.push-5.new.text.items c.push_symbol-3.new.text.items c.push_counted.new.text.items
-    c.in_ok-push.ensures (c.in_ok-push-2.ensures ∙ ap (λ (z : List ℕ). c.push.new.text.items ++ z) name)
-    c.in_ok-push-3.ensures (c.in_ok-push_symbol.ensures ∙ ap (λ (z : List ℕ). c.push-3.new.text.items ++ z) one)
-    c.in_ok-push-4.ensures (c.in_ok-push_symbol-2.ensures ∙ ap (λ (z : List ℕ). c.push-4.new.text.items ++ z) two)
-    c.in_ok-push-5.ensures (c.in_ok-push_symbol-3.ensures ∙ ap (λ (z : List ℕ). c.push-5.new.text.items ++ z) three)
+    c.in_ok-push.ensures.added (c.in_ok-push-2.ensures.added ∙ ap (λ (z : List ℕ). c.push.new.text.items ++ z) name)
+    c.in_ok-push-3.ensures.added (c.in_ok-push_symbol.ensures ∙ ap (λ (z : List ℕ). c.push-3.new.text.items ++ z) one)
+    c.in_ok-push-4.ensures.added (c.in_ok-push_symbol-2.ensures ∙ ap (λ (z : List ℕ). c.push-4.new.text.items ++ z) two)
+    c.in_ok-push-5.ensures.added
+    (c.in_ok-push_symbol-3.ensures ∙ ap (λ (z : List ℕ). c.push-5.new.text.items ++ z) three)
     (last ∙ ap (λ (k : ℕ). c.push_symbol-3.new.text.items ++ (codes " " ++ (decimal k ++ 10 ∷ []))) c.from.ensures))
-    c.push_counted.ensures
+    c.push_counted.ensures.added

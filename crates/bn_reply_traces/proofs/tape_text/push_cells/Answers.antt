@@ -36,7 +36,7 @@ loop-index-preserved g c = λ t s.
     rw add-one (cell_pushed (g.L.Spells.name c.args.names.now) (cell t) (to_z w64 (of_z w64 c.args.first)) _
     c.loop-index.index
     c.symbol_at.result c.args.text.now.items c.loop-index.text.items c.push.new.text.items c.push_symbol.new.text.items
-    (c.loop-index.invariant t s) c.in_ok-push.ensures c.in_ok-push_symbol.ensures (c.symbol_at.ensures.value t s)
+    (c.loop-index.invariant t s) c.in_ok-push.ensures.added c.in_ok-push_symbol.ensures (c.symbol_at.ensures.value t s)
     (rw (f, n) z))
 
 pub returns : goal.returns

@@ -23,7 +23,7 @@ returns g c = λ t count s counted.
     (codes " cells ") (decimal count) (codes ":") (names_text name (symbols_from (cell t) first count))
     c.push.new.text.items c.push_position.new.text.items c.push-2.new.text.items c.push_position-2.new.text.items
     c.push-3.new.text.items c.push_u64.new.out.items c.push-4.new.text.items c.push_cells.new.text.items
-    c.in_ok-push.ensures (rw (sym f) c.in_ok-push_position.ensures) c.in_ok-push-2.ensures
-    (rw (sym head, sym h) c.in_ok-push_position-2.ensures) c.in_ok-push-3.ensures
-    (rw (sym same) c.in_ok-push_u64.ensures.ok) c.in_ok-push-4.ensures (rw (sym same, sym f) last))
+    c.in_ok-push.ensures.added (rw (sym f) c.in_ok-push_position.ensures.added) c.in_ok-push-2.ensures.added
+    (rw (sym head, sym h) c.in_ok-push_position-2.ensures.added) c.in_ok-push-3.ensures.added
+    (rw (sym same) c.in_ok-push_u64.ensures.ok) c.in_ok-push-4.ensures.added (rw (sym same, sym f) last))
     (c.push_cells.ensures t s)

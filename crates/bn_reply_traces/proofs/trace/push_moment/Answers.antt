@@ -19,5 +19,5 @@ returns c = λ u count s counted.
     six_pieces c.args.text.now.items (decimal c.args.steps) (codes " ") (slice_index_or t.names state [])
     (shown_text (letter_text t) u first count) (rule_text c.args.rule) (codes "\n") c.push_u64.new.out.items
     c.push.new.text.items c.push-2.new.text.items c.push_tape.new.text.items c.push_rule.new.text.items
-    c.push-3.new.text.items (search rules) c.in_ok-push.ensures (rw (sym name) c.in_ok-push-2.ensures)
-    (c.in_ok-push_tape.ensures u count s counted) c.in_ok-push_rule.ensures last) c.push-3.ensures
+    c.push-3.new.text.items (search rules) c.in_ok-push.ensures.added (rw (sym name) c.in_ok-push-2.ensures.added)
+    (c.in_ok-push_tape.ensures u count s counted) c.in_ok-push_rule.ensures last) c.push-3.ensures.added
