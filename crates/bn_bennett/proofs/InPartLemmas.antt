@@ -1,6 +1,6 @@
 -- What is left of names where a tape's symbols were named in part.
-use Rattle.std.proofs.Common.{◌≡◌, ◌≤◌, ◌+◌, ◌-◌, ◌∷◌, ◌++◌, ◌∙◌, ℕ, suc, zero, List, [], refl, sym, ap, arith, map, take, drop}
-use Rattle.std.proofs.Common.{append_assoc, decimal}
+use Rattle.std.proofs.Common.{◌≡◌, ◌≤◌, ◌+◌, ◌-◌, ◌∷◌, ◌++◌, ◌∙◌, ℕ, suc, zero, List, [], refl, sym, ap}
+use Rattle.std.proofs.Common.{append_assoc, arith, decimal, drop, map, take}
 use Rattle.std.specs.Prelude.{Result, Ok, Err, OnErr}
 use Rattle.std.proofs.lemmas.List.{append-nil, map-append, take-append-drop}
 use Rattle.bn_quad.specs.Names.{Naming}

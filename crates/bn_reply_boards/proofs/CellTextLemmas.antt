@@ -1,6 +1,6 @@
 -- The text of cells, one after another, and the output that they show.
-use Rattle.std.specs.Prelude.{◌≡◌, ◌≢◌, ℕ, ◌+◌, ◌-◌, ◌<◌, ◌≤◌, List, [], ◌∷◌, ◌++◌, All, length, drop, take, Option, codes}
-use Rattle.std.specs.Prelude.{Some, None, refl}
+use Rattle.std.specs.Prelude.{◌≡◌, ◌≢◌, ℕ, ◌+◌, ◌-◌, ◌<◌, ◌≤◌, List, [], ◌∷◌, ◌++◌, All, length, drop, take}
+use Rattle.std.specs.Prelude.{Option, Some, None, codes, refl}
 use Rattle.std.proofs.Common.{zero, suc, arith, add-one, drop-cons, get_or, sym, ap, ◌∙◌, append-nil, append_assoc}
 use Rattle.std.proofs.lemmas.List.{drop_all, take_all, length-drop}
 use Rattle.bn_table.specs.Rows.{Named}

@@ -1,6 +1,6 @@
 -- The text of cells, one after another.
 use Rattle.std.specs.Prelude.{◌≡◌, ℕ, ◌+◌, ◌<◌, ◌≤◌, List, [], ◌∷◌, ◌++◌, length, drop, Option, Some, None, refl}
-use Rattle.std.proofs.Common.{add-one, drop-cons, get_or, sym, ap, ◌∙◌, append-nil, append_assoc}
+use Rattle.std.proofs.Common.{add-one, drop-cons, get_or, sym, ap, ◌∙◌, append-nil}
 use Rattle.std.proofs.lemmas.List.{drop_all}
 use Rattle.bn_drive_laws.specs.DriveText.{drive_cells_text, name_in}
 

@@ -35,5 +35,6 @@ returns-in_err-push_cells-clause-refused c =
     (behind_first _ _ _ (codes "tape ") (decimal c.args.tape ++ rest) c.in_ok-push.ensures.added
     (behind_first _ _ _ (decimal c.args.tape) rest number (of_equal _ _ (bounds_text s ++ cells) rest
     (bounds_apart s cells) (behind_first _ _ _ (bounds_text s) cells c.in_ok-push_bounds.ensures.added
-    (in_first _ _ shown (10 ∷ []) (of_equal _ _ _ shown (ap (drive_cells_text (symbols_on c.args.names.now.names.now c.args.tape))
+    (in_first _ _ shown (10 ∷ []) (of_equal _ _ _ shown (ap
+    (drive_cells_text (symbols_on c.args.names.now.names.now c.args.tape))
     c.as_slice.ensures) c.in_err-push_cells.ensures.refused))))))
