@@ -1,6 +1,8 @@
 //! The printed names of the reversible machine's states and symbols.
 ghost use Rattle.std.specs.Prelude.{◌≡◌, ◌+◌, ◌-◌, ◌^◌, ◌<◌, ◌≤◌, [], ◌∷◌, IfOk, OnOk, OnErr, length, map, decimal};
 ghost use Rattle.std.specs.List.{range_with_len};
+ghost use Rattle.bn_machine.specs.Machine.{IsMachine};
+ghost use Rattle.bn_table.specs.Rows.{FitsTable, IsTable as IsReadTable};
 ghost use Rattle.bn_quad.specs.Names.{nameless, symbols_on};
 ghost use Rattle.bn_qtable.specs.Named.{HasNames};
 ghost use Rattle.bn_qtable.specs.Rows.{IsTable, table_of};
@@ -116,10 +118,13 @@ pub fn add_history_symbols(alloc: Global, names: &mut QuadNames, count: u32) -> 
     Ok(())
 }
 
-// All names.
+// All names. Its contract also tells what every table keeps.
 fn all_names(alloc: Global, table: &Table, translated: &Translated) -> Result<QuadNames, NoMemory>
     requires { IsTranslation table.now.machine translated.now }
-    ensures { IfOk result (λ names. names ≡ translation_names table.now translated.now) }
+    ensures names { IfOk result (λ names. names ≡ translation_names table.now translated.now) }
+    ensures machine { IsMachine table.now.machine }
+    ensures table { IsReadTable table.now }
+    ensures fits { FitsTable table.now.machine }
 {
     let mut names = QuadNames::empty(alloc);
     let count = table.machine().quints().len() as u32;
@@ -142,7 +147,5 @@ pub fn names(alloc: Global, table: &Table, translated: &Translated) -> Result<Qu
 {
     translations_have_names();
     translations_are_tables();
-    // (for the prover: the contract of this call tells what the type keeps.)
-    let _quints = table.machine().quints();
     all_names(alloc, table, translated)
 }

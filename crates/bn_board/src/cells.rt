@@ -10,7 +10,7 @@ ghost use Rattle.bn_board_spec.specs.Layouts.{marked_column, cell_state_at, symb
 
 use crate::board::Board;
 use bn_board_spec::{Cells, Spelled, SpelledTape};
-use bn_net::NoMemory;
+use bn_net::{MOST_ELEMENTS, NoMemory};
 use std::alloc::Global;
 
 impl Board {
@@ -125,11 +125,10 @@ impl Board {
     // The first marked column of a bank that begins at this element, with so many columns and rows.
     #[tactic(auto, using(crate::proofs::CellLemmas::bottom_low))]
     fn marked_column(&self, first: u32, columns: u32, rows: u32) -> Option<u32>
-        requires { column_at first rows columns ≤ elements_of self.now.layout }
+        requires inside { column_at first rows columns ≤ elements_of self.now.layout }
+        requires few { column_at first rows columns ≤ MOST_ELEMENTS }
         ensures { result ≡ marked_column self.now.config.states first columns rows }
     {
-        // (for the prover: the contract of this call tells what the type keeps.)
-        let _elements = self.layout().elements();
         for column in 0..columns {
             if self.is_marked(first + column * (rows + 1) + rows) {
                 return Some(column);

@@ -172,6 +172,7 @@ impl Layout {
         requires { tape ≤ 3 }
         ensures number { result ≡ lines_before self.now.symbols tape }
         ensures few { result ≤ 1 + tape * (MOST_SYMBOLS + 3) }
+        ensures kept { IsLayoutKept self.now }
     {
         let mut lines = 1;
         for index in 0..tape as usize {
@@ -184,6 +185,7 @@ impl Layout {
     pub(crate) fn lines(&self) -> u32
         ensures number { result ≡ lines_at self.now }
         ensures few { result < 65536 }
+        ensures kept { IsLayoutKept self.now }
     {
         self.lines_before(3)
     }
@@ -203,7 +205,8 @@ impl Layout {
     pub(crate) fn cell_size(&self, tape: u32) -> u32
         requires first { 1 ≤ tape }
         requires last { tape ≤ 3 }
-        ensures { result ≡ cell_size (symbol_count_at self.now tape) }
+        ensures number { result ≡ cell_size (symbol_count_at self.now tape) }
+        ensures some { 1 ≤ symbol_count_at self.now tape }
     {
         let letters = self.letters(tape);
         2 * letters * (2 * letters + 8 + 1)
@@ -244,6 +247,7 @@ impl Layout {
         requires cell { cell < cells_in self.now.limits tape }
         ensures number { result ≡ cell_element self.now tape cell }
         ensures few { result + cell_size (symbol_count_at self.now tape) ≤ elements_of self.now }
+        ensures low { result + cell_size (symbol_count_at self.now tape) ≤ MOST_ELEMENTS }
     {
         self.first_element(tape) + cell * self.cell_size(tape)
     }

@@ -76,8 +76,6 @@ impl Layout {
         ensures low { cell_element self.now tape result ≤ element }
         ensures high { element < cell_element self.now tape result + cell_size (symbol_count_at self.now tape) }
     {
-        // (for the prover: the contract of this call tells what the type keeps.)
-        let _letters = self.letters(tape);
         (element - self.first_element(tape)) / self.cell_size(tape)
     }
 

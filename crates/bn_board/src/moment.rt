@@ -118,8 +118,6 @@ impl Layout {
         ensures number { result ≡ bottom_at 0 (lines_at self.now) state }
         ensures within { result < elements_of self.now }
     {
-        // (for the prover: the contract of this call tells what the type keeps.)
-        let _states = self.states();
         let lines = self.lines();
         state * (lines + 1) + lines
     }

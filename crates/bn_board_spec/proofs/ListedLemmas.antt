@@ -9,7 +9,8 @@ use Rattle.bn_element.specs.Tables.{Table, IsReversible}
 use Rattle.bn_circuits.specs.Circuits.{Circuit, target, source}
 use Rattle.bn_circuits.specs.declared.line.Line.{Line}
 use Rattle.bn_circuits.specs.declared.line.Wire.{Wire}
-use Rattle.bn_element.specs.Rotary.{rotary, rotary-IsReversible}
+use Rattle.bn_element.specs.Rotary.{rotary}
+use Rattle.bn_element.specs.Reversible.{rotary-IsReversible}
 use Rattle.bn_net.specs.Wirings.{AreWiresOf}
 use Rattle.bn_net.proofs.WiringsLemmas.{IsWire, no_wires, joined_wires, more_wire, same_wires, apart-IsOneToOne}
 use Rattle.bn_net.proofs.WiringsLemmas.{rotary-outputs, rotary-inputs}

@@ -3,7 +3,8 @@ use Rattle.std.specs.Prelude.{◌≡◌, ℕ, ◌<◌, ◌==◌, ◌&&◌, true,
 use Rattle.std.proofs.Common.{zero, suc, sym, ap, subst, ◌∙◌, inl, inr}
 use Rattle.std.proofs.lemmas.Bool.Decides.{eqb_tells}
 use Rattle.std.proofs.lemmas.Option.{some_pair_parts}
-use Rattle.bn_element.specs.Tables.{pair_tells, Move, go_by, back_by, AreWithin}
+use Rattle.bn_element.specs.Tables.{Move, go_by, back_by, AreWithin}
+use Rattle.bn_element.specs.Reversible.{pair_tells}
 use Rattle.bn_circuits.specs.Alike.{TablesAreOne, ConsistentMovesAreReversible}
 
 -- ---- tables

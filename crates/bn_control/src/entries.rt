@@ -15,7 +15,8 @@ use std::alloc::{AllocError, Global};
 /// What a control sends first in each state of the machine.
 pub(crate) fn entries_of(alloc: Global, machine: &QuadMachine) -> Result<Vec<Sending>, AllocError>
     requires { IsUniformMachine machine.now }
-    ensures { IfOk result (λ v. AreEntries machine.now v.items) }
+    ensures entries { IfOk result (λ v. AreEntries machine.now v.items) }
+    ensures valid { IfOk result (λ v. IsQuadMachine machine.now) }
 {
     let mut entries = waiting_entries(alloc, machine.states(), machine.final_state())?;
     for (index, quad) in machine.quads().iter().enumerate() {

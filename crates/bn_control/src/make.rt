@@ -60,10 +60,8 @@ fn draft_of(alloc: Global, machine: &QuadMachine) -> Result<Draft, AllocError>
 
 // How many symbols each tape has, tape 1 first.
 fn symbols_of(machine: &QuadMachine) -> [u32; 3]
-    ensures symbols { result ≡ machine.now.symbols }
-    ensures valid { IsQuadMachine machine.now }
+    requires { IsQuadMachine machine.now }
+    ensures { result ≡ machine.now.symbols }
 {
-    // (for the prover: the contract of this call tells what the type keeps.)
-    let _quads = machine.quads();
     [machine.symbols(1), machine.symbols(2), machine.symbols(3)]
 }

@@ -1,3 +1,4 @@
 pub mod Rotary
 pub mod Inverse
 pub mod Tables
+pub mod Reversible

@@ -1,9 +1,8 @@
 -- The rotary element. Its bar lies along west and east (state H) or along north and south (state V). A signal that
 -- comes in along the bar goes straight on and changes nothing; one that comes in across the bar turns right and turns
 -- the bar. The idea and the name are Morita's (2017); the names of lines and states are this project's own profile.
-use Rattle.std.specs.Prelude.{ℕ, List, [], ◌∷◌, refl}
-use Rattle.std.proofs.Common.{arith}
-use Rattle.bn_element.specs.Tables.{Table, IsReversible, Move, table_by, table_by-IsReversible}
+use Rattle.std.specs.Prelude.{ℕ, List, [], ◌∷◌}
+use Rattle.bn_element.specs.Tables.{Table, Move, table_by}
 
 -- the two states of the bar
 abbrev pub horizontal : ℕ
@@ -45,10 +44,3 @@ rotary_moves =
 -- the rotary element as a table
 abbrev pub rotary : Table
 rotary = table_by 2 4 4 rotary_moves
-
--- it is reversible
-pub rotary-IsReversible : IsReversible rotary
-rotary-IsReversible =
-    table_by-IsReversible 2 4 4 rotary_moves
-    (refl, refl, (refl, refl, (refl, refl, (refl, refl, (refl, refl, (refl, refl, (refl, refl, (refl, refl, tt))))))))
-    (grind (arith))

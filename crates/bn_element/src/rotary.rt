@@ -27,7 +27,8 @@ pub const WEST: u32 = 3;
 pub struct Rotary;
 
 impl Element for Rotary {
-    ghost use Rattle.bn_element.specs.Rotary.{rotary, rotary-IsReversible};
+    ghost use Rattle.bn_element.specs.Rotary.{rotary};
+    ghost use Rattle.bn_element.specs.Reversible.{rotary-IsReversible};
 
     ghost table = { λ _. rotary };
 

@@ -121,11 +121,9 @@ fn join_translated(
     requires symbols { first.now.symbols ≡ second.now.symbols }
     requires translated { IsTranslation first.now translated.now }
     requires other { IsTranslation second.now other.now }
+    requires states { translated.now.machine.states + other.now.machine.states < 2 ^ 32 }
     ensures { IfOk result (IsErasing first.now second.now) }
 {
-    // (for the prover: the contract of this call tells what the type keeps. So below.)
-    let _left = first.machine().quints();
-    let _right = second.machine().quints();
     let meeting = meeting_of(translated, other);
     let names = joint_names(alloc, translated.names(), other.names(), meeting.end)?;
     let quads = joint_quads(alloc, translated, other, meeting)?;
@@ -292,7 +290,8 @@ fn uniform_of(
     requires first { FitsTable first.now }
     requires second { FitsTable second.now }
     requires symbols { first.now.symbols ≡ second.now.symbols }
-    requires list { AreErasing first.now second.now names.now quads.items }
+    requires list { IsStandardMachine first.now → IsStandardMachine second.now
+        → AreErasing first.now second.now names.now quads.items }
     ensures { IsErasing first.now second.now (erasure_of names.now result) }
 {
     let symbols = symbols_of(first, second);

@@ -3,6 +3,7 @@ ghost use Rattle.std.specs.Prelude.{◌≡◌, ◌∷◌, IfOk, OnOk, map};
 ghost use Rattle.bn_quad.specs.Names.{nameless};
 ghost use Rattle.bn_qtable.specs.Named.{HasNames};
 ghost use Rattle.bn_bennett.specs.Printed.{bennett_state_text, with_states};
+ghost use Rattle.bn_erase.specs.Joint.{IsJoint};
 ghost use Rattle.bn_erase.specs.Made.{IsErasing};
 ghost use Rattle.bn_erase.specs.Printable.{ArePrintable};
 ghost use Rattle.bn_erase.specs.Printed.{erasing_text, names_of};
@@ -29,15 +30,14 @@ pub fn erasing_names(
     ensures forms { IfOk result (HasNames erasing.now.machine) }
 {
     erasings_have_names();
-    // What two machines over one alphabet keep.
-    let _machine = joined.first();
     all_names(alloc, joined, erasing)
 }
 
-// All names.
+// All names. Its contract also tells what two machines over one alphabet keep.
 fn all_names(alloc: Global, joined: &Joined, erasing: &Erasing) -> Result<QuadNames, NoMemory>
     requires { IsErasing joined.now.first joined.now.second erasing.now }
-    ensures { IfOk result (λ names. names ≡ names_of joined.now erasing.now) }
+    ensures names { IfOk result (λ names. names ≡ names_of joined.now erasing.now) }
+    ensures valid { IsJoint joined.now }
 {
     erasing_has_names();
     let mut names = QuadNames::empty(alloc);

@@ -1,7 +1,7 @@
 -- The headline where the window is found, by the machine alone and by the circuit: the search by the machine alone is
 -- that of the boards, since each board has as many elements as the machine and the window say.
 use Rattle.std.specs.Prelude.{◌≡◌, ℕ, ◌<◌, ◌≤◌, List, length, Option, ◌⊎◌, refl}
-use Rattle.std.proofs.Common.{zero, suc, arith, inl, inr, subst, sym, ◌∙◌}
+use Rattle.std.proofs.Common.{zero, suc, inl, inr, subst, sym, ◌∙◌}
 use Rattle.bn_io.specs.Told.{Grows}
 use Rattle.bn_lists.specs.Runs.{Reaches}
 use Rattle.bn_machine.specs.Machine.{Program}

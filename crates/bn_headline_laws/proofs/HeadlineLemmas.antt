@@ -1,22 +1,9 @@
 -- The headline by the machine alone, from the reply to a run.
-use Rattle.std.specs.Prelude.{refl, ◌≡◌, ℕ, ◌+◌, ◌-◌, ◌*◌, ◌<◌, ◌≤◌, pos, ◌+ℤ◌, ◌-ℤ◌, List, [], ◌∷◌, ◌++◌, length, map}
-use Rattle.std.specs.Prelude.{replicate, slice_get, Option, Some, None, Bool, true, false, reverse, slice_index}
+use Rattle.std.specs.Prelude.{refl, ◌≡◌, ℕ, ◌+◌, ◌-◌, ◌*◌, ◌<◌, ◌≤◌, List, [], ◌∷◌, ◌++◌, length}
+use Rattle.std.specs.Prelude.{replicate, slice_get, Option, Some, None, slice_index}
 use Rattle.std.specs.Prelude.{decimal}
-use Rattle.std.specs.List.{range_with_len}
-use Rattle.std.specs.Option.{option_map_or}
 use Rattle.std.proofs.Common.{zero, suc, arith, zero-add, ap, subst, ◌∙◌, sym}
 use Rattle.std.proofs.lemmas.Option.{option_and_then_some}
-use Rattle.std.specs.Prelude.{ℤ, nat_lt, position, if◌then◌else◌}
-use Rattle.std.specs.Option.{option_map}
-use Rattle.std.proofs.lemmas.Bool.{ltb-true}
-use Rattle.std.proofs.lemmas.Int.{ints}
-use Rattle.std.proofs.lemmas.List.{length-reverse}
-use Rattle.std.proofs.lemmas.List.FromFn.{length-map-range_with_len, length-range_with_len}
-use Rattle.std.proofs.lemmas.List.Quantifiers.{position-Some}
-use Rattle.std.proofs.lemmas.Option.{slice_get-map}
-use Rattle.bn_machine.specs.Window.{IsBetween, anywhere}
-use Rattle.bn_network.specs.Cells.{cell_line_count}
-use Rattle.bn_realise.specs.Banks.{bottom_at}
 use Rattle.bn_bennett_laws.specs.List.{symbols_of}
 use Rattle.bn_io.specs.Told.{Grows}
 use Rattle.bn_circuits.specs.declared.place.Place.{Place}
@@ -25,15 +12,12 @@ use Rattle.bn_element.specs.Tables.{Table}
 use Rattle.bn_circuits.specs.declared.line.Line.{Line}
 use Rattle.bn_circuits.specs.declared.place.Place.TheVariants.{Enter}
 use Rattle.bn_circuits.specs.Circuits.{Circuit, Goes, IsCircuit}
-use Rattle.bn_circuits.specs.Stepping.{next, run}
-use Rattle.bn_circuits.specs.Counting.{one_if, tally}
+use Rattle.bn_circuits.specs.Stepping.{run}
 use Rattle.bn_circuits.specs.declared.config.Config.{Config}
 use Rattle.bn_circuits.proofs.CountingLemmas.{one_low, tally_low}
 use Rattle.bn_circuits.proofs.RunLemmas.{Reaches-run}
 use Rattle.bn_circuits.proofs.RunPartLemmas.{runs_split, steps_of_run}
 use Rattle.bn_machine.specs.Tape.{Tape}
-use Rattle.bn_machine.specs.Machine.{start}
-use Rattle.bn_machine.specs.Run.{Follows}
 use Rattle.bn_board_spec.specs.declared.spelled.Spelled.{Spelled}
 use Rattle.bn_machine.specs.Outcome as outcome
 use Rattle.bn_machine.specs.Outcome.{Limits, Outcome, HasOutcome}
@@ -43,13 +27,10 @@ use Rattle.bn_quad.specs.Quadruples.{Quadruples}
 use Rattle.bn_table.specs.Laws.{TablesAreMachines}
 use Rattle.bn_table.specs.Rows.{Named}
 use Rattle.bn_network.specs.Controls.{ControlState, lines_before}
-use Rattle.bn_network.specs.Networks.{bank_size, cell_size, cells_in, elements_by, left_of}
+use Rattle.bn_network.specs.Networks.{bank_size, cell_size, cells_in, elements_by}
 use Rattle.bn_board_spec.specs.declared.exit.Exit.TheVariants as exit
-use Rattle.bn_board_spec.specs.Layouts.{Layout, IsLayout, elements_of, is_moment, spelled_tape, cell_element}
-use Rattle.bn_board_spec.specs.Layouts.{cell_state_at, cells_shown, has_head, head_shown, is_marked_at, symbol_count_at}
-use Rattle.bn_board_spec.specs.Layouts.{symbol_by}
+use Rattle.bn_board_spec.specs.Layouts.{Layout, IsLayout, elements_of, is_moment, spelled_tape}
 use Rattle.bn_board_spec.specs.Flats.{IsFlatOf, Flat, flat_start}
-use Rattle.bn_board_spec.specs.Spans.{Spans}
 use Rattle.bn_board_spec.proofs.SpanLemmas.{spans}
 use Rattle.bn_board_spec.specs.Costs.{HasCost, bound_of}
 use Rattle.bn_board_laws.specs.Headline.{HasEndTapes, RunsToExit, SpellsEnd}
@@ -63,7 +44,7 @@ use Rattle.bn_board_spec.specs.Boards.{size}
 use Rattle.bn_base.specs.Number.{greatest}
 use Rattle.bn_reply.specs.declared.limits.TheConstants.{MOST_INPUT_BYTES}
 use Rattle.bn_reply_boards_laws.specs.Windows.{BoardReplies, long, large, board, ComesTo, CountsElements, large_line}
-use Rattle.bn_reply_boards_laws.specs.RunText.{elements_line, exit_line, output_line, quadruple_line, shown_lines}
+use Rattle.bn_reply_boards_laws.specs.RunText.{elements_line, exit_line, shown_lines}
 use Rattle.bn_reply_boards_laws.specs.RunText.{steps_line, tape_lines, tapes_text}
 use Rattle.bn_reply_boards_laws.specs.RunReply.{RunReplies, TellsRun, board_after}
 use Rattle.bn_reply_boards_laws.specs.Headline as within

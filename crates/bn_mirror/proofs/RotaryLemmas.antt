@@ -5,7 +5,8 @@ use Rattle.std.proofs.Common.{zero, suc, arith, sym, ap, subst, ◌∙◌, inl, 
 use Rattle.std.proofs.lemmas.Bool.Decides.{eqb_tells}
 use Rattle.std.proofs.lemmas.Option.{same_Some, some_pair_parts, option_and_then_some}
 use Rattle.bn_element.specs.Tables.{Table}
-use Rattle.bn_element.specs.Rotary.{rotary, rotary-IsReversible, east, west}
+use Rattle.bn_element.specs.Rotary.{rotary, east, west}
+use Rattle.bn_element.specs.Reversible.{rotary-IsReversible}
 use Rattle.bn_element.specs.Inverse.{exchanged, exchanged_pair}
 use Rattle.bn_element.proofs.InverseLemmas.{rotary-inverse}
 use Rattle.bn_circuits.specs.Circuits.{go_of, inputs_of, outputs_of}

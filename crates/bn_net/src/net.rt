@@ -111,19 +111,23 @@ impl<E: Element> Net<E> {
     }
 
     /// The input line to which the wire of this output line leads, `None` exactly where no wire
-    /// leaves it.
+    /// leaves it. Its contract also tells what every net keeps.
     pub fn target(&self, from: Line) -> Option<Line>
         requires { IsOutputOf (map E.table self.now.elements) from }
-        ensures { result ≡ target self.now.wires from }
+        ensures line { result ≡ target self.now.wires from }
+        ensures circuit { IsCircuit (circuit E.table self.now) }
+        ensures order { AreInOrder self.now.wires }
     {
         self.targets.get(from)
     }
 
     /// The output line from which the wire of this input line comes, `None` exactly where no wire
-    /// ends at it.
+    /// ends at it. Its contract also tells what every net keeps.
     pub fn source(&self, to: Line) -> Option<Line>
         requires { IsInputOf (map E.table self.now.elements) to }
-        ensures { result ≡ source self.now.wires to }
+        ensures line { result ≡ source self.now.wires to }
+        ensures circuit { IsCircuit (circuit E.table self.now) }
+        ensures order { AreInOrder self.now.wires }
     {
         self.sources.get(to)
     }

@@ -8,7 +8,6 @@ use Rattle.bn_circuits.specs.declared.line.Line.{Line}
 use Rattle.bn_circuits.specs.declared.line.Wire.{Wire}
 use Rattle.bn_element.specs.Rotary.{vertical, east}
 use Rattle.bn_netlist_laws.specs.Faults.{wires_from}
-use Rattle.bn_netlist_laws.specs.Columns.{inner_wires}
 use Rattle.bn_netlist_laws.specs.Sentences.{Sentence, Title, Count, Start, End, Steps, At, Element, Column, Row}
 use Rattle.bn_netlist_laws.specs.Spelling.{header_then}
 use Rattle.bn_netlist_laws.specs.Faults.{Fault, out_of_order, next_number, row_number, bars_in, wires_after}

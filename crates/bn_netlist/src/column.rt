@@ -72,8 +72,6 @@ impl Spellable for NetInStates<'_> {
     }
 
     fn target(&self, from: Line) -> Option<Line> {
-        // (for the prover: the contract of this call tells what the type keeps.)
-        let _elements = self.net.len();
         self.net.target(from)
     }
 }

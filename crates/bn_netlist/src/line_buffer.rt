@@ -6,7 +6,7 @@ use itoa::write_digits;
 use std::marker::Model;
 
 /// The most bytes of a line that is put together: no line of any form is longer.
-const ROOM: usize = 128;
+pub(crate) const ROOM: usize = 128;
 
 /// A line that is put together in one place from its end to its beginning, so that it is handed over once. Callers see
 /// the bytes that stand so far.
@@ -42,7 +42,7 @@ impl LineBuffer {
     /// Puts a byte before what stands.
     #[inline]
     pub(crate) fn put(&mut self, byte: u8)
-        requires { length self.old < 128 }
+        requires { length self.old < ROOM }
         ensures { self.new ≡ byte ∷ self.old }
     {
         self.begin -= 1;
@@ -52,7 +52,7 @@ impl LineBuffer {
     /// Puts a number before what stands.
     #[inline]
     pub(crate) fn put_number(&mut self, number: u64)
-        requires { length self.old + 20 ≤ 128 }
+        requires { length self.old + 20 ≤ ROOM }
         ensures text { self.new ≡ decimal number ++ self.old }
         ensures short { length self.new ≤ length self.old + 20 }
     {

@@ -54,13 +54,12 @@ impl Spellable for PackedConfig {
     }
 
     fn bar(&self, element: u32) -> u32 {
-        // (for the prover: the contract of this call tells what the type keeps. So below.)
+        // (for the prover: the contract of this call tells what the type keeps.)
         let _elements = self.packed.len();
         self.packed.bar(element)
     }
 
     fn target(&self, from: Line) -> Option<Line> {
-        let _elements = self.packed.len();
         self.packed.target(from)
     }
 }

@@ -12,7 +12,7 @@ ghost use Rattle.bn_netlist.specs.Writing.{IsPlaceIn, IsBehindRow, NextLine, Wri
 
 use crate::column_lines::column_rows;
 use crate::cursor::Place;
-use crate::line_buffer::LineBuffer;
+use crate::line_buffer::{LineBuffer, ROOM};
 use crate::spellable::Spellable;
 use crate::write_to::write_config_to;
 use bn_base::push_u64;
@@ -176,7 +176,7 @@ fn push_row<C: Spellable>(text: &mut Vec<u8>, config: &C, element: u32) -> Resul
 fn put_target<C: Spellable>(line: &mut LineBuffer, config: &C, element: u32, output: u32)
     requires there { element < (C.spelling config.now).elements }
     requires output { output < 4 }
-    requires room { length line.old + 23 ≤ 128 }
+    requires room { length line.old + 23 ≤ ROOM }
     ensures text { line.new ≡ codes " "
         ++ (target_text (target (C.spelling config.now).wires (record { element = element; line = output }))
         ++ line.old) }

@@ -8,7 +8,8 @@ use Rattle.bn_circuits.specs.Circuits.{same_line, target, source, states_of, inp
 use Rattle.bn_net.proofs.WireListLemmas.{line_tells}
 use Rattle.bn_circuits.specs.declared.line.Line.{Line}
 use Rattle.bn_circuits.specs.declared.line.Wire.{Wire}
-use Rattle.bn_element.specs.Rotary.{rotary, rotary-IsReversible}
+use Rattle.bn_element.specs.Rotary.{rotary}
+use Rattle.bn_element.specs.Reversible.{rotary-IsReversible}
 
 -- a line is there exactly where its element and its number are
 pub rotary_input : (n e l : ℕ) → l < inputs_of (replicate n rotary) e → (e < n) × (l < 4)

@@ -2,7 +2,8 @@
 use Rattle.std.proofs.Common.{◌≡◌, inl, inr, slice_get, ℕ, ◌<◌, List, [], ◌∷◌, length, Option, Some, None, refl, sym}
 use Rattle.std.proofs.Common.{ap, subst, ◌∙◌}
 use Rattle.std.proofs.lemmas.Option.{some_pair_parts, slice_get_within}
-use Rattle.bn_element.specs.Tables.{Table, Move, go_by, pair_tells, table_by, AreWithin}
+use Rattle.bn_element.specs.Tables.{Table, Move, go_by, table_by, AreWithin}
+use Rattle.bn_element.specs.Reversible.{pair_tells}
 use Rattle.bn_quad.specs.Quadruples.{Quadruples, IsQuadMachine}
 use Rattle.bn_quad.specs.Calls.{IsUniformMachine}
 use Rattle.bn_circuits.specs.Alike.{AreConsistent}

@@ -9,7 +9,8 @@ use Rattle.bn_element.specs.Tables.{Table}
 use Rattle.bn_circuits.specs.Circuits.{IsCircuit, IsInputOf, IsOutputOf, target, source, inputs_of, outputs_of}
 use Rattle.bn_circuits.proofs.StepLemmas.{same_lines}
 use Rattle.bn_circuits.specs.declared.line.Line.{Line}
-use Rattle.bn_element.specs.Rotary.{rotary, rotary-IsReversible}
+use Rattle.bn_element.specs.Rotary.{rotary}
+use Rattle.bn_element.specs.Reversible.{rotary-IsReversible}
 use Rattle.bn_element.specs.declared.rotary.Rotary.{Rotary}
 use Rattle.bn_net.specs.Rows.{entry, width, wires_of, IsWired}
 use Rattle.bn_net.specs.Parts.{Parts}

@@ -12,3 +12,4 @@ pub mod LooseLemmas
 pub mod StepLemmas
 pub mod PutLemmas
 pub mod CopiedLemmas
+pub mod KeptLemmas

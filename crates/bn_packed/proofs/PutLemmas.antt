@@ -12,7 +12,7 @@ use Rattle.std.proofs.Common.{inl, inr}
 use Rattle.bn_net.specs.Parts.{Parts}
 use Rattle.bn_net.specs.RotaryNets.{rotary_circuit}
 use Rattle.bn_packed.specs.Bars.{turned}
-use Rattle.bn_packed.specs.PackedNets.{config_at}
+use Rattle.bn_packed.specs.PackedNets.{IsPacked, config_at}
 use Rattle.bn_packed.proofs.StepLemmas.{two_states}
 
 -- it has it already
@@ -58,7 +58,13 @@ put-IsConfig net c e state good low within = record {
   in_time = good.in_time;
 }
 
--- and so is one whose signal has come out by an output line, within the clock
+-- and a packed netlist keeps so what it keeps
+pub put-IsPacked : (net : Parts Rotary) (c : Config) (e state : ℕ) → IsPacked net c → e < length c.states → state < 2
+    → IsPacked net (config_at (slice_set c.states e state) c.place c.steps)
+put-IsPacked net c e state kept low within =
+    record { circuit = kept.circuit; good = put-IsConfig net c e state kept.good low within }
+
+-- so is a configuration one whose signal has come out by an output line, within the clock
 pub sent-IsConfig : (net : Parts Rotary) (c : Config) (from : Line) (steps : ℕ) → IsCircuit (rotary_circuit net)
     → IsConfig (rotary_circuit net) c
     → IsOutputOf (rotary_circuit net).tables from → steps ≤ clock

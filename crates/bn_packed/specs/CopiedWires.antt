@@ -1,4 +1,5 @@
--- The words in which the functions that copy a board's wires are said: the wires of a net, output line by output line.
+-- The words in which the functions that copy a packed net's wires are said: the wires of a net, output line by output
+-- line.
 use Rattle.std.specs.Prelude.{◌≡◌, ℕ, List, Some}
 use Rattle.bn_circuits.specs.Circuits.{line_at, target}
 use Rattle.bn_circuits.specs.declared.line.Line.{Line}

@@ -1,9 +1,11 @@
 -- A packed netlist as contracts see it.
 use Rattle.std.specs.Prelude.{ℕ, List}
+use Rattle.bn_circuits.specs.Circuits.{IsCircuit, IsConfig}
 use Rattle.bn_circuits.specs.declared.place.Place.{Place}
 use Rattle.bn_circuits.specs.declared.config.Config.{Config}
 use Rattle.bn_element.specs.declared.rotary.Rotary.{Rotary}
 use Rattle.bn_net.specs.Parts.{Parts}
+use Rattle.bn_net.specs.RotaryNets.{rotary_circuit}
 use Rattle.bn_packed.specs.declared.wires.Wires.{Wires}
 use Rattle.bn_packed.specs.declared.wires.Wires.TheVariants.{Narrow, Wide}
 
@@ -11,6 +13,11 @@ use Rattle.bn_packed.specs.declared.wires.Wires.TheVariants.{Narrow, Wide}
 pub record PackedNet : Type 0 where
   pub net : Parts Rotary
   pub config : Config
+
+-- what a packed netlist keeps: its net is a circuit, and the configuration is one of it
+pub record IsPacked (net : Parts Rotary) (c : Config) : Type 0 where
+  pub circuit : IsCircuit (rotary_circuit net)
+  pub good : IsConfig (rotary_circuit net) c
 
 -- the configuration with these bars, the signal at this place, after so many steps
 abbrev pub config_at : List ℕ → Place → ℕ → Config

@@ -57,7 +57,8 @@ impl Draft {
 
     /// The ends, of which it is packed.
     pub(crate) fn into_ends(self) -> Ends<u32>
-        ensures { result ≡ self }
+        ensures same { result ≡ self }
+        ensures few { self.elements < 2 ^ 32 }
     {
         self.ends
     }

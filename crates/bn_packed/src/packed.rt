@@ -42,16 +42,13 @@ pub struct Packed {
 }
 
 impl Model for Packed {
-    ghost use Rattle.bn_circuits.specs.Circuits.{IsConfig};
-    ghost use Rattle.bn_net.specs.RotaryNets.{rotary_circuit};
-    ghost use Rattle.bn_packed.specs.PackedNets.{PackedNet, net_in, config_at};
+    ghost use Rattle.bn_packed.specs.PackedNets.{PackedNet, IsPacked, net_in, config_at};
 
     ghost Value = { PackedNet };
 
     ghost view = { λ p. record { net = net_in p.wires; config = config_at p.bars p.signal.place p.signal.steps } };
 
-    ghost invariant = { λ p.
-        IsConfig (rotary_circuit (net_in p.wires)) (config_at p.bars p.signal.place p.signal.steps) };
+    ghost invariant = { λ p. IsPacked (net_in p.wires) (config_at p.bars p.signal.place p.signal.steps) };
 }
 
 impl Packed {
@@ -92,8 +89,6 @@ impl Packed {
         let bars = Bars::of(alloc, states.as_slice())?;
         drop(states);
         let wires = Wires::from_draft(alloc, draft)?;
-        // (for the prover: the contract of this call tells what the type keeps.)
-        let _elements = wires.len();
         Ok(Packed {
             wires,
             bars,
@@ -147,10 +142,11 @@ impl Packed {
     }
 
     /// The input line to which the wire of this output line leads, `None` exactly where no wire
-    /// leaves it.
+    /// leaves it. Its contract also tells what all packed netlists keep.
     pub fn target(&self, from: Line) -> Option<Line>
         requires { IsOutputOf (rotary_circuit self.now.net).tables from }
-        ensures { result ≡ target self.now.net.wires from }
+        ensures line { result ≡ target self.now.net.wires from }
+        ensures circuit { IsCircuit (rotary_circuit self.now.net) }
     {
         self.wires.target(from)
     }
@@ -163,7 +159,6 @@ impl Packed {
         ensures config { self.new.config ≡ config_at (slice_set self.old.config.states element state)
             self.old.config.place self.old.config.steps }
     {
-        let _elements = self.wires.len();
         self.bars.put(element as usize, state);
     }
 
@@ -176,7 +171,6 @@ impl Packed {
         ensures config { self.new.config ≡ config_at self.old.config.states (place_after self.old.net.wires from)
             (self.old.config.steps + steps) }
     {
-        let _elements = self.wires.len();
         let place = match self.wires.target(from) {
             Some(to) => Place::Enter {
                 element: to.element,
@@ -259,7 +253,6 @@ impl Packed {
         ensures told { Hears (W.told watch.old)
             (places_along Direction.Forward (rotary_circuit self.old.net) e self.old.config) (W.told watch.new) }
     {
-        let _elements = self.wires.len();
         let before = self.signal.steps;
         let count = e.min(CLOCK - before);
         self.signal = self.wires.walk(&mut self.bars, self.signal, count, watch);
@@ -289,7 +282,6 @@ impl Packed {
         ensures told { Hears (W.told watch.old)
             (places (rotary_circuit self.old.net) result self.old.config) (W.told watch.new) }
     {
-        let _elements = self.wires.len();
         let before = self.signal.steps;
         let room = CLOCK - before;
         let count = room.min(e);
@@ -308,7 +300,6 @@ impl Packed {
         ensures told { Hears (W.told watch.old)
             (places_along Direction.Backward (rotary_circuit self.old.net) e self.old.config) (W.told watch.new) }
     {
-        let _elements = self.wires.len();
         let before = self.signal.steps;
         let count = e.min(before);
         self.signal = self

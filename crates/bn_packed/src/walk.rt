@@ -1,7 +1,7 @@
 //! Steps of the signal, one after another, with no test of the clock among them.
 
 ghost use Rattle.std.specs.Prelude.{◌≡◌, ◌⊎◌, ◌+◌, ◌-◌, ◌<◌, ◌≤◌, true};
-ghost use Rattle.bn_circuits.specs.Circuits.{IsConfig, IsStuck, IsFirst, clock};
+ghost use Rattle.bn_circuits.specs.Circuits.{IsCircuit, IsConfig, IsStuck, IsFirst, clock};
 ghost use Rattle.bn_circuits.specs.declared.place.Place.TheVariants.{Enter, Left};
 ghost use Rattle.bn_net.specs.Walking.{HasWalked, HasWalkedBack};
 ghost use Rattle.bn_net.specs.RotaryNets.{rotary_circuit};
@@ -63,8 +63,6 @@ pub(crate) fn walk_until<C: Cell, S: Stop, W: Watch>(
         → signal.steps < result.steps
         ⊎ IsStuck (rotary_circuit wiring.now.net) (config_at bars.old signal.place signal.steps) }
 {
-    // (for the prover: the contract of this call tells what the type keeps. So below.)
-    let _elements = wiring.len();
     let Place::Enter { element, line } = signal.place else {
         return signal;
     };
@@ -107,6 +105,7 @@ pub(crate) fn walk_back<C: Cell, W: Watch>(
     count: u64,
     watch: &mut W,
 ) -> Signal
+    requires circuit { IsCircuit (rotary_circuit wiring.now.net) }
     requires made { wiring.now.goes_back ≡ true }
     requires good { IsConfig (rotary_circuit wiring.now.net) (config_at bars.old signal.place signal.steps) }
     requires counted { count ≤ signal.steps }
@@ -118,7 +117,6 @@ pub(crate) fn walk_back<C: Cell, W: Watch>(
     ensures ended { signal.steps < result.steps + count
         → IsFirst (rotary_circuit wiring.now.net) (config_at bars.new result.place result.steps) }
 {
-    let _elements = wiring.len();
     match signal.place {
         Place::Enter { element, line } => {
             let to = Line { element, line };
@@ -158,7 +156,6 @@ fn walk_back_from<C: Cell, W: Watch>(
     ensures ended { steps < result.steps + count
         → IsFirst (rotary_circuit wiring.now.net) (config_at bars.new result.place result.steps) }
 {
-    let _elements = wiring.len();
     let behind = wiring.behind();
     let mut number = line_number(to);
     for made in 0..count {

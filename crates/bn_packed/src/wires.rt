@@ -33,7 +33,8 @@ pub(crate) enum Wires {
 impl Wires {
     /// The wires of this net.
     pub(crate) fn of(alloc: Global, net: &Net<Rotary>) -> Result<Wires, NoMemory>
-        ensures { IfOk result (λ w. net_in w ≡ net.now) }
+        ensures net { IfOk result (λ w. net_in w ≡ net.now) }
+        ensures circuit { IfOk result (λ w. IsCircuit (rotary_circuit (net_in w))) }
     {
         if net.len() <= NARROW {
             Ok(Wires::Narrow(Wiring::of(alloc, net)?))
@@ -48,9 +49,8 @@ impl Wires {
         ensures net { IfOk result (λ w. (ws : List Wire) → AreDrawn draft.elements ws draft
             → IsNetOf (net_in w) draft.elements ws) }
         ensures order { IfOk result (λ w. AreInOrder (net_in w).wires) }
+        ensures circuit { IfOk result (λ w. IsCircuit (rotary_circuit (net_in w))) }
     {
-        // (for the prover: the contract of this call tells that the elements are few.)
-        let _count = draft.len();
         let wiring = Wiring::from_ahead(alloc, draft.into_ends())?;
         Ok(Wires::Narrow(wiring))
     }

@@ -1,12 +1,12 @@
 //! The wires of a net of rotary elements, kept both ways, or only ahead.
 
-ghost use Rattle.std.specs.Prelude.{◌≡◌, ◌≤◌, false, true, length, map, IfOk};
+ghost use Rattle.std.specs.Prelude.{◌≡◌, ◌<◌, ◌≤◌, ◌^◌, false, true, length, map, IfOk};
 ghost use Rattle.bn_circuits.specs.Circuits.{IsCircuit, IsOutputOf, target};
 ghost use Rattle.bn_net.specs.RotaryNets.{rotary_circuit};
 ghost use Rattle.bn_net.specs.Order.{AreInOrder};
 ghost use Rattle.bn_net.specs.RotaryNets.{IsNetOf};
 ghost use Rattle.bn_net.specs.Wirings.{AreApart, AreFitting};
-ghost use Rattle.bn_packed.specs.Ends.{AreEndsOf, AreTargets, HasEnds, ahead, behind, targets_by, net_of};
+ghost use Rattle.bn_packed.specs.Ends.{AreTargets, HasEnds, ahead, behind, targets_by, net_of};
 
 use crate::cells::{Cell, LINES, nth_line, opposite};
 use crate::ends::Ends;
@@ -47,15 +47,14 @@ impl<C: Cell> Wiring<C> {
         requires { length net.now.elements ≤ C.limit }
         ensures { IfOk result (λ w. w.net ≡ net.now) }
     {
-        // What every net keeps: its wires are one to one, and in order.
-        let _elements = net.len();
         Wiring::from_ahead(alloc, ahead_of(alloc, net)?)
     }
 
     /// The wires by which lines lead on so.
     pub(crate) fn from_ahead(alloc: Global, ahead: Ends<C>) -> Result<Wiring<C>, NoMemory>
         requires { AreTargets ahead }
-        ensures { IfOk result (λ w. w ≡ record { net = net_of (targets_by ahead); goes_back = false }) }
+        ensures wires { IfOk result (λ w. w ≡ record { net = net_of (targets_by ahead); goes_back = false }) }
+        ensures circuit { IfOk result (λ w. IsCircuit (rotary_circuit w.net)) }
     {
         let room = Ends::room(alloc, ahead.elements())?;
         Ok(Wiring {
@@ -81,9 +80,12 @@ impl<C: Cell> Wiring<C> {
         self.ahead.get(opposite(from))
     }
 
-    /// Where the signal comes next from each input line where it goes straight, by the lines' numbers.
+    /// Where the signal comes next from each input line where it goes straight, by the lines' numbers. Its contract
+    /// also tells what all wirings keep.
     pub(crate) fn ahead(&self) -> &[C]
-        ensures { HasEnds (ahead self.now.net.wires) (length self.now.net.elements) (map C.tells result.now) }
+        ensures ends { HasEnds (ahead self.now.net.wires) (length self.now.net.elements) (map C.tells result.now) }
+        ensures circuit { IsCircuit (rotary_circuit self.now.net) }
+        ensures few { length self.now.net.elements < 2 ^ 32 }
     {
         self.ahead.as_slice()
     }
@@ -92,6 +94,7 @@ impl<C: Cell> Wiring<C> {
     pub(crate) fn make_way_back(&mut self)
         ensures net { self.new.net ≡ self.old.net }
         ensures made { self.new.goes_back ≡ true }
+        ensures circuit { IsCircuit (rotary_circuit self.new.net) }
     {
         if let Some(room) = self.room.take() {
             self.behind = self.ahead.inverse_in(room);
@@ -99,9 +102,12 @@ impl<C: Cell> Wiring<C> {
     }
 
     /// From where it came to each input line where it went straight, by the lines' numbers, once the way back is made.
+    /// Its contract also tells what all wirings keep.
     pub(crate) fn behind(&self) -> &[C]
         requires { self.now.goes_back ≡ true }
-        ensures { HasEnds (behind self.now.net.wires) (length self.now.net.elements) (map C.tells result.now) }
+        ensures ends { HasEnds (behind self.now.net.wires) (length self.now.net.elements) (map C.tells result.now) }
+        ensures circuit { IsCircuit (rotary_circuit self.now.net) }
+        ensures few { length self.now.net.elements < 2 ^ 32 }
     {
         self.behind.as_slice()
     }
@@ -122,10 +128,11 @@ impl<C: Cell> Wiring<C> {
     }
 }
 
-// Where the signal comes next in the net.
+// Where the signal comes next in the net: the ends of which it is made.
 fn ahead_of<C: Cell>(alloc: Global, net: &Net<Rotary>) -> Result<Ends<C>, NoMemory>
     requires { length net.now.elements ≤ C.limit }
-    ensures { IfOk result (AreEndsOf (ahead net.now.wires) (length net.now.elements)) }
+    ensures targets { IfOk result AreTargets }
+    ensures net { IfOk result (λ e. net_of (targets_by e) ≡ net.now) }
 {
     let mut ends = Ends::loose(alloc, net.len())?;
     for place in 0..LINES * net.len() as usize {

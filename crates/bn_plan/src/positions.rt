@@ -1,9 +1,11 @@
 //! Positions of lines, and the wire that begins at a position.
 
 ghost use Rattle.std.specs.Prelude.{◌≡◌, ◌↔◌, ◌*◌, ◌^◌, ◌<◌, ◌≤◌, length, map, IfSome, IfNone, IsTrue};
-ghost use Rattle.bn_circuits.specs.Circuits.{IsInputOf, IsOutputOf};
+ghost use Rattle.bn_circuits.specs.Circuits.{IsCircuit, IsInputOf, IsOutputOf};
 ghost use Rattle.bn_circuits.specs.declared.line.Wire.{Wire};
 ghost use Rattle.bn_element.specs.Rotary.{rotary};
+ghost use Rattle.bn_net.specs.Order.{AreInOrder};
+ghost use Rattle.bn_net.specs.RotaryNets.{rotary_circuit};
 ghost use Rattle.bn_plan.specs.Wires.{output_position, input_position, HasFourLines};
 ghost use Rattle.bn_plan.specs.Sweeping.{BeginsAt};
 
@@ -42,12 +44,15 @@ pub(crate) fn input_position(line: Line) -> u32
     POSITIONS * line.element + OUTPUTS + line.line
 }
 
-/// The wire that begins at this position: its lesser end stands there. `None` where none does.
+/// The wire that begins at this position: its lesser end stands there. `None` where none does. Its contract also tells
+/// what every net keeps.
 pub(crate) fn wire_from(net: &Net<Rotary>, position: u32) -> Option<Wire>
     requires few { length net.now.elements ≤ MOST_PLANNED }
     requires position { position < 8 * length net.now.elements }
     ensures begins { IfSome result (BeginsAt net.now.wires position) }
     ensures none { IfNone result ((w : Wire) → BeginsAt net.now.wires position w → ⊥) }
+    ensures circuit { IsCircuit (rotary_circuit net.now) }
+    ensures order { AreInOrder net.now.wires }
 {
     let element = position / POSITIONS;
     let line = position % POSITIONS;
@@ -65,9 +70,9 @@ fn wire_out_of(net: &Net<Rotary>, from: Line) -> Option<Wire>
     requires output { IsOutputOf (map (λ _. rotary) net.now.elements) from }
     ensures begins { IfSome result (BeginsAt net.now.wires (output_position from)) }
     ensures none { IfNone result ((w : Wire) → BeginsAt net.now.wires (output_position from) w → ⊥) }
+    ensures circuit { IsCircuit (rotary_circuit net.now) }
+    ensures order { AreInOrder net.now.wires }
 {
-    // The net's own fact: it is a circuit.
-    let _count = net.len();
     match net.target(from) {
         None => None,
         Some(to) => {
@@ -83,9 +88,9 @@ fn wire_into(net: &Net<Rotary>, to: Line) -> Option<Wire>
     requires input { IsInputOf (map (λ _. rotary) net.now.elements) to }
     ensures begins { IfSome result (BeginsAt net.now.wires (input_position to)) }
     ensures none { IfNone result ((w : Wire) → BeginsAt net.now.wires (input_position to) w → ⊥) }
+    ensures circuit { IsCircuit (rotary_circuit net.now) }
+    ensures order { AreInOrder net.now.wires }
 {
-    // The net's own fact: it is a circuit.
-    let _count = net.len();
     match net.source(to) {
         None => None,
         Some(from) => {

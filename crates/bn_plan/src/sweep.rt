@@ -65,8 +65,6 @@ impl Sweep {
         ensures positions { OnOk result (length self.new.ending ≡ 8 * length net.now.elements) }
         ensures swept { OnOk result (IsSwept net.now.wires (position + 1) self.new) }
     {
-        // The net's own fact: it is a circuit.
-        let _count = net.len();
         match wire_from(net, position) {
             Some(wire) => self.begin(wire),
             None => self.end(position),

@@ -1,14 +1,12 @@
 -- What the code replies.
-use Rattle.std.specs.Prelude.{◌≡◌, ℕ, List, [], length, Option, Result, Ok, Err, IfOk, OnErr, refl}
-use Rattle.std.proofs.Common.{sym, ap, subst, append-nil, ◌∙◌}
+use Rattle.std.specs.Prelude.{◌≡◌, ℕ, List, [], length, Option, refl}
+use Rattle.std.proofs.Common.{sym, ap, subst, ◌∙◌}
 use Rattle.bn_circuits.specs.Circuits.{Circuit, IsConfig}
 use Rattle.bn_element.specs.Rotary.{rotary}
 use Rattle.bn_element.specs.Tables.{Table}
 use Rattle.bn_circuits.proofs.RunLemmas.{run-IsConfig, back-IsConfig}
 use Rattle.bn_circuits.specs.declared.place.Place.{Place}
 use Rattle.bn_net.specs.RotaryNets.{rotary_circuit}
-use Rattle.bn_lists.specs.declared.memory.NoMemory.{NoMemory as WantOfMemory}
-use Rattle.bn_net.proofs.WalkLemmas.{hears-nothing}
 use Rattle.bn_net.specs.Watching.{Hears}
 use Rattle.bn_netlist.proofs.NetLemmas.{map-replicate}
 use Rattle.bn_netlist_laws.specs.Spelling as what
@@ -19,10 +17,8 @@ use Rattle.bn_packed.specs.Running.{run_along, places_along}
 use Rattle.bn_packed.specs.declared.direction.Direction.{Direction}
 use Rattle.bn_packed.specs.declared.direction.Direction.TheVariants.{Forward, Backward}
 use Rattle.bn_reply.specs.Ends.{TextEnds}
-use Rattle.bn_reply.specs.Replying.{IsReplied, IsUnfinished, told_some}
 use Rattle.bn_reply.specs.Streams.{AnswerEnds}
 use Rattle.bn_reply.proofs.ReplyLemmas.{text_ends}
-use Rattle.bn_reply.specs.declared.reply.Reply.{Reply}
 use Rattle.bn_reply.specs.declared.status.Status.{Status}
 use Rattle.bn_reply.specs.declared.status.Status.TheVariants.{Done, Text}
 use Rattle.bn_netlist_laws.specs.Faults.{Fault, IsFirstFault, malformed, too_many, no_element, out_of_order, end_wired}
@@ -41,8 +37,8 @@ use Rattle.bn_netlist.specs.declared.line_refusal.NetlistRefusal.TheVariants.{St
 use Rattle.bn_netlist.specs.declared.line_refusal.NetlistRefusal.TheVariants.{Spelling, NoMemory}
 use Rattle.bn_reply_circuits.specs.Refused.{IsRefused}
 use Rattle.bn_reply_circuits.specs.Walking.{WalkReplies, walked_places, walked_to}
-use Rattle.bn_reply_circuits_laws.specs.CircuitReply.{misspelled, walked}
-use Rattle.bn_reply_circuits_laws.specs.MigrateReply.{MigrateReplies, faulty, migrated}
+use Rattle.bn_reply_circuits_laws.specs.CircuitReply.{walked}
+use Rattle.bn_reply_circuits_laws.specs.MigrateReply.{MigrateReplies, migrated}
 
 -- ---- a text that is refused
 

@@ -4,10 +4,9 @@ use Rattle.std.proofs.Common.{arith, sym, ap, subst, ◌∙◌}
 use Rattle.bn_net.specs.declared.net.TheConstants.{MOST_ELEMENTS}
 use Rattle.bn_reply.specs.declared.status.Status.TheVariants as statuses
 use Rattle.bn_farm.specs.declared.event.Event.{Event}
-use Rattle.bn_farm.specs.Farms.{FarmBoard, IsFarm, Tick, elements_together, farm_after, play, ticks}
+use Rattle.bn_farm.specs.Farms.{FarmBoard, Tick, elements_together, farm_after, play, ticks}
 use Rattle.bn_farm.specs.Undo.{moving, undoing}
 use Rattle.bn_farm.specs.FarmTexts.{AreEventsOf, IsFarmText, SpellBoards, parts_text, schedule_text}
-use Rattle.bn_farm.proofs.FarmLemmas.{farms_stay}
 use Rattle.bn_farm.proofs.LawfulLemmas.{length_play}
 use Rattle.bn_farm.proofs.PartLemmas.{spelled_farm, text_of_parts}
 use Rattle.bn_farm.proofs.TextLawLemmas.{elements_play, farms-read_back, undoing-schedule}

@@ -1,30 +1,23 @@
 -- The reply of the command `mirror`, of which there is one and only one.
-use Rattle.std.specs.Prelude.{◌≡◌, ◌⊎◌, ℕ, List, [], Result, Ok, Err, IfOk, refl}
+use Rattle.std.specs.Prelude.{◌≡◌, ◌⊎◌, ℕ, List, [], refl}
 use Rattle.std.proofs.Common.{inl, inr, sym, subst, ◌∙◌}
-use Rattle.bn_lists.specs.declared.memory.NoMemory.{NoMemory as WantOfMemory}
 use Rattle.bn_circuits.specs.Situations.{counted, situation_of}
 use Rattle.bn_circuits.specs.declared.place.Place.{Place}
 use Rattle.bn_netlist_laws.specs.Faults.{Fault, IsFirstFault}
-use Rattle.bn_netlist_laws.specs.Spelling.{Spelling, AreSame, IsTextOf, Spelled, moved_to}
+use Rattle.bn_netlist_laws.specs.Spelling.{Spelling, AreSame, Spelled, moved_to}
 use Rattle.bn_netlist_laws.specs.declared.version.Version.{Version}
 use Rattle.bn_netlist_laws.proofs.DecideLemmas.{texts-spell-or-fault}
 use Rattle.bn_netlist_laws.proofs.EntryLemmas.{has-text, same-have-one-text}
 use Rattle.bn_netlist_laws.proofs.TextLemmas.{spellings-agree, faulty_texts-spell-nothing}
 use Rattle.bn_netlist_laws.proofs.VersionLemmas.{spelled-alike}
-use Rattle.bn_netlist.specs.NetText.{IsTextRefusal}
-use Rattle.bn_netlist.specs.declared.line_refusal.NetlistRefusal.{NetlistRefusal}
-use Rattle.bn_mirror.specs.Mirror.{IsMirror}
 use Rattle.bn_mirror.proofs.AdmittedLemmas.{mirrors-admitted, mirrors-there, mirrors-one, mirrors-turn_back}
 use Rattle.bn_reply.specs.Answering.{HasAnswer, IsOneAnswer}
 use Rattle.bn_reply.specs.Codes.{IsReplyStatus}
 use Rattle.bn_reply.proofs.SettledLemmas.{agree}
-use Rattle.bn_reply.specs.declared.reply.Reply.{Reply}
 use Rattle.bn_reply.specs.declared.status.Status.{Status}
 use Rattle.bn_reply.specs.declared.status.Status.TheVariants.{Done, Text}
 use Rattle.bn_reply_circuits_laws.specs.CircuitReply.{Misspelled, fault_text}
 use Rattle.bn_reply_circuits_laws.proofs.SettledLemmas.{one_fault}
-use Rattle.bn_reply_circuits.specs.Refused.{IsRefused}
-use Rattle.bn_reply_circuits.proofs.CircuitLemmas.{wrong}
 use Rattle.bn_reply_circuits.specs.MirrorReply.{Mirrored, MirrorIsSettled, MirrorReplies, mirrored, misspelled}
 use Rattle.bn_reply_circuits.specs.MirrorLaws.{IsUncounted, MirroredTextsComeBack}
 

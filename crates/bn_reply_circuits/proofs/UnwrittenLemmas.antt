@@ -1,8 +1,7 @@
 -- An answer that isn't written yet, as a reply and as it is given.
-use Rattle.std.specs.Prelude.{◌≡◌, ℕ, List, [], Option, Result, Ok, Err, IfOk, refl}
+use Rattle.std.specs.Prelude.{◌≡◌, ℕ, List, [], Option, Ok, refl}
 use Rattle.std.proofs.Common.{sym, subst}
 use Rattle.bn_circuits.specs.declared.place.Place.{Place}
-use Rattle.bn_lists.specs.declared.memory.NoMemory.{NoMemory as WantOfMemory}
 use Rattle.bn_net.proofs.WalkLemmas.{hears-nothing}
 use Rattle.bn_netlist_laws.specs.Spelling.{Spelling, Admits, IsTextOf}
 use Rattle.bn_netlist_laws.specs.declared.version.Version.{Version}

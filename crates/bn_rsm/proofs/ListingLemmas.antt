@@ -1,7 +1,8 @@
 -- Lists of the moves of a reversible table: they are sound, and they go where the table goes.
 use Rattle.std.proofs.Common.{◌≡◌, inl, inr, ℕ, List, [], ◌∷◌, ◌++◌, map, Option, Some, None, refl, sym, ap, subst, ◌∙◌}
 use Rattle.std.proofs.lemmas.Option.{some_pair_parts}
-use Rattle.bn_element.specs.Tables.{Table, IsReversible, go_by, back_by, AreOneToOne, AreWithin, pair_tells}
+use Rattle.bn_element.specs.Tables.{Table, IsReversible, go_by, back_by, AreOneToOne, AreWithin}
+use Rattle.bn_element.specs.Reversible.{pair_tells}
 use Rattle.bn_rsm.specs.Machines.{move_of, AreSound}
 use Rattle.bn_rsm.specs.declared.rsm_move.RsmMove.{RsmMove}
 use Rattle.bn_lists.specs.Lists.{Has}

@@ -6,7 +6,8 @@ use Rattle.std.specs.Coded.{Coded, Coded-set, coded_ℕ, coded_list, coded_optio
 use base.Stored.{coded_via}
 use mathlib.Core.HLevel.{is_prop→PathP}
 use Rattle.std.proofs.Common.{ap}
-use Rattle.bn_element.specs.Tables.{Table, IsReversible, Move, AreOneToOne, AreWithin, table_by, table_by-IsReversible}
+use Rattle.bn_element.specs.Tables.{Table, IsReversible, Move, AreOneToOne, AreWithin, table_by}
+use Rattle.bn_element.specs.Reversible.{table_by-IsReversible}
 use Rattle.bn_rsm.specs.declared.rsm_move.RsmMove.{RsmMove}
 
 -- the move in the words of tables

@@ -1,7 +1,6 @@
 -- All names are in their forms.
 use Rattle.std.proofs.Common.{◌≡◌, subst, sym}
 use Rattle.std.proofs.lemmas.Result.{IfOk-weaker}
-use Rattle.bn_machine.specs.Machine.{IsMachine}
 use Rattle.bn_quad.specs.Names.{Naming}
 use Rattle.bn_qtable.specs.Named.{HasNames}
 use Rattle.bn_qtable.specs.Rows.{IsTable, table_of}
@@ -14,10 +13,10 @@ returns-clause-forms c =
     let s = c.args.translated.now in
     let P : Naming → Type 0 = HasNames s.machine in
     let named : HasNames s.machine (translation_names t s) = c.translations_have_names.ensures t s
-    (subst IsMachine c.machine.ensures.value c.quints-quints.ensures.valid) c.machine.ensures.valid
-    c.machine.ensures.fits c.requires in
+    c.all_names.ensures.machine c.all_names.ensures.table
+    c.all_names.ensures.fits c.requires in
     IfOk-weaker c.all_names.result (λ (n : Naming). n ≡ translation_names t s) P (λ n e. subst P (sym e) named)
-    c.all_names.ensures
+    c.all_names.ensures.names
 
 pub returns-clause-table : goal.returns-clause-table
 returns-clause-table c =
@@ -25,7 +24,7 @@ returns-clause-table c =
     let s = c.args.translated.now in
     let P : Naming → Type 0 = λ n. IsTable (table_of s.machine n) in
     let written : IsTable (table_of s.machine (translation_names t s)) =
-    c.translations_are_tables.ensures t s (subst IsMachine c.machine.ensures.value c.quints-quints.ensures.valid)
-    c.machine.ensures.valid c.machine.ensures.fits c.requires in
+    c.translations_are_tables.ensures t s c.all_names.ensures.machine
+    c.all_names.ensures.table c.all_names.ensures.fits c.requires in
     IfOk-weaker c.all_names.result (λ (n : Naming). n ≡ translation_names t s) P (λ n e. subst P (sym e) written)
-    c.all_names.ensures
+    c.all_names.ensures.names

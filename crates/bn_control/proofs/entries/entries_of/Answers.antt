@@ -33,8 +33,8 @@ loop-index-preserved c =
     c.quads-quad-items.ensures.value c.loop-index.index _ c.loop-index-test.true c.in_ok-commands.commands.items
     c.in_ok-commands.ensures c.loop-index.entries.items c.index.result.now c.index.ensures c.loop-index.invariant
 
-pub returns : goal.returns
-returns c =
+pub returns-clause-entries : goal.returns-clause-entries
+returns-clause-entries c =
     let count : length c.quads-quad-items.result.now ≡ length c.args.machine.now.rules =
     ap length c.quads-quad-items.ensures.value ∙ length-map c.args.machine.now.rules quad_of in
     let past = c.loop-index-test.false in

@@ -14,19 +14,19 @@ returns-then-count-eq0-clause-walked g c =
 
 pub cross_back-requires-clause-element : goal.cross_back-requires-clause-element
 cross_back-requires-clause-element g c =
-    (left_below c.args.wiring.now.net c.len-elements.ensures.circuit c.args.bars.now c.args.bars.now c.args.signal.place
+    (left_below c.args.wiring.now.net c.requires.circuit c.args.bars.now c.args.bars.now c.args.signal.place
     c.in-Left.element c.in-Left.line 0
     c.args.signal.steps c.requires.good c.in-Left.is).0
 
 pub cross_back-requires-clause-line : goal.cross_back-requires-clause-line
 cross_back-requires-clause-line g c =
-    (left_below c.args.wiring.now.net c.len-elements.ensures.circuit c.args.bars.now c.args.bars.now c.args.signal.place
+    (left_below c.args.wiring.now.net c.requires.circuit c.args.bars.now c.args.bars.now c.args.signal.place
     c.in-Left.element c.in-Left.line 0
     c.args.signal.steps c.requires.good c.in-Left.is).1
 
 pub walk_back_from-requires-in-Left-clause-good : goal.walk_back_from-requires-in-Left-clause-good
 walk_back_from-requires-in-Left-clause-good g c =
-    left-IsConfig c.args.wiring.now.net c.len-elements.ensures.circuit c.args.bars.now c.cross_back.new.self
+    left-IsConfig c.args.wiring.now.net c.requires.circuit c.args.bars.now c.cross_back.new.self
     c.args.signal.place c.in-Left.element
     c.in-Left.line c.cross_back.result c.args.signal.steps
     c.requires.good c.in-Left.is c.cross_back.ensures some
@@ -36,7 +36,7 @@ walk_back_from-requires-in-Left-clause-good g c =
 
 pub returns-else-count-eq0-clause-walked : goal.returns-else-count-eq0-clause-walked
 returns-else-count-eq0-clause-walked g c =
-    left_walked_back c.args.wiring.now.net c.len-elements.ensures.circuit c.args.bars.now c.cross_back.new.self
+    left_walked_back c.args.wiring.now.net c.requires.circuit c.args.bars.now c.cross_back.new.self
     c.args.signal.place c.in-Left.element
     c.in-Left.line c.cross_back.result c.args.signal.steps
     c.requires.good c.in-Left.is

@@ -1,4 +1,4 @@
-use Rattle.std.proofs.Common.{length, map, Some, ◌≡◌, ◌<◌, ◌^◌, ◌-◌, ◌∷◌, [], refl, sym, ap, subst, ◌∙◌, arith, rules}
+use Rattle.std.proofs.Common.{length, map, Some, ◌≡◌, ◌-◌, ◌∷◌, [], refl, sym, ap, subst, ◌∙◌, arith}
 use Rattle.bn_circuits.specs.Circuits.{source}
 use Rattle.bn_circuits.specs.Stepping.{line_before}
 use Rattle.bn_circuits.specs.declared.place.Place.TheVariants.{Enter}
@@ -17,12 +17,12 @@ use Rattle.bn_packed.proofs.walk.walk_back_from.Goals as goal
 
 pub cell_at-cell-requires : goal.cell_at-cell-requires
 cell_at-cell-requires g c =
-    let low = entered_low c.args.wiring.now.net c.len-elements.ensures.circuit c.loop-made.bars c.loop-made.number
+    let low = entered_low c.args.wiring.now.net c.behind-behind.ensures.circuit c.loop-made.bars c.loop-made.number
     (c.args.steps - c.loop-made.made)
     c.loop-made.invariant.good in
     cell_within (behind c.args.wiring.now.net.wires) g.C.Cell.tells c.behind-behind.result.now c.loop-made.number
     (length c.args.wiring.now.net.elements)
-    c.behind-behind.ensures low
+    c.behind-behind.ensures.ends low
 
 pub loop-made-init : goal.loop-made-init
 loop-made-init g c =
@@ -41,76 +41,76 @@ pub line_of-requires : goal.line_of-requires
 line_of-requires g c =
     let within = (input_below c.args.wiring.now.net.elements (line_of c.loop-made.number)
     c.loop-made.invariant.good.place).element in
-    let few : length c.args.wiring.now.net.elements < 2 ^ 32 = search rules in
+    let few = c.behind-behind.ensures.few in
     omega arith
 
 pub line_of-requires-2 : goal.line_of-requires-2
 line_of-requires-2 g c =
     let within = (input_below c.args.wiring.now.net.elements (line_of c.loop-made.number)
     c.loop-made.invariant.good.place).element in
-    let few : length c.args.wiring.now.net.elements < 2 ^ 32 = search rules in
+    let few = c.behind-behind.ensures.few in
     omega arith
 
 pub returns-then-is_loose-clause-ended : goal.returns-then-is_loose-clause-ended
 returns-then-is_loose-clause-ended g c fewer =
-    let low = entered_low c.args.wiring.now.net c.len-elements.ensures.circuit c.loop-made.bars c.loop-made.number
+    let low = entered_low c.args.wiring.now.net c.behind-behind.ensures.circuit c.loop-made.bars c.loop-made.number
     (c.args.steps - c.loop-made.made)
     c.loop-made.invariant.good in
     let read = cell_read (behind c.args.wiring.now.net.wires) (map g.C.Cell.tells c.behind-behind.result.now)
     c.loop-made.number
-    (length c.args.wiring.now.net.elements) (g.C.Cell.tells c.cell_at-cell.result) c.behind-behind.ensures low
+    (length c.args.wiring.now.net.elements) (g.C.Cell.tells c.cell_at-cell.result) c.behind-behind.ensures.ends low
     c.cell_at-cell.ensures in
     let none = behind_none (source c.args.wiring.now.net.wires (line_of c.loop-made.number))
     (sym read ∙ none_read (g.C.Cell.tells c.cell_at-cell.result) (sym c.is_loose.ensures ∙ c.if-is_loose.true)) in
-    first_by_line (rotary_circuit c.args.wiring.now.net) c.len-elements.ensures.circuit
+    first_by_line (rotary_circuit c.args.wiring.now.net) c.behind-behind.ensures.circuit
     (config_at c.loop-made.bars c.entering.result (c.args.steps - c.loop-made.made))
     (ap (line_before c.args.wiring.now.net.wires) (c.entering.ensures
     ∙ entered_by c.line_of.result c.loop-made.number c.line_of.ensures) ∙ none)
 
 pub cross_back_at-number-requires : goal.cross_back_at-number-requires
 cross_back_at-number-requires g c =
-    let low = entered_low c.args.wiring.now.net c.len-elements.ensures.circuit c.loop-made.bars c.loop-made.number
+    let low = entered_low c.args.wiring.now.net c.behind-behind.ensures.circuit c.loop-made.bars c.loop-made.number
     (c.args.steps - c.loop-made.made)
     c.loop-made.invariant.good in
     let read = cell_read (behind c.args.wiring.now.net.wires) (map g.C.Cell.tells c.behind-behind.result.now)
     c.loop-made.number
-    (length c.args.wiring.now.net.elements) (g.C.Cell.tells c.cell_at-cell.result) c.behind-behind.ensures low
+    (length c.args.wiring.now.net.elements) (g.C.Cell.tells c.cell_at-cell.result) c.behind-behind.ensures.ends low
     c.cell_at-cell.ensures in
     let came : Some (line_of c.number-from.result) ≡ behind c.args.wiring.now.net.wires (line_of c.loop-made.number) =
     sym c.number-from.ensures ∙ read in
-    fed_low c.args.wiring.now.net c.len-elements.ensures.circuit c.loop-made.bars c.loop-made.number
+    fed_low c.args.wiring.now.net c.behind-behind.ensures.circuit c.loop-made.bars c.loop-made.number
     c.number-from.result (c.args.steps - c.loop-made.made)
     c.loop-made.invariant.good came
 
 pub line_of-requires-in-loop-made : goal.line_of-requires-in-loop-made
 line_of-requires-in-loop-made g c =
-    let low = entered_low c.args.wiring.now.net c.len-elements.ensures.circuit c.loop-made.bars c.loop-made.number
+    let low = entered_low c.args.wiring.now.net c.behind-behind.ensures.circuit c.loop-made.bars c.loop-made.number
     (c.args.steps - c.loop-made.made)
     c.loop-made.invariant.good in
     let read = cell_read (behind c.args.wiring.now.net.wires) (map g.C.Cell.tells c.behind-behind.result.now)
     c.loop-made.number
-    (length c.args.wiring.now.net.elements) (g.C.Cell.tells c.cell_at-cell.result) c.behind-behind.ensures low
+    (length c.args.wiring.now.net.elements) (g.C.Cell.tells c.cell_at-cell.result) c.behind-behind.ensures.ends low
     c.cell_at-cell.ensures in
     let came : Some (line_of c.number-from.result) ≡ behind c.args.wiring.now.net.wires (line_of c.loop-made.number) =
     sym c.number-from.ensures ∙ read in
-    let within = back_low c.args.wiring.now.net c.len-elements.ensures.circuit c.loop-made.bars
+    let within = back_low c.args.wiring.now.net c.behind-behind.ensures.circuit c.loop-made.bars
     c.cross_back_at-number.new.self c.loop-made.number c.number-from.result
     c.cross_back_at-number.result came c.cross_back_at-number.ensures in
-    let few : length c.args.wiring.now.net.elements < 2 ^ 32 = search rules in
+    let few = c.behind-behind.ensures.few in
     omega arith
 
 pub loop-made-preserved : goal.loop-made-preserved
 loop-made-preserved g c =
-    let low = entered_low c.args.wiring.now.net c.len-elements.ensures.circuit c.loop-made.bars c.loop-made.number
+    let low = entered_low c.args.wiring.now.net c.behind-behind.ensures.circuit c.loop-made.bars c.loop-made.number
     (c.args.steps - c.loop-made.made)
     c.loop-made.invariant.good in
     let read = cell_read (behind c.args.wiring.now.net.wires) (map g.C.Cell.tells c.behind-behind.result.now)
     c.loop-made.number
-    (length c.args.wiring.now.net.elements) (g.C.Cell.tells c.cell_at-cell.result) c.behind-behind.ensures low
+    (length c.args.wiring.now.net.elements) (g.C.Cell.tells c.cell_at-cell.result) c.behind-behind.ensures.ends low
     c.cell_at-cell.ensures in
     let came : Some (line_of c.number-from.result) ≡ behind c.args.wiring.now.net.wires (line_of c.loop-made.number) =
     sym c.number-from.ensures ∙ read in
-    number_back_more c.args.wiring.now.net c.len-elements.ensures.circuit
+    number_back_more c.args.wiring.now.net c.behind-behind.ensures.circuit
     (config_at c.args.bars.now (Enter c.args.to.element c.args.to.line) c.args.steps)
     c.loop-made.bars c.cross_back_at-number.new.self c.loop-made.number c.number-from.result
     c.cross_back_at-number.result c.args.steps c.loop-made.made

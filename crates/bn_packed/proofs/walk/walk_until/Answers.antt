@@ -1,5 +1,5 @@
-use Rattle.std.proofs.Common.{length, map, Some, None, ◌≡◌, ◌<◌, ◌^◌, ◌+◌, ◌-◌, ◌∷◌, [], refl, sym, ap, subst, ◌∙◌}
-use Rattle.std.proofs.Common.{arith, not, rules}
+use Rattle.std.proofs.Common.{length, map, Some, None, ◌≡◌, ◌+◌, ◌-◌, ◌∷◌, [], refl, sym, ap, subst, ◌∙◌}
+use Rattle.std.proofs.Common.{arith, not}
 use Rattle.bn_circuits.specs.Circuits.{place_at}
 use Rattle.bn_circuits.specs.declared.line.Line.{Line}
 use Rattle.bn_circuits.specs.declared.place.Place.TheVariants.{Left}
@@ -58,7 +58,7 @@ cross-from-requires g c =
 low_from : (g : Over) (c : goal.After-cross-from g) → IsLineBelow (length c.args.wiring.now.net.elements)
     (line_of c.cross-from.result)
 low_from g c =
-    crossed_low c.args.wiring.now.net c.len-elements.ensures.circuit c.loop-made.bars c.cross-from.new.self
+    crossed_low c.args.wiring.now.net c.ahead-ahead.ensures.circuit c.loop-made.bars c.cross-from.new.self
     c.loop-made.number c.cross-from.result
     (c.args.signal.steps + c.loop-made.made) c.loop-made.invariant.way.walked.good c.cross-from.ensures
 
@@ -66,23 +66,23 @@ pub cell_at-cell-requires : goal.cell_at-cell-requires
 cell_at-cell-requires g c =
     cell_within (ahead c.args.wiring.now.net.wires) g.C.Cell.tells c.ahead-ahead.result.now c.cross-from.result
     (length c.args.wiring.now.net.elements)
-    c.ahead-ahead.ensures (low_from g c)
+    c.ahead-ahead.ensures.ends (low_from g c)
 
 pub returns-then-is_loose-clause-walked : goal.returns-then-is_loose-clause-walked
 returns-then-is_loose-clause-walked g c =
-    let low = crossed_low c.args.wiring.now.net c.len-elements.ensures.circuit c.loop-made.bars c.cross-from.new.self
+    let low = crossed_low c.args.wiring.now.net c.ahead-ahead.ensures.circuit c.loop-made.bars c.cross-from.new.self
     c.loop-made.number c.cross-from.result
     (c.args.signal.steps + c.loop-made.made) c.loop-made.invariant.way.walked.good c.cross-from.ensures in
     let read = cell_read (ahead c.args.wiring.now.net.wires) (map g.C.Cell.tells c.ahead-ahead.result.now)
     c.cross-from.result
-    (length c.args.wiring.now.net.elements) (g.C.Cell.tells c.cell_at-cell.result) c.ahead-ahead.ensures low
+    (length c.args.wiring.now.net.elements) (g.C.Cell.tells c.cell_at-cell.result) c.ahead-ahead.ensures.ends low
     c.cell_at-cell.ensures in
     let none : None ≡ ahead c.args.wiring.now.net.wires (line_of c.cross-from.result) =
     sym (none_read (g.C.Cell.tells c.cell_at-cell.result) (sym c.is_loose.ensures ∙ c.if-is_loose.true)) ∙ read in
     let then = c.left_by-place.ensures ∙ ap (λ (l : Line). Left l.element l.line)
     (c.opposite.ensures ∙ ap opposite c.line_of.ensures)
     ∙ ap (λ o. place_at o (opposite (line_of c.cross-from.result))) none in
-    (number_more c.args.wiring.now.net c.len-elements.ensures.circuit (g.S.Stop.stops c.args.stop.now)
+    (number_more c.args.wiring.now.net c.ahead-ahead.ensures.circuit (g.S.Stop.stops c.args.stop.now)
     (config_at c.args.bars.now c.args.signal.place c.args.signal.steps) c.loop-made.bars c.cross-from.new.self
     c.left_by-place.result c.loop-made.number c.cross-from.result
     c.args.signal.steps c.loop-made.made _ _ (g.W.Watch.told c.args.watch.now) (g.W.Watch.told c.loop-made.watch)
@@ -92,19 +92,19 @@ returns-then-is_loose-clause-walked g c =
 
 pub returns-then-is_loose-clause-between : goal.returns-then-is_loose-clause-between
 returns-then-is_loose-clause-between g c =
-    let low = crossed_low c.args.wiring.now.net c.len-elements.ensures.circuit c.loop-made.bars c.cross-from.new.self
+    let low = crossed_low c.args.wiring.now.net c.ahead-ahead.ensures.circuit c.loop-made.bars c.cross-from.new.self
     c.loop-made.number c.cross-from.result
     (c.args.signal.steps + c.loop-made.made) c.loop-made.invariant.way.walked.good c.cross-from.ensures in
     let read = cell_read (ahead c.args.wiring.now.net.wires) (map g.C.Cell.tells c.ahead-ahead.result.now)
     c.cross-from.result
-    (length c.args.wiring.now.net.elements) (g.C.Cell.tells c.cell_at-cell.result) c.ahead-ahead.ensures low
+    (length c.args.wiring.now.net.elements) (g.C.Cell.tells c.cell_at-cell.result) c.ahead-ahead.ensures.ends low
     c.cell_at-cell.ensures in
     let none : None ≡ ahead c.args.wiring.now.net.wires (line_of c.cross-from.result) =
     sym (none_read (g.C.Cell.tells c.cell_at-cell.result) (sym c.is_loose.ensures ∙ c.if-is_loose.true)) ∙ read in
     let then = c.left_by-place.ensures ∙ ap (λ (l : Line). Left l.element l.line)
     (c.opposite.ensures ∙ ap opposite c.line_of.ensures)
     ∙ ap (λ o. place_at o (opposite (line_of c.cross-from.result))) none in
-    (number_more c.args.wiring.now.net c.len-elements.ensures.circuit (g.S.Stop.stops c.args.stop.now)
+    (number_more c.args.wiring.now.net c.ahead-ahead.ensures.circuit (g.S.Stop.stops c.args.stop.now)
     (config_at c.args.bars.now c.args.signal.place c.args.signal.steps) c.loop-made.bars c.cross-from.new.self
     c.left_by-place.result c.loop-made.number c.cross-from.result
     c.args.signal.steps c.loop-made.made _ _ (g.W.Watch.told c.args.watch.now) (g.W.Watch.told c.loop-made.watch)
@@ -114,28 +114,28 @@ returns-then-is_loose-clause-between g c =
 
 pub line_of-at_line-requires : goal.line_of-at_line-requires
 line_of-at_line-requires g c =
-    let low = crossed_low c.args.wiring.now.net c.len-elements.ensures.circuit c.loop-made.bars c.cross-from.new.self
+    let low = crossed_low c.args.wiring.now.net c.ahead-ahead.ensures.circuit c.loop-made.bars c.cross-from.new.self
     c.loop-made.number c.cross-from.result
     (c.args.signal.steps + c.loop-made.made) c.loop-made.invariant.way.walked.good c.cross-from.ensures in
     let read = cell_read (ahead c.args.wiring.now.net.wires) (map g.C.Cell.tells c.ahead-ahead.result.now)
     c.cross-from.result
-    (length c.args.wiring.now.net.elements) (g.C.Cell.tells c.cell_at-cell.result) c.ahead-ahead.ensures low
+    (length c.args.wiring.now.net.elements) (g.C.Cell.tells c.cell_at-cell.result) c.ahead-ahead.ensures.ends low
     c.cell_at-cell.ensures in
     let leads : Some (line_of c.number-to.result) ≡ ahead c.args.wiring.now.net.wires (line_of c.cross-from.result) =
     sym c.number-to.ensures ∙ read in
-    let within = led_low c.args.wiring.now.net c.len-elements.ensures.circuit c.cross-from.result c.number-to.result
+    let within = led_low c.args.wiring.now.net c.ahead-ahead.ensures.circuit c.cross-from.result c.number-to.result
     leads in
-    let few : length c.args.wiring.now.net.elements < 2 ^ 32 = search rules in
+    let few = c.ahead-ahead.ensures.few in
     omega arith
 
 pub returns-then-stops-clause-walked : goal.returns-then-stops-clause-walked
 returns-then-stops-clause-walked g c =
-    let low = crossed_low c.args.wiring.now.net c.len-elements.ensures.circuit c.loop-made.bars c.cross-from.new.self
+    let low = crossed_low c.args.wiring.now.net c.ahead-ahead.ensures.circuit c.loop-made.bars c.cross-from.new.self
     c.loop-made.number c.cross-from.result
     (c.args.signal.steps + c.loop-made.made) c.loop-made.invariant.way.walked.good c.cross-from.ensures in
     let read = cell_read (ahead c.args.wiring.now.net.wires) (map g.C.Cell.tells c.ahead-ahead.result.now)
     c.cross-from.result
-    (length c.args.wiring.now.net.elements) (g.C.Cell.tells c.cell_at-cell.result) c.ahead-ahead.ensures low
+    (length c.args.wiring.now.net.elements) (g.C.Cell.tells c.cell_at-cell.result) c.ahead-ahead.ensures.ends low
     c.cell_at-cell.ensures in
     let leads : Some (line_of c.number-to.result) ≡ ahead c.args.wiring.now.net.wires (line_of c.cross-from.result) =
     sym c.number-to.ensures ∙ read in
@@ -145,7 +145,7 @@ returns-then-stops-clause-walked g c =
     let hears = subst (λ p. Hears (g.W.Watch.told c.loop-made.watch) (p ∷ [])
     (g.W.Watch.told c.enter-in-loop-made.new.self))
     (c.entering.ensures ∙ sym c.entering-then-stops.ensures) c.enter-in-loop-made.ensures in
-    (number_more c.args.wiring.now.net c.len-elements.ensures.circuit (g.S.Stop.stops c.args.stop.now)
+    (number_more c.args.wiring.now.net c.ahead-ahead.ensures.circuit (g.S.Stop.stops c.args.stop.now)
     (config_at c.args.bars.now c.args.signal.place c.args.signal.steps) c.loop-made.bars c.cross-from.new.self
     c.entering-then-stops.result c.loop-made.number c.cross-from.result
     c.args.signal.steps c.loop-made.made _ _ (g.W.Watch.told c.args.watch.now) (g.W.Watch.told c.loop-made.watch)
@@ -155,12 +155,12 @@ returns-then-stops-clause-walked g c =
 
 pub returns-then-stops-clause-between : goal.returns-then-stops-clause-between
 returns-then-stops-clause-between g c =
-    let low = crossed_low c.args.wiring.now.net c.len-elements.ensures.circuit c.loop-made.bars c.cross-from.new.self
+    let low = crossed_low c.args.wiring.now.net c.ahead-ahead.ensures.circuit c.loop-made.bars c.cross-from.new.self
     c.loop-made.number c.cross-from.result
     (c.args.signal.steps + c.loop-made.made) c.loop-made.invariant.way.walked.good c.cross-from.ensures in
     let read = cell_read (ahead c.args.wiring.now.net.wires) (map g.C.Cell.tells c.ahead-ahead.result.now)
     c.cross-from.result
-    (length c.args.wiring.now.net.elements) (g.C.Cell.tells c.cell_at-cell.result) c.ahead-ahead.ensures low
+    (length c.args.wiring.now.net.elements) (g.C.Cell.tells c.cell_at-cell.result) c.ahead-ahead.ensures.ends low
     c.cell_at-cell.ensures in
     let leads : Some (line_of c.number-to.result) ≡ ahead c.args.wiring.now.net.wires (line_of c.cross-from.result) =
     sym c.number-to.ensures ∙ read in
@@ -170,7 +170,7 @@ returns-then-stops-clause-between g c =
     let hears = subst (λ p. Hears (g.W.Watch.told c.loop-made.watch) (p ∷ [])
     (g.W.Watch.told c.enter-in-loop-made.new.self))
     (c.entering.ensures ∙ sym c.entering-then-stops.ensures) c.enter-in-loop-made.ensures in
-    (number_more c.args.wiring.now.net c.len-elements.ensures.circuit (g.S.Stop.stops c.args.stop.now)
+    (number_more c.args.wiring.now.net c.ahead-ahead.ensures.circuit (g.S.Stop.stops c.args.stop.now)
     (config_at c.args.bars.now c.args.signal.place c.args.signal.steps) c.loop-made.bars c.cross-from.new.self
     c.entering-then-stops.result c.loop-made.number c.cross-from.result
     c.args.signal.steps c.loop-made.made _ _ (g.W.Watch.told c.args.watch.now) (g.W.Watch.told c.loop-made.watch)
@@ -180,12 +180,12 @@ returns-then-stops-clause-between g c =
 
 pub loop-made-preserved : goal.loop-made-preserved
 loop-made-preserved g c =
-    let low = crossed_low c.args.wiring.now.net c.len-elements.ensures.circuit c.loop-made.bars c.cross-from.new.self
+    let low = crossed_low c.args.wiring.now.net c.ahead-ahead.ensures.circuit c.loop-made.bars c.cross-from.new.self
     c.loop-made.number c.cross-from.result
     (c.args.signal.steps + c.loop-made.made) c.loop-made.invariant.way.walked.good c.cross-from.ensures in
     let read = cell_read (ahead c.args.wiring.now.net.wires) (map g.C.Cell.tells c.ahead-ahead.result.now)
     c.cross-from.result
-    (length c.args.wiring.now.net.elements) (g.C.Cell.tells c.cell_at-cell.result) c.ahead-ahead.ensures low
+    (length c.args.wiring.now.net.elements) (g.C.Cell.tells c.cell_at-cell.result) c.ahead-ahead.ensures.ends low
     c.cell_at-cell.ensures in
     let leads : Some (line_of c.number-to.result) ≡ ahead c.args.wiring.now.net.wires (line_of c.cross-from.result) =
     sym c.number-to.ensures ∙ read in
@@ -194,7 +194,7 @@ loop-made-preserved g c =
     (g.W.Watch.told c.enter-in-loop-made.new.self))
     (c.entering.ensures ∙ here) c.enter-in-loop-made.ensures in
     record {
-      way = (number_more c.args.wiring.now.net c.len-elements.ensures.circuit (g.S.Stop.stops c.args.stop.now)
+      way = (number_more c.args.wiring.now.net c.ahead-ahead.ensures.circuit (g.S.Stop.stops c.args.stop.now)
           (config_at c.args.bars.now c.args.signal.place c.args.signal.steps) c.loop-made.bars c.cross-from.new.self
           (entered c.number-to.result) c.loop-made.number c.cross-from.result
           c.args.signal.steps c.loop-made.made _ _ (g.W.Watch.told c.args.watch.now) (g.W.Watch.told c.loop-made.watch)
@@ -210,7 +210,7 @@ pub line_of-requires-2 : goal.line_of-requires-2
 line_of-requires-2 g c =
     let within = (input_below c.args.wiring.now.net.elements (line_of c.loop-made.number)
     c.loop-made.invariant.way.walked.good.place).element in
-    let few : length c.args.wiring.now.net.elements < 2 ^ 32 = search rules in
+    let few = c.ahead-ahead.ensures.few in
     omega arith
 
 pub line_number-number-requires : goal.line_number-number-requires
@@ -221,8 +221,8 @@ line_number-number-requires g c =
 
 pub line_of-requires : goal.line_of-requires
 line_of-requires g c =
-    let within = (crossed_low c.args.wiring.now.net c.len-elements.ensures.circuit c.loop-made.bars
+    let within = (crossed_low c.args.wiring.now.net c.ahead-ahead.ensures.circuit c.loop-made.bars
     c.cross-from.new.self c.loop-made.number c.cross-from.result
     (c.args.signal.steps + c.loop-made.made) c.loop-made.invariant.way.walked.good c.cross-from.ensures).element in
-    let few : length c.args.wiring.now.net.elements < 2 ^ 32 = search rules in
+    let few = c.ahead-ahead.ensures.few in
     omega arith

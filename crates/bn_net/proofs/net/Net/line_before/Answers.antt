@@ -5,7 +5,7 @@ use Rattle.bn_net.proofs.WireLemmas.{view-IsCircuit}
 use Rattle.bn_net.proofs.net.Net.line_before.Goals as goal
 
 pub returns-in-Enter-clause-output : goal.returns-in-Enter-clause-output
-returns-in-Enter-clause-output g c = by_source c.source.result c.source.ensures
+returns-in-Enter-clause-output g c = by_source c.source.result c.source.ensures.line
   where
     by_source : (o : Option Line) → o ≡ source c.args.self.now.wires
         (record { element = c.in-Enter.element; line = c.in-Enter.line })

@@ -6,9 +6,9 @@ target-requires c = output_there c.args.self.now.net.now.elements c.args.from.el
     c.requires.element c.requires.line
 
 pub returns-clause-inside : goal.returns-clause-inside
-returns-clause-inside c = end_inside c.args.self.now.net.now c.args.from c.target.result c.len-elements.ensures.circuit
-    c.target.ensures
+returns-clause-inside c = end_inside c.args.self.now.net.now c.args.from c.target.result c.target.ensures.circuit
+    c.target.ensures.line
 
 pub returns-clause-low : goal.returns-clause-low
-returns-clause-low c = end_low c.args.self.now.net.now c.args.from c.target.result c.len-elements.ensures.circuit
-    c.target.ensures
+returns-clause-low c = end_low c.args.self.now.net.now c.args.from c.target.result c.target.ensures.circuit
+    c.target.ensures.line

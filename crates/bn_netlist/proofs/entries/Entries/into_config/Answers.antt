@@ -1,10 +1,7 @@
-use Rattle.std.proofs.Common.{◌≡◌, ◌+◌, ◌∙◌, length, ap, arith, refl, sym, subst}
-use Rattle.bn_circuits.specs.Circuits.{IsConfig}
+use Rattle.std.proofs.Common.{◌≡◌, ◌+◌, ◌∙◌, length, ap, arith, refl, sym}
 use Rattle.bn_circuits.specs.declared.config.Config.{Config}
 use Rattle.bn_netlist_laws.specs.Faults.{wires_after}
-use Rattle.bn_netlist_laws.specs.Spelling.{circuit_of}
 use Rattle.bn_netlist.specs.Finishing.{finds_column}
-use Rattle.bn_netlist.specs.WireSpelling.{spelling_by}
 use Rattle.bn_netlist.proofs.FinishLemmas.{whole-AreDrawn, whole-IsConfig, counts, made_said}
 use Rattle.bn_netlist.proofs.FinishLemmas.{first_out, made_spelled}
 use Rattle.bn_netlist.proofs.PackedLemmas.{drawn_config}

@@ -2,7 +2,6 @@ use Rattle.std.proofs.Common.{◌≡◌, arith, sym}
 use Rattle.std.proofs.lemmas.Result.{IfErr-weaker}
 use Rattle.bn_netlist.proofs.NetLemmas.{on_ok}
 use Rattle.bn_netlist_laws.specs.Reading.{named_target}
-use Rattle.bn_netlist_laws.specs.Sentences.{Element, Column}
 use Rattle.bn_netlist_laws.specs.Sentences as sentences
 use Rattle.bn_netlist_laws.proofs.FitLemmas.{targets_nameable}
 use Rattle.bn_netlist_laws.proofs.DecideLemmas.{sides_of-takes}

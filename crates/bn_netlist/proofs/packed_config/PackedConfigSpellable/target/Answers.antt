@@ -7,8 +7,8 @@ target-requires c = output_there c.args.self.now.packed.net.elements c.args.from
 
 pub returns-clause-inside : goal.returns-clause-inside
 returns-clause-inside c = end_inside c.args.self.now.packed.net c.args.from c.target.result
-    c.len-elements.ensures.circuit c.target.ensures
+    c.target.ensures.circuit c.target.ensures.line
 
 pub returns-clause-low : goal.returns-clause-low
-returns-clause-low c = end_low c.args.self.now.packed.net c.args.from c.target.result c.len-elements.ensures.circuit
-    c.target.ensures
+returns-clause-low c = end_low c.args.self.now.packed.net c.args.from c.target.result c.target.ensures.circuit
+    c.target.ensures.line

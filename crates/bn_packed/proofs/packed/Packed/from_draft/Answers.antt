@@ -14,8 +14,11 @@ of-requires c =
 pub invariant_of-result : goal.invariant_of-result
 invariant_of-result c =
     let ws = c.requires.drawn.0 in
-    packed-IsConfig (net_in c.in_ok-wires.wires) (net_in c.in_ok-wires.wires) c.args.config c.in_ok-bars.bars
-    c.as_slice.result.now
-    (c.requires.good ws (net_in c.in_ok-wires.wires) c.requires.drawn.1
-    (c.in_ok-wires.ensures.net ws c.requires.drawn.1)) refl c.in_ok-bars.ensures
-    c.as_slice.ensures
+    record {
+      circuit = c.in_ok-wires.ensures.circuit;
+      good = packed-IsConfig (net_in c.in_ok-wires.wires) (net_in c.in_ok-wires.wires) c.args.config
+          c.in_ok-bars.bars c.as_slice.result.now
+          (c.requires.good ws (net_in c.in_ok-wires.wires) c.requires.drawn.1
+          (c.in_ok-wires.ensures.net ws c.requires.drawn.1)) refl c.in_ok-bars.ensures
+          c.as_slice.ensures;
+    }

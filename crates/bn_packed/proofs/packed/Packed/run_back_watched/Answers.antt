@@ -19,7 +19,7 @@ all g c =
     c.self.inside.signal.steps c.walk_back-self-inside.result.steps c.args.e c.min-count.result
     (g.W.Watch.told c.args.watch.now)
     (g.W.Watch.told c.walk_back-self-inside.new.watch)
-    c.self.view_is c.len-elements.ensures.circuit c.min-count.ensures c.walk_back-self-inside.ensures.backward
+    c.self.view_is c.self.invariant.circuit c.min-count.ensures c.walk_back-self-inside.ensures.backward
     c.walk_back-self-inside.ensures.limit
     c.walk_back-self-inside.ensures.walked c.walk_back-self-inside.ensures.ended
 

@@ -10,7 +10,7 @@ returns-clause-ran g c =
     c.walk_until-self-inside.new.bars
     c.self.inside.signal.place c.walk_until-self-inside.result.place c.self.inside.signal.steps
     c.walk_until-self-inside.result.steps c.args.e
-    (clock - c.self.inside.signal.steps) c.min-count.result c.self.invariant.in_time refl c.min-count.ensures
+    (clock - c.self.inside.signal.steps) c.min-count.result c.self.invariant.good.in_time refl c.min-count.ensures
     c.walk_until-self-inside.ensures.forward
     c.walk_until-self-inside.ensures.limit (g.W.Watch.told c.args.watch.now)
     (g.W.Watch.told c.walk_until-self-inside.new.watch) c.self.view_is

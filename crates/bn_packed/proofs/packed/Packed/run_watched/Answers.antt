@@ -19,7 +19,7 @@ all g c =
     c.self.inside.signal.steps c.walk-self-inside.result.steps c.args.e c.min-count.result
     (g.W.Watch.told c.args.watch.now)
     (g.W.Watch.told c.walk-self-inside.new.watch)
-    c.self.view_is c.len-elements.ensures.circuit c.self.invariant.in_time c.min-count.ensures
+    c.self.view_is c.self.invariant.circuit c.self.invariant.good.in_time c.min-count.ensures
     c.walk-self-inside.ensures.forward
     c.walk-self-inside.ensures.limit
     c.walk-self-inside.ensures.walked c.walk-self-inside.ensures.ended
