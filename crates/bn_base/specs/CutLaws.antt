@@ -1,4 +1,4 @@
--- What the laws say on inputs of two parts, each the contract of a function with an empty body.
+-- What the laws say on inputs of two parts, each a field of `Laws`.
 use Rattle.std.specs.Prelude.{◌≡◌, ℕ, List, ◌⊎◌}
 use Rattle.bn_base.specs.Cuts.{IsCut, IsUncut}
 

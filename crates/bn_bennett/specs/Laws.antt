@@ -1,4 +1,4 @@
--- What the laws of this crate say, each the contract of a function with an empty body.
+-- What the laws of this crate say, each a field of `Laws`.
 use Rattle.std.specs.Prelude.{◌≡◌, ◌↔◌, ℕ, ◌+◌, ◌*◌, ◌≤◌, List, length}
 use Rattle.bn_machine.specs.Machine.{IsMachine, Program}
 use Rattle.bn_machine.specs.Outcome.{Limits, Outcome, HasOutcome, Outside}

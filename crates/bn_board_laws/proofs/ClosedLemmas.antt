@@ -30,7 +30,7 @@ use Rattle.bn_board_spec.proofs.ReadingLemmas.{boards-read}
 use Rattle.bn_board_spec.proofs.SameLemmas.{flats-one}
 use Rattle.bn_board_laws.specs.ExistenceLaws.{FlatsAreThere}
 use Rattle.bn_board_laws.proofs.FlatLemmas.{flats-there}
-use Rattle.bn_board_laws.specs.HeadlineLaws.{BoardsRunToTheirExit}
+use Rattle.bn_board_laws.specs.RunLaws.{BoardsRunToTheirExit}
 use Rattle.bn_board_laws.specs.Moments.{BoardsHaveMoments}
 use Rattle.bn_board_laws.proofs.ExitedLemmas.{boards-run}
 use Rattle.bn_board_laws.proofs.WholeLemmas.{boards-moments}

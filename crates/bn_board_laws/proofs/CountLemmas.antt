@@ -12,7 +12,7 @@ use Rattle.bn_rsm.specs.RunCosts.{run_cost}
 use Rattle.bn_board_spec.specs.Flats.{situation_at_start}
 use Rattle.bn_circuits.proofs.SituationLemmas.{turns_once}
 use Rattle.bn_circuits.proofs.RunPartLemmas.{runs_split}
-use Rattle.bn_board_laws.specs.HeadlineLaws.{CostsAreOne}
+use Rattle.bn_board_laws.specs.RunLaws.{CostsAreOne}
 
 -- two runs of a network to an end have as many moves
 moves_once : (k : Circuit) (m n : ℕ) (s x y : Situation) → Reaches (Turns k) m s x → IsAtEnd k x

@@ -45,7 +45,7 @@ use Rattle.bn_board_spec.specs.Layouts.{symbol_count_at, spelled_by, spelled_con
 use Rattle.bn_board_spec.specs.Flats.{Flat, machine_of, IsFlatOf, IsAccepted, situation_at_start, flat_start}
 use Rattle.bn_board_spec.proofs.AgreedLemmas.{some_cells}
 use Rattle.bn_board_spec.specs.Costs.{bound_of}
-use Rattle.bn_board_laws.specs.Headline.{IsExitFor, EndsWith, RunsToExit, SpellsRestored, SpellsEnd}
+use Rattle.bn_board_laws.specs.Runs.{IsExitFor, EndsWith, RunsToExit, SpellsRestored, SpellsEnd}
 use Rattle.bn_board_laws.proofs.StuckLemmas.{HoldsStuck, holds_stuck}
 use Rattle.bn_board_laws.proofs.NoRoomLemmas.{leaves, stuck_ends}
 use Rattle.bn_board_spec.specs.Readings.{elements_in, BoardReads}
@@ -55,7 +55,7 @@ use Rattle.bn_board_spec.specs.LayoutLaws.{BoardsRead}
 use Rattle.bn_board_laws.proofs.JourneyedLemmas.{networks-end}
 use Rattle.bn_board_laws.proofs.TravelledLemmas.{boards-come}
 use Rattle.bn_board_spec.proofs.SameLemmas.{number_once}
-use Rattle.bn_board_laws.specs.HeadlineLaws.{BoardsRunToTheirExit}
+use Rattle.bn_board_laws.specs.RunLaws.{BoardsRunToTheirExit}
 use Rattle.bn_circuits.proofs.RunPartLemmas.{steps_of_run}
 use Rattle.bn_network_laws.proofs.LastLemmas.{one_tape}
 use Rattle.bn_net.specs.declared.net.TheConstants.{MOST_ELEMENTS}

@@ -19,7 +19,7 @@ use Rattle.bn_network_laws.specs.NetworkLaws.{FirstMoment, NextMoment, LastMomen
 use Rattle.bn_network_laws.specs.Ends.{IsEarlyStop}
 use Rattle.bn_board_spec.specs.Flats.{Flat, machine_of, IsFlatOf, IsAccepted}
 use Rattle.bn_board_laws.specs.Journeys.{Strides, NetworkComes, NetworkEndsAs}
-use Rattle.bn_board_laws.specs.HeadlineLaws.{NetworksEndAlike}
+use Rattle.bn_board_laws.specs.RunLaws.{NetworksEndAlike}
 use Rattle.bn_board_spec.proofs.LetterLemmas.{some_symbols, tape_letters}
 use Rattle.bn_network_laws.proofs.LastLemmas.{stopped_at_one}
 

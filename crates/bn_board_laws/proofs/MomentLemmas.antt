@@ -33,7 +33,7 @@ use Rattle.bn_board_laws.proofs.MarkLemmas.{one_mark}
 use Rattle.bn_board_laws.proofs.CellLemmas.{cells_lie}
 use Rattle.bn_board_laws.proofs.HeadLemmas.{heads_at_start, heads_along, one_head}
 use Rattle.bn_board_laws.proofs.SumLemmas.{told_moment, has_moment}
-use Rattle.bn_board_laws.specs.HeadlineLaws.{NetworksEndAlike}
+use Rattle.bn_board_laws.specs.RunLaws.{NetworksEndAlike}
 
 -- a run of the network, whatever the outcome is
 some_run : (f : Flat) (test : Situation → Bool) (i : ℕ) (o : Outcome) → NetworkEndsAs f test i o

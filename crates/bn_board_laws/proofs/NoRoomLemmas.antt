@@ -22,8 +22,8 @@ use Rattle.bn_bennett_laws.proofs.ListLemmas.{each_rule}
 use Rattle.bn_bennett_laws.proofs.RenamedLemmas.{nth_renamed}
 use Rattle.bn_bennett_laws.proofs.Tapes.{history-blank, scanned-word}
 use Rattle.bn_network_laws.specs.Ends.{left_at, read_by, shift_by, taken_from}
-use Rattle.bn_board_laws.specs.Headline as ends
-use Rattle.bn_board_laws.specs.Headline.{AreEndTapes, HasEndTapes}
+use Rattle.bn_board_laws.specs.Runs as ends
+use Rattle.bn_board_laws.specs.Runs.{AreEndTapes, HasEndTapes}
 use Rattle.bn_board_laws.proofs.StuckLemmas.{HoldsStuck}
 
 -- ---- where the machine is stuck

@@ -19,9 +19,9 @@ use Rattle.bn_board_spec.specs.declared.exit.Exit.TheVariants as exit
 use Rattle.bn_board_spec.specs.Layouts.{Layout, moments, IsExit, IsNamedExit, named, unnamed, inside, ends, stuck}
 use Rattle.bn_board_spec.specs.Layouts.{right, left}
 use Rattle.bn_board_spec.specs.Flats.{Flat, flat_start}
-use Rattle.bn_board_laws.specs.Headline.{IsExitFor, RunsToExit, SpellsRestored}
-use Rattle.bn_board_laws.specs.HeadlineLaws.{BoardsRunToTheirExit, ExitsTellOutcomes, BoardsLeaveByOutcomes, EndsInTime}
-use Rattle.bn_board_laws.specs.HeadlineLaws.{BoardsEndInTime, BoardsAreRestored, BoardsRunBack}
+use Rattle.bn_board_laws.specs.Runs.{IsExitFor, RunsToExit, SpellsRestored}
+use Rattle.bn_board_laws.specs.RunLaws.{BoardsRunToTheirExit, ExitsTellOutcomes, BoardsLeaveByOutcomes, EndsInTime}
+use Rattle.bn_board_laws.specs.RunLaws.{BoardsEndInTime, BoardsAreRestored, BoardsRunBack}
 use Rattle.bn_board_spec.specs.LayoutLaws.{ExitsAreOne}
 use Rattle.bn_circuits.proofs.RunPartLemmas.{runs_split, runs-undo_in_part, steps_of_run}
 use Rattle.bn_circuits.proofs.RunLemmas.{run_stops, Reaches-run}

@@ -19,7 +19,7 @@ use Rattle.bn_network.specs.Controls.{control_lines}
 use Rattle.bn_board_spec.specs.Boards.{base}
 use Rattle.bn_board_spec.specs.Flats.{Flat, machine_of, situation_at_start, flat_start}
 use Rattle.bn_board_spec.specs.Costs.{HasCost}
-use Rattle.bn_board_laws.specs.Headline.{RunsToExit}
+use Rattle.bn_board_laws.specs.Runs.{RunsToExit}
 use Rattle.bn_board_laws.proofs.ExitedLemmas.{boards-run}
 use Rattle.bn_board_laws.proofs.JourneyedLemmas.{networks-end}
 use Rattle.bn_board_spec.proofs.ReadingLemmas.{boards-read, flat-Readings, own_flat, own_accepted}

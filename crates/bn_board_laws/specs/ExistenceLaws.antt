@@ -1,5 +1,4 @@
--- What the laws of this crate say, each the contract of a function that only names the laws below it: each machine has
--- a network, a layout and a board.
+-- What the laws of this crate say, each a field of `Laws`: each machine has a network, a layout and a board.
 use Rattle.std.specs.Prelude.{◌≡◌, ℕ, List}
 use Rattle.bn_circuits.specs.Circuits.{Circuit}
 use Rattle.bn_machine.specs.Machine.{Program}

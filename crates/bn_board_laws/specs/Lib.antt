@@ -1,7 +1,7 @@
 pub mod ExistenceLaws
-pub mod Headline
+pub mod Runs
 pub mod Journeys
 pub mod Moments
-pub mod HeadlineLaws
+pub mod RunLaws
 pub mod NetworkReads
 pub mod NetworkMoments

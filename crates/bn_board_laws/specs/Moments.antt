@@ -22,7 +22,7 @@ use Rattle.bn_board_spec.specs.Layouts.{moment_at, moments, symbol_count_at, cel
 use Rattle.bn_board_spec.specs.BoardMoments.{IsBoardMoment, HasOneState}
 use Rattle.bn_board_spec.specs.Flats.{Flat, machine_of, IsFlatOf, IsAccepted, situation_at_start, flat_start}
 use Rattle.bn_board_spec.specs.Costs.{HasCost}
-use Rattle.bn_board_laws.specs.Headline.{BoardSpells}
+use Rattle.bn_board_laws.specs.Runs.{BoardSpells}
 
 -- where the board stands for a situation of the network, its moment is the network's
 abbrev pub MomentsAreTold : Type 0

@@ -1,8 +1,8 @@
 //! The headline over the definitions, law by law. Each function only names the laws below it; its contract is the law.
-ghost use Rattle.bn_board_laws.specs.HeadlineLaws.{BoardsAreRestored, BoardsEndInTime, BoardsLeaveByOutcomes};
-ghost use Rattle.bn_board_laws.specs.HeadlineLaws.{BoardsRunBack};
-ghost use Rattle.bn_board_laws.specs.HeadlineLaws.{BoardsRunToTheirExit, CostsAreOne, ExitsTellOutcomes};
-ghost use Rattle.bn_board_laws.specs.HeadlineLaws.{NetworksEndAlike};
+ghost use Rattle.bn_board_laws.specs.RunLaws.{BoardsAreRestored, BoardsEndInTime, BoardsLeaveByOutcomes};
+ghost use Rattle.bn_board_laws.specs.RunLaws.{BoardsRunBack};
+ghost use Rattle.bn_board_laws.specs.RunLaws.{BoardsRunToTheirExit, CostsAreOne, ExitsTellOutcomes};
+ghost use Rattle.bn_board_laws.specs.RunLaws.{NetworksEndAlike};
 ghost use Rattle.bn_board_laws.specs.Moments.{BoardsHaveMoments, MomentsAreByMarks, MomentsAreTold};
 
 use bn_bennett::{

@@ -1,4 +1,4 @@
--- What the laws of this crate say, each the contract of a function with an empty body.
+-- What the laws of this crate say, each a field of `Laws`.
 use Rattle.std.specs.Prelude.{◌≡◌, ℕ, ◌+◌, ◌<◌, ◌≤◌, Bool, true, Some, slice_get, ◌⊎◌}
 use Rattle.bn_lists.specs.Runs.{Reaches, Passes}
 use Rattle.bn_element.specs.Tables.{Table}

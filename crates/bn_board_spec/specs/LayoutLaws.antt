@@ -1,4 +1,4 @@
--- What the laws of this crate say, each the contract of a function that only names the laws below it.
+-- What the laws of this crate say, each a field of `Laws`.
 use Rattle.std.specs.Prelude.{◌≡◌, ◌≢◌, ℕ, ◌*◌, ◌<◌, Bool, List, slice_get}
 use Rattle.bn_circuits.specs.Alike.{AreAlike}
 use Rattle.bn_circuits.specs.Situations.{Situation}

@@ -24,8 +24,8 @@ use Rattle.bn_network_laws.proofs.LastLemmas.{last-moment}
 use Rattle.bn_network_laws.proofs.NextLemmas.{next-moment, told}
 use Rattle.bn_network_laws.proofs.OrderLemmas.{occurs_entry}
 use Rattle.bn_network_laws.proofs.RangeLemmas.{rule_range}
-use Rattle.bn_quad_stops.proofs.ThereLemmas.{stops-there}
-use Rattle.bn_quad_stops.proofs.StoppedLemmas.{networks-stop}
+use Rattle.bn_network_laws.proofs.ThereLemmas.{stops-there}
+use Rattle.bn_network_laws.proofs.StoppedLemmas.{networks-stop}
 use Rattle.bn_build_laws.specs.Builds.{Build, IsBuild, IsStart, build_elements}
 use Rattle.bn_build_laws.specs.Runs.{EndsInWindow}
 use Rattle.bn_build_laws.proofs.NetworkRuns.{EndsSo, early, at_read, Strides, NetworkComes}

@@ -28,7 +28,7 @@ use Rattle.bn_build_laws.proofs.ComingLemmas.{first_moment, comes}
 use Rattle.bn_build_laws.proofs.TravelLemmas.{MomentsAgree, leg, come_by}
 use Rattle.bn_build_laws.proofs.RunLemmas.{none_low, run_of}
 use Rattle.bn_build_laws.proofs.StuckLemmas.{stops_later, stops_once}
-use Rattle.bn_inverse_laws.proofs.DecidedLemmas.{goes_or_ends}
+use Rattle.bn_erase_laws.proofs.InverseDecidedLemmas.{goes_or_ends}
 
 module _ (f : Build) (is : IsBuild f) (test : Situation → Bool) (tells : TellsMoments f.machine f.names f.network test)
     (modules : AreModules f.network) (agree : MomentsAgree f test) where

@@ -7,7 +7,7 @@ use Rattle.bn_quad.specs.Quadruples.{Configuration, Quadruples, QuadruplesRunTo,
 use Rattle.bn_quad.specs.Quadruples.{inverse_of}
 use Rattle.bn_bennett_laws.specs.Stages.{rooms_of}
 use Rattle.bn_bennett_laws.specs.Steps.{EndsAt, Finished}
-use Rattle.bn_inverse_laws.proofs.InverseLemmas.{inverses-end}
+use Rattle.bn_erase_laws.proofs.InverseLemmas.{inverses-end}
 use Rattle.bn_network.specs.Controls.{symbol_count}
 use Rattle.bn_network.specs.Networks.{ShowsTapes}
 use Rattle.bn_board_laws.proofs.NetworkReadLemmas.{networks-read}

@@ -18,7 +18,7 @@ use Rattle.bn_network.specs.Controls.{lines_before}
 use Rattle.bn_network.specs.Networks.{cells_in, first_cell}
 use Rattle.bn_network_laws.specs.Ends.{EndsBy, by_end, by_stop, by_right, by_left, tape_of, left_at, taken_from}
 use Rattle.bn_network_laws.proofs.ShownLemmas.{all_cells}
-use Rattle.bn_quad_stops.specs.Stops.{IsStuckAtRead, StopsAtRead, taken_to}
+use Rattle.bn_network_laws.specs.Stops.{IsStuckAtRead, StopsAtRead, taken_to}
 use Rattle.bn_board_spec.specs.Boards.{StandsFor, IsLoose}
 use Rattle.bn_board_spec.specs.declared.exit.Exit.TheVariants as exit
 use Rattle.bn_board_spec.specs.Layouts.{IsNamedExit, ends, stuck, right, left, cell_output, symbol_count_at, lines_at}

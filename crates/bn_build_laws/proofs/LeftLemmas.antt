@@ -25,7 +25,7 @@ use Rattle.bn_build_laws.proofs.PieceLemmas.{Strode, agree, begun, counted_as, s
 use Rattle.bn_build_laws.proofs.TravelLemmas.{leg}
 use Rattle.bn_build_laws.proofs.RunLemmas.{none_low, stuck_at}
 use Rattle.bn_build_laws.proofs.StuckLemmas.{stops_later, stops_once}
-use Rattle.bn_inverse_laws.proofs.DecidedLemmas.{goes_or_ends}
+use Rattle.bn_erase_laws.proofs.InverseDecidedLemmas.{goes_or_ends}
 
 module _ (f : Build) (is : IsBuild f) (test : Situation → Bool)
     (reads : NetworkReads f.machine f.limits [] f.names f.network f.layout test) (room : 48 * build_elements f ≤ clock)

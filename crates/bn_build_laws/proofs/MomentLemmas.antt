@@ -30,7 +30,7 @@ use Rattle.bn_build_laws.proofs.PieceLemmas.{Strode, agree, begun, counted_as, s
 use Rattle.bn_build_laws.proofs.TravelLemmas.{Leg, leg, one_of}
 use Rattle.bn_build_laws.proofs.RunLemmas.{none_low}
 use Rattle.bn_build_laws.proofs.StuckLemmas.{no_longer, rest_of}
-use Rattle.bn_inverse_laws.proofs.DecidedLemmas.{goes_or_ends}
+use Rattle.bn_erase_laws.proofs.InverseDecidedLemmas.{goes_or_ends}
 
 -- ---- counts
 

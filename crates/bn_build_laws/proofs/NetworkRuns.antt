@@ -9,7 +9,7 @@ use Rattle.bn_rsm.specs.RunCosts.{run_cost}
 use Rattle.bn_network.specs.Controls.{IsNotLeft}
 use Rattle.bn_network.specs.Moments.{IsMomentOf, Travels}
 use Rattle.bn_network_laws.specs.Ends.{EndsBy}
-use Rattle.bn_quad_stops.specs.Stops.{IsStuckAtRead, StopsAtRead}
+use Rattle.bn_network_laws.specs.Stops.{IsStuckAtRead, StopsAtRead}
 use Rattle.bn_build_laws.specs.Builds.{Build, build_elements}
 
 -- the network's end: as the machine's own exit says, where a stop is in a state that no quadruple leaves; or at the

@@ -10,7 +10,7 @@ use Rattle.bn_bennett_laws.specs.Steps.{Exit, Finished, Stopped, Leaving}
 use Rattle.bn_realise.specs.Banks.{column_at}
 use Rattle.bn_network.specs.Controls.{Reads, IsNotLeft, lines_before}
 use Rattle.bn_network_laws.specs.Ends.{tape_of, left_at, taken_from}
-use Rattle.bn_quad_stops.specs.Stops.{IsStuckAtRead, symbols_before, taken_to}
+use Rattle.bn_network_laws.specs.Stops.{IsStuckAtRead, symbols_before, taken_to}
 use Rattle.bn_board_spec.specs.declared.exit.Exit.TheVariants as exit
 use Rattle.bn_board_spec.specs.Layouts.{IsNamedExit, lines_at, spelled_by, spelled_config}
 use Rattle.bn_build_laws.specs.Builds.{Build}

@@ -18,3 +18,7 @@ pub mod MadeLemmas
 pub mod CountLemmas
 pub mod ShownLemmas
 pub mod OpenLemmas
+pub mod NameKeyLemmas
+pub mod NameShownLemmas
+pub mod StateNameLemmas
+mod NameTieLemmas

@@ -7,3 +7,5 @@ pub mod Ordered
 pub mod Numbered
 pub mod Made
 pub mod Shown
+pub mod Names
+pub mod Listed

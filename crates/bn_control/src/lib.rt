@@ -1,4 +1,5 @@
-//! The finite control of a uniform machine of quadruples, as a reversible sequential machine.
+//! The finite control of a uniform machine of quadruples, as a reversible sequential machine; and the names of its
+//! states, in their order: what each column of the control's bank on a board stands for.
 #![tactic(auto)]
 
 mod command;
@@ -6,9 +7,13 @@ mod count;
 mod draft;
 mod entries;
 mod finite;
+mod gather;
 mod line;
 mod make;
+mod name;
+mod name_order;
 mod named;
+mod names;
 mod numbered;
 mod order;
 mod shown;
@@ -20,3 +25,5 @@ pub use bn_rsm::NoMemory;
 pub use count::state_count;
 pub use finite::Control;
 pub use make::{MOST_QUADRUPLES, MOST_STATES, control, most_quadruples_are_stated};
+pub use name::{StateName, Symbols};
+pub use names::state_names;

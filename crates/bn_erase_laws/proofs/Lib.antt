@@ -14,3 +14,5 @@ pub mod MappedLemmas
 pub mod TurnedLemmas
 pub mod ExchangedLemmas
 pub mod JoinedLemmas
+pub mod InverseLemmas
+pub mod InverseDecidedLemmas

@@ -3,3 +3,4 @@ pub mod Outcome
 pub mod ErasingLaws
 pub mod Lists
 pub mod ListLaws
+pub mod InverseLaws

@@ -1,5 +1,5 @@
--- What the laws of this crate say, each the contract of a function with an empty body. The states are names; the lemmas
--- below them are for states of any kind.
+-- What the laws of this crate say, each a field of `Laws`. The states are names; the lemmas below them are for states
+-- of any kind.
 use Rattle.std.specs.Prelude.{◌≡◌, ◌↔◌, ℕ, ◌+◌, List, ◌++◌}
 use Rattle.bn_lists.specs.Runs.{Reaches}
 use Rattle.bn_quad.specs.Quadruples.{Rule, Configuration, turned_list, Rooms, AreAllowed}

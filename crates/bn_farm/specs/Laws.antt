@@ -1,4 +1,4 @@
--- What the laws of this crate say, each the contract of a function with an empty body.
+-- What the laws of this crate say, each a field of `Laws`.
 use Rattle.std.specs.Prelude.{◌≡◌, ℕ, List, length, Some, slice_get, option_map, true, false}
 use Rattle.bn_lists.specs.Runs.{Reaches}
 use Rattle.bn_circuits.specs.Circuits.{Goes}

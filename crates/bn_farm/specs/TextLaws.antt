@@ -1,4 +1,4 @@
--- What the laws of this crate say of texts, each the contract of a function with an empty body.
+-- What the laws of this crate say of texts, each a field of `Laws`.
 use Rattle.std.specs.Prelude.{◌≡◌, ℕ, List, length}
 use Rattle.bn_farm.specs.declared.event.Event.{Event}
 use Rattle.bn_farm.specs.Farms.{FarmBoard, IsFarm, farm_after}

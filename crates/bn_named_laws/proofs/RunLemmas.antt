@@ -16,7 +16,7 @@ use Rattle.bn_bennett_laws.specs.Steps.{Steps, IsOutside, IsFirstOutside, Exit, 
 use Rattle.bn_bennett_laws.specs.Steps.{leaves}
 use Rattle.bn_bennett_laws.proofs.StageStepLemmas.{steps_once, ends_there, ends_once}
 use Rattle.bn_erase_laws.proofs.MappedLemmas.{nth_mapped, mapped_before}
-use Rattle.bn_inverse_laws.proofs.DecidedLemmas.{goes_or_ends}
+use Rattle.bn_erase_laws.proofs.InverseDecidedLemmas.{goes_or_ends}
 use Rattle.bn_named_laws.specs.Renumbering.{Renumbering, IsRenumbering, KeepsSymbolsApart, IsConfigurationOf}
 use Rattle.bn_named_laws.specs.Renumbering.{HasSymbolsBelow, IsRenumbered, IsRenumberedTape, renumbered_deed}
 use Rattle.bn_named_laws.specs.Renumbering.{renumbered_rule}

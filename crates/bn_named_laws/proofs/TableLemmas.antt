@@ -24,7 +24,7 @@ use Rattle.bn_erase.specs.Made.{Erasure, IsErasing}
 use Rattle.bn_erase.specs.Printable.{ArePrintable}
 use Rattle.bn_erase.specs.Printed.{names_of, erasing_text}
 use Rattle.bn_erase.proofs.PrintedLemmas.{printable, erasing_text-once, erasings_have_names}
-use Rattle.bn_inverse_laws.proofs.InverseLemmas.{inverses-uniform, inverse_machine, tests_passed}
+use Rattle.bn_erase_laws.proofs.InverseLemmas.{inverses-uniform, inverse_machine, tests_passed}
 use Rattle.bn_named_laws.specs.Renumbering.{AreTableNames}
 use Rattle.bn_named_laws.specs.Laws.{ErasingsAreTables, InversesAreTables}
 use Rattle.bn_named_laws.proofs.BackLemmas.{written-back, first_of, firsts_once, as_many, table_machine}

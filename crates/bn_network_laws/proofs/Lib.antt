@@ -23,3 +23,6 @@ pub mod CarriedLemmas
 pub mod TapeShownLemmas
 pub mod CommandLemmas
 pub mod StartsLemmas
+pub mod ThereLemmas
+pub mod AdmitLemmas
+pub mod StoppedLemmas

@@ -2,3 +2,5 @@ pub mod Ends
 pub mod NetworkLaws
 pub mod Commands
 pub mod Departures
+pub mod Stops
+pub mod StopLaws

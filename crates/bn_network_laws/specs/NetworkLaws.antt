@@ -1,5 +1,5 @@
--- What the laws of this crate say, each the contract of a function that only names the laws below it: from moment to
--- moment, for every uniform machine and every window.
+-- What the laws of this crate say, each a field of `Laws`: from moment to moment, for every uniform machine and every
+-- window.
 use Rattle.std.specs.Prelude.{◌≡◌, ℕ, ◌+◌, ◌*◌, ◌<◌, ◌≤◌, Bool, true, false, List, length, All, ◌⊎◌}
 use Rattle.bn_circuits.specs.Circuits.{Circuit}
 use Rattle.bn_machine.specs.Tape.{word_tape, blank_tape}

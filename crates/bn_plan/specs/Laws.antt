@@ -1,4 +1,4 @@
--- What the laws of this crate say, each the contract of a function with an empty body.
+-- What the laws of this crate say, each a field of `Laws`.
 use Rattle.std.specs.Prelude.{◌≡◌, ◌↔◌, ℕ, ◌<◌, ◌≤◌, List, [], ◌∷◌, length, map}
 use Rattle.bn_circuits.specs.Circuits.{Circuit, IsCircuit, inputs_of, outputs_of}
 use Rattle.bn_circuits.specs.declared.line.Wire.{Wire}

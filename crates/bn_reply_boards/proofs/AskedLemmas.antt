@@ -13,8 +13,8 @@ use Rattle.bn_reply.specs.TableReply.{unfit}
 use Rattle.bn_reply.specs.declared.reply.Reply.{Reply}
 use Rattle.bn_reply.specs.declared.status.Status.{Status}
 use Rattle.bn_reply.specs.declared.status.Status.TheVariants as statuses
-use Rattle.bn_reply_boards_laws.specs.Windows.{BoardReplies, WindowReplies, board, large, long}
-use Rattle.bn_reply_boards_laws.proofs.WindowLemmas.{given_accepted}
+use Rattle.bn_reply_laws.specs.Windows.{BoardReplies, WindowReplies, board, large, long}
+use Rattle.bn_reply_laws.proofs.WindowLemmas.{given_accepted}
 use Rattle.bn_reply_boards.specs.Opened.{IsBoardAsked, IsLarge, IsMachineAsked}
 
 -- ---- a machine and a word

@@ -6,7 +6,7 @@ use Rattle.std.proofs.lemmas.List.{drop_all, take_all, length-drop}
 use Rattle.bn_table.specs.Rows.{Named}
 use Rattle.bn_board_spec.specs.declared.spelled.SpelledTape.{SpelledTape}
 use Rattle.bn_reply.specs.Lines.{position_text}
-use Rattle.bn_reply_boards_laws.specs.RunText.{cells_text, head_text, output_from, symbol_text}
+use Rattle.bn_reply_laws.specs.RunText.{cells_text, head_text, output_from, symbol_text}
 use Rattle.bn_reply_boards.specs.Shown.{HasLetter, HaveLetters, bounds_text}
 
 -- what is left of a list behind one more

@@ -27,10 +27,10 @@ use Rattle.bn_board_spec.specs.Layouts.{Layout}
 use Rattle.bn_board.specs.Flattened.{Flattened, IsBoardKept}
 use Rattle.bn_reply.specs.declared.status.Status.{Status}
 use Rattle.bn_reply.specs.declared.status.Status.TheVariants as statuses
-use Rattle.bn_reply_boards_laws.specs.Laws.{BoardsAreSpelled}
-use Rattle.bn_reply_boards_laws.specs.CompileReply.{CompileReplies, IsBoardSpelling, IsFlatSpelling, TellsBoard}
-use Rattle.bn_reply_boards_laws.specs.CompileReply.{TellsStart}
-use Rattle.bn_reply_boards_laws.proofs.SpelledLemmas.{board_targets, entered_once, left_once}
+use Rattle.bn_reply_laws.specs.Laws.{BoardsAreSpelled}
+use Rattle.bn_reply_laws.specs.CompileReply.{CompileReplies, IsBoardSpelling, IsFlatSpelling, TellsBoard}
+use Rattle.bn_reply_laws.specs.CompileReply.{TellsStart}
+use Rattle.bn_reply_laws.proofs.SpelledLemmas.{board_targets, entered_once, left_once}
 use Rattle.bn_reply_boards.specs.Opened.{IsBoardAsked, IsBoardFor, IsMade, spelling_of_board}
 use Rattle.bn_reply_circuits.specs.Unwritten.{WillReply}
 use Rattle.bn_reply_circuits.specs.declared.unwritten.Unwritten.TheVariants.{Packed}

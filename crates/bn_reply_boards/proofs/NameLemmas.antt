@@ -22,13 +22,13 @@ use Rattle.bn_board_spec.specs.declared.exit.Exit.TheVariants as exit
 use Rattle.bn_board_spec.specs.LayoutLaws.{ExitsAreOne}
 use Rattle.bn_board_spec.specs.Layouts.{IsExit, IsNamedExit, inside, named, unnamed}
 use Rattle.bn_board_spec.specs.Flats.{Flat, IsAccepted, IsFlatOf, flat_start}
-use Rattle.bn_board_laws.specs.Headline.{IsExitFor, RunsToExit}
-use Rattle.bn_board_laws.specs.HeadlineLaws.{BoardsRunToTheirExit}
+use Rattle.bn_board_laws.specs.Runs.{IsExitFor, RunsToExit}
+use Rattle.bn_board_laws.specs.RunLaws.{BoardsRunToTheirExit}
 use Rattle.bn_board_laws.proofs.CountLemmas.{before_end}
 use Rattle.bn_board_laws.proofs.OutcomeLemmas.{at_cost, not_unnamed}
 use Rattle.bn_reply_tables.proofs.FitLemmas.{AreSymbols, Fits, run_fits, start_fits}
-use Rattle.bn_reply_boards_laws.specs.RunReply.{board_after}
-use Rattle.bn_reply_boards_laws.proofs.RunLemmas.{named_of}
+use Rattle.bn_reply_laws.specs.RunReply.{board_after}
+use Rattle.bn_reply_laws.proofs.RunLemmas.{named_of}
 use Rattle.bn_reply_boards.specs.Shown.{HasNames, IsKnownStuck}
 
 -- the state and the symbol at which a bounded run is stuck are the machine's

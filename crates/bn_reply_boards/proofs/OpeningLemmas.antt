@@ -27,7 +27,7 @@ use Rattle.bn_assembly.specs.Assembled as assembled
 use Rattle.bn_assembly.specs.Assembled.{Assembled, IsAssembledFrom, IsWordOf, network_of}
 use Rattle.bn_board.specs.Flattened.{Flattened, IsFlattened, IsBoardKept}
 use Rattle.bn_reply.specs.Words.{IsLetterSymbol}
-use Rattle.bn_reply_boards_laws.specs.Windows.{CountsElements}
+use Rattle.bn_reply_laws.specs.Windows.{CountsElements}
 use Rattle.bn_reply_boards.specs.Opened.{IsBoardFor, IsMade, IsOpenedBoard, IsOpenedWindow}
 use Rattle.bn_reply_boards.specs.declared.opening.OpenedWindow.{OpenedWindow}
 use Rattle.bn_reply_boards.specs.declared.opening.OpenedWindow.TheVariants as windows

@@ -20,15 +20,15 @@ use Rattle.bn_board_spec.specs.Layouts.{unnamed}
 use Rattle.bn_board_spec.specs.Flats.{Flat, IsAccepted, IsFlatOf, flat_start}
 use Rattle.bn_board_spec.specs.LayoutLaws.{ExitsAreOne}
 use Rattle.bn_board_spec.proofs.LetterLemmas.{symbols_are}
-use Rattle.bn_board_laws.specs.HeadlineLaws.{BoardsRunToTheirExit}
+use Rattle.bn_board_laws.specs.RunLaws.{BoardsRunToTheirExit}
 use Rattle.bn_board.specs.Flattened.{Flattened, IsSameBoard}
 use Rattle.bn_net.specs.Watching.{Hears}
 use Rattle.bn_reply.specs.declared.status.Status.{Status}
-use Rattle.bn_reply_boards_laws.specs.Counts.{Counts}
-use Rattle.bn_reply_boards_laws.specs.RunReply.{HasMoment, RunReplies, TellsRun, board_after, budget, reached}
-use Rattle.bn_reply_boards_laws.specs.RunReply.{exit_status}
-use Rattle.bn_reply_boards_laws.specs.RunText.{run_text}
-use Rattle.bn_reply_boards_laws.specs.Laws.{ExitsAreNamed, MomentsAreCounted, found_text}
+use Rattle.bn_reply_laws.specs.Counts.{Counts}
+use Rattle.bn_reply_laws.specs.RunReply.{HasMoment, RunReplies, TellsRun, board_after, budget, reached}
+use Rattle.bn_reply_laws.specs.RunReply.{exit_status}
+use Rattle.bn_reply_laws.specs.RunText.{run_text}
+use Rattle.bn_reply_laws.specs.Laws.{ExitsAreNamed, MomentsAreCounted, found_text}
 use Rattle.bn_reply_boards.specs.Opened.{IsBoardAsked, IsMade}
 use Rattle.bn_reply_boards.specs.Running.{HasRun, IsAtStart, TellsFound, end_by, steps_for}
 use Rattle.bn_reply_boards.specs.Shown.{HasNames, IsShown}

@@ -9,8 +9,8 @@ use Rattle.bn_board_spec.specs.declared.exit.Exit.TheVariants.{Inside, End, Stuc
 use Rattle.bn_board_spec.specs.declared.spelled.Spelled.{Spelled}
 use Rattle.bn_board_spec.specs.Flats.{Flat}
 use Rattle.bn_board_spec.specs.Layouts.{Layout, spelled_by}
-use Rattle.bn_reply_boards_laws.specs.RunText.{elements_line, exit_line, output_from, output_line, quadruple_line}
-use Rattle.bn_reply_boards_laws.specs.RunText.{rest_text, run_text, steps_line, tape_lines}
+use Rattle.bn_reply_laws.specs.RunText.{elements_line, exit_line, output_from, output_line, quadruple_line}
+use Rattle.bn_reply_laws.specs.RunText.{rest_text, run_text, steps_line, tape_lines}
 use Rattle.bn_reply.proofs.PieceLemmas.{three_pieces}
 
 -- the lines of what a board shows, and those behind the steps at an end

@@ -1,16 +1,16 @@
--- What the laws of this crate say, each the contract of a function that only names the laws below it.
+-- What the laws of this crate say, each a field of `Laws`.
 use Rattle.std.specs.Prelude.{◌≡◌, ℕ, List, ◌++◌}
 use Rattle.bn_circuits.specs.declared.place.Place.{Place}
 use Rattle.bn_machine.specs.Outcome.{Outcome}
 use Rattle.bn_board_spec.specs.Boards.{size}
 use Rattle.bn_board_spec.specs.Flats.{Flat}
-use Rattle.bn_board_laws.specs.Headline.{RunsToExit}
+use Rattle.bn_board_laws.specs.Runs.{RunsToExit}
 use Rattle.bn_gen.specs.Increments.{IsRoundCount, incrementer}
 use Rattle.bn_gen.specs.Text.{increments_table, increments_text}
 use Rattle.bn_reply.specs.Answering.{IsSettled}
 use Rattle.bn_reply.specs.declared.status.Status.{Status}
-use Rattle.bn_reply_boards_laws.specs.Windows.{ComesTo}
-use Rattle.bn_reply_boards_laws.specs.Headline.{ComesOutOn, IsGiven, TellsOutcome}
+use Rattle.bn_reply_laws.specs.Windows.{ComesTo}
+use Rattle.bn_reply_laws.specs.ToldRuns.{ComesOutOn, IsGiven, TellsOutcome}
 use Rattle.bn_reply_boards.specs.GenerateReply.{GenerateReplies, digits, number, title, window}
 
 -- `generate` has one answer to each number of increments

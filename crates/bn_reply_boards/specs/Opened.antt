@@ -24,8 +24,8 @@ use Rattle.bn_reply.specs.TableReply.{ReadsStandard, StandardReplies, WordReplie
 use Rattle.bn_reply.specs.Words.{IsSpelledBy}
 use Rattle.bn_reply.specs.declared.reply.Reply.{Reply}
 use Rattle.bn_reply.specs.declared.status.Status.TheVariants as statuses
-use Rattle.bn_reply_boards_laws.specs.Headline.{IsGiven}
-use Rattle.bn_reply_boards_laws.specs.Windows.{ComesTo, CountsElements, WindowReplies, large_line}
+use Rattle.bn_reply_laws.specs.ToldRuns.{IsGiven}
+use Rattle.bn_reply_laws.specs.Windows.{ComesTo, CountsElements, WindowReplies, large_line}
 use Rattle.bn_reply_boards.specs.declared.opening.OpenedMachine.{OpenedMachine}
 use Rattle.bn_reply_boards.specs.declared.opening.OpenedMachine.TheVariants as machines
 use Rattle.bn_reply_boards.specs.declared.opening.OpenedInput.{OpenedInput}

@@ -16,8 +16,8 @@ use Rattle.bn_reply.specs.Replying.{IsReplied, IsUnfinished}
 use Rattle.bn_reply.specs.declared.reply.Reply.{Reply}
 use Rattle.bn_lists.specs.declared.memory.NoMemory.{NoMemory}
 use Rattle.bn_reply.specs.declared.status.Status.{Status}
-use Rattle.bn_reply_boards_laws.specs.RunReply.{budget, reached, exit_status}
-use Rattle.bn_reply_boards_laws.specs.Laws.{found_text}
+use Rattle.bn_reply_laws.specs.RunReply.{budget, reached, exit_status}
+use Rattle.bn_reply_laws.specs.Laws.{found_text}
 use Rattle.bn_reply_boards.specs.Shown.{IsShown}
 
 -- this translation and this board, which is at its start, are those of f

@@ -11,7 +11,7 @@ use Rattle.bn_board_spec.specs.declared.spelled.SpelledTape.{SpelledTape}
 use Rattle.bn_board_spec.specs.Flats.{Flat}
 use Rattle.bn_board.specs.Flattened.{Flattened}
 use Rattle.bn_reply.specs.Lines.{position_text}
-use Rattle.bn_reply_boards_laws.specs.RunText.{head_text}
+use Rattle.bn_reply_laws.specs.RunText.{head_text}
 
 -- this translation and this board are those of f
 pub record IsShown (f : Flat) (m : Translation) (b : Flattened) : Type 0 where

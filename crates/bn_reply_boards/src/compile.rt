@@ -7,7 +7,7 @@ ghost use Rattle.bn_network.specs.Limits.{AreSmall};
 ghost use Rattle.bn_assembly.specs.Assembled.{limits_of};
 ghost use Rattle.bn_netlist.specs.PackedText.{spelling_of_packed};
 ghost use Rattle.bn_reply.specs.Streams.{AnswerEnds};
-ghost use Rattle.bn_reply_boards_laws.specs.CompileReply.{CompileReplies};
+ghost use Rattle.bn_reply_laws.specs.CompileReply.{CompileReplies};
 ghost use Rattle.bn_reply_boards.specs.Opened.{spelling_of_board};
 ghost use Rattle.bn_reply_circuits.specs.Unwritten.{WillReply};
 

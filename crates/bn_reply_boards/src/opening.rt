@@ -8,7 +8,7 @@ ghost use Rattle.bn_network.specs.Limits.{AreSmall};
 ghost use Rattle.bn_network.specs.Starts.{AreInputs, words_on};
 ghost use Rattle.bn_assembly.specs.Assembled.{IsWordOf, limits_of};
 ghost use Rattle.bn_reply_boards.specs.Opened.{IsOpenedBoard, IsOpenedInput, IsOpenedMachine, IsOpenedWindow};
-ghost use Rattle.bn_reply_boards_laws.specs.Windows.{large_line};
+ghost use Rattle.bn_reply_laws.specs.Windows.{large_line};
 
 use bn_assembly::{AssembleRefusal, TapeSymbols, Windows, assemble_words};
 use bn_bennett::{Translated, translate};

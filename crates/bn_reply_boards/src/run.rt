@@ -8,7 +8,7 @@ ghost use Rattle.bn_board_spec.specs.Layouts.{IsExit, symbol_count_at};
 ghost use Rattle.bn_board_spec.specs.Flats.{Flat};
 ghost use Rattle.bn_board_spec.specs.declared.exit.Exit.{Exit};
 ghost use Rattle.bn_reply.specs.Replying.{IsReplied, IsUnfinished};
-ghost use Rattle.bn_reply_boards_laws.specs.RunReply.{RunReplies, exit_status};
+ghost use Rattle.bn_reply_laws.specs.RunReply.{RunReplies, exit_status};
 ghost use Rattle.bn_bennett.specs.Translation.{Translation};
 ghost use Rattle.bn_reply_boards.specs.Running.{HasRun, IsAnswered, IsAtStart, TellsFound, end_by, steps_for};
 ghost use Rattle.bn_reply_boards.specs.Shown.{HasNames};

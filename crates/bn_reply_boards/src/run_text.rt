@@ -8,9 +8,9 @@ ghost use Rattle.bn_bennett.specs.declared.translated.MachineState.TheVariants.{
 ghost use Rattle.bn_board_spec.specs.Layouts.{symbol_count_at};
 ghost use Rattle.bn_board_spec.specs.Flats.{Flat};
 ghost use Rattle.bn_reply.specs.Fronts.{GrewInPart};
-ghost use Rattle.bn_reply_boards_laws.specs.RunText.{exit_line, output_from, output_line, quadruple_line, rest_text};
-ghost use Rattle.bn_reply_boards_laws.specs.RunText.{run_text};
-ghost use Rattle.bn_reply_boards_laws.specs.RunText.{state_text, stuck_line, tape_lines, window_line};
+ghost use Rattle.bn_reply_laws.specs.RunText.{exit_line, output_from, output_line, quadruple_line, rest_text};
+ghost use Rattle.bn_reply_laws.specs.RunText.{run_text};
+ghost use Rattle.bn_reply_laws.specs.RunText.{state_text, stuck_line, tape_lines, window_line};
 ghost use Rattle.bn_reply_boards.specs.Shown.{HasNames, HaveLetters, IsKnownStuck, IsShown};
 
 use crate::tape_text::{push_output, push_tapes};

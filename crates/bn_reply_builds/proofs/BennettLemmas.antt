@@ -32,14 +32,14 @@ use Rattle.bn_reply.specs.declared.status.Status.{Status}
 use Rattle.bn_reply.specs.declared.status.Status.TheVariants.{Done}
 use Rattle.bn_reply.proofs.SettledLemmas.{standard_tells}
 use Rattle.bn_reply.proofs.TableLemmas.{reads_table}
-use Rattle.bn_reply_boards_laws.specs.CompileReply.{CompileReplies, TellsBoard, TellsStart}
-use Rattle.bn_reply_boards_laws.specs.Headline.{IsGiven}
-use Rattle.bn_reply_boards_laws.specs.Windows.{BoardReplies, ComesTo, board, large, long}
-use Rattle.bn_reply_boards_laws.proofs.WindowLemmas.{standard_machine}
-use Rattle.bn_reply_quads.specs.NamedWords.{AreNamedBy, IsNamedBy, IsSymbolOn, names_of}
-use Rattle.bn_reply_quads.specs.QuadReply.{passes}
-use Rattle.bn_reply_quads.specs.UniformReply.{uniform}
-use Rattle.bn_reply_quads.specs.WordsReply.{named}
+use Rattle.bn_reply_laws.specs.CompileReply.{CompileReplies, TellsBoard, TellsStart}
+use Rattle.bn_reply_laws.specs.ToldRuns.{IsGiven}
+use Rattle.bn_reply_laws.specs.Windows.{BoardReplies, ComesTo, board, large, long}
+use Rattle.bn_reply_laws.proofs.WindowLemmas.{standard_machine}
+use Rattle.bn_reply_tables.specs.NamedWords.{AreNamedBy, IsNamedBy, IsSymbolOn, names_of}
+use Rattle.bn_reply_tables.specs.QuadReply.{passes}
+use Rattle.bn_reply_tables.specs.UniformReply.{uniform}
+use Rattle.bn_reply_tables.specs.WordsReply.{named}
 use Rattle.bn_reply_builds.specs.BennettBuilds.{BoardsAreOne, CompilingIsBuilding, IsOneBoard, build_of}
 use Rattle.bn_reply_builds.specs.BuildReply.{BuildReplies, IsBuiltFor, IsUncrowded, built}
 use Rattle.bn_reply_builds.specs.Buildable.{IsBuildable}

@@ -25,8 +25,8 @@ use Rattle.bn_network.specs.Starts.{AreInputs, start_from, words_on}
 use Rattle.bn_reply.specs.declared.status.Status.{Status}
 use Rattle.bn_reply.specs.declared.status.Status.TheVariants as statuses
 use Rattle.bn_circuits.specs.declared.place.Place.{Place}
-use Rattle.bn_reply_boards_laws.specs.CompileReply.{IsBoardSpelling}
-use Rattle.bn_reply_boards_laws.proofs.SpelledLemmas.{one_board_text, start-spells}
+use Rattle.bn_reply_laws.specs.CompileReply.{IsBoardSpelling}
+use Rattle.bn_reply_laws.proofs.SpelledLemmas.{one_board_text, start-spells}
 use Rattle.bn_reply_builds.specs.BuildReply.{IsBuiltFor, TellsBuild}
 
 -- ---- elements

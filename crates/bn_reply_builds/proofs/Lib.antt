@@ -1,3 +1,6 @@
+pub mod DriveLemmas
+pub mod RenumberedLemmas
+pub mod ErasingLemmas
 pub mod TableFacts
 pub mod CrowdedLemmas
 pub mod LongLemmas
@@ -6,3 +9,12 @@ pub mod AlikeLemmas
 pub mod SettledLemmas
 pub mod OpenedLemmas
 pub mod BennettLemmas
+pub mod ScannedLemmas
+pub mod StopLemmas
+pub mod LineLemmas
+pub mod ExitLemmas
+pub mod ReadsLemmas
+pub mod CellLemmas
+pub mod AwaitLemmas
+pub mod OutcomeTextLemmas
+pub mod OutcomeLemmas

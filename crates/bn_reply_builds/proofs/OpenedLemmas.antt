@@ -27,18 +27,18 @@ use Rattle.bn_board.specs.Flattened.{Flattened}
 use Rattle.bn_build_laws.specs.Builds.{Build, IsBuild, IsStart}
 use Rattle.bn_reply.specs.declared.reply.Reply.{Reply}
 use Rattle.bn_reply.specs.declared.status.Status.{Status}
-use Rattle.bn_reply_boards_laws.specs.CompileReply.{IsBoardSpelling}
+use Rattle.bn_reply_laws.specs.CompileReply.{IsBoardSpelling}
 use Rattle.bn_reply_boards.specs.Opened.{IsBoardFor, IsOpenedBoard, IsTooLarge, spelling_of_board}
 use Rattle.bn_reply_boards.specs.declared.opening.OpenedWindow.{OpenedWindow}
 use Rattle.bn_reply_boards.specs.declared.opening.OpenedWindow.TheVariants as windows
 use Rattle.bn_reply_boards.proofs.MadeLemmas.{will_tell}
 use Rattle.bn_reply_boards.proofs.OpeningLemmas.{elements_are}
-use Rattle.bn_reply_quads.specs.NamedWords.{AreNamedBy, IsNamedBy}
-use Rattle.bn_reply_quads.specs.QuadReply.{passes}
-use Rattle.bn_reply_quads.specs.UniformReply.{UniformReplies, not_uniform, uniform}
-use Rattle.bn_reply_quads.specs.WordsReply.{WordsReplies}
-use Rattle.bn_reply_quads.proofs.QuadReplyLemmas.{answered_as}
-use Rattle.bn_reply_quads.proofs.WordsLemmas.{words_as, words_named}
+use Rattle.bn_reply_tables.specs.NamedWords.{AreNamedBy, IsNamedBy}
+use Rattle.bn_reply_tables.specs.QuadReply.{passes}
+use Rattle.bn_reply_tables.specs.UniformReply.{UniformReplies, not_uniform, uniform}
+use Rattle.bn_reply_tables.specs.WordsReply.{WordsReplies}
+use Rattle.bn_reply_tables.proofs.QuadReplyLemmas.{answered_as}
+use Rattle.bn_reply_tables.proofs.WordsLemmas.{words_as, words_named}
 use Rattle.bn_reply_circuits.specs.Unwritten.{WillReply}
 use Rattle.bn_reply_circuits.specs.declared.unwritten.Unwritten.TheVariants.{Packed}
 use Rattle.bn_reply_builds.specs.BuildReply.{BuildReplies, BuiltReplies, HaveRoom, IsBuiltFor, IsUncrowded}

@@ -23,14 +23,14 @@ use Rattle.bn_reply.specs.Codes.{IsReplyStatus}
 use Rattle.bn_reply.specs.declared.status.Status.{Status}
 use Rattle.bn_reply.specs.declared.status.Status.TheVariants as statuses
 use Rattle.bn_reply.proofs.SettledLemmas.{agree}
-use Rattle.bn_reply_boards_laws.specs.Windows.{large_line}
-use Rattle.bn_reply_quads.specs.UniformReply.{UniformReplies}
-use Rattle.bn_reply_quads.specs.NamedWords.{AreNamedBy}
-use Rattle.bn_reply_quads.specs.WordsReply.{WordsReplies}
-use Rattle.bn_reply_quads.proofs.AlphabetLemmas.{read_alphabets}
-use Rattle.bn_reply_quads.proofs.QuadReplyLemmas.{quad_settled}
-use Rattle.bn_reply_quads.proofs.UniformLemmas.{uniform_settled}
-use Rattle.bn_reply_quads.proofs.WordsLemmas.{words_settled}
+use Rattle.bn_reply_laws.specs.Windows.{large_line}
+use Rattle.bn_reply_tables.specs.UniformReply.{UniformReplies}
+use Rattle.bn_reply_tables.specs.NamedWords.{AreNamedBy}
+use Rattle.bn_reply_tables.specs.WordsReply.{WordsReplies}
+use Rattle.bn_reply_tables.proofs.AlphabetLemmas.{read_alphabets}
+use Rattle.bn_reply_tables.proofs.QuadReplyLemmas.{quad_settled}
+use Rattle.bn_reply_tables.proofs.UniformLemmas.{uniform_settled}
+use Rattle.bn_reply_tables.proofs.WordsLemmas.{words_settled}
 use Rattle.bn_reply_builds.specs.BuildReply.{BuildIsSettled, BuiltReplies, HaveRoom, IsBuiltFor, IsCrowded}
 use Rattle.bn_reply_builds.specs.BuildReply.{IsFirstLong, IsUncrowded, SizedReplies, TellsBuild, built}
 use Rattle.bn_reply_builds.specs.BuildReply.{crowded_line, large, long, long_word_line, many}

@@ -13,8 +13,8 @@ use Rattle.bn_network.specs.Networks.{IsTape}
 use Rattle.bn_network.specs.Starts.{AreInputs}
 use Rattle.bn_machine.specs.Outcome.{Limits}
 use Rattle.bn_quad.specs.Quadruples.{Quadruples}
-use Rattle.bn_reply_quads.specs.NamedWords.{AreNamedBy}
-use Rattle.bn_reply_quads.proofs.AlphabetLemmas.{read_alphabet, some_symbol}
+use Rattle.bn_reply_tables.specs.NamedWords.{AreNamedBy}
+use Rattle.bn_reply_tables.proofs.AlphabetLemmas.{read_alphabet, some_symbol}
 use Rattle.bn_reply_builds.specs.BuildReply.{HaveRoom}
 use Rattle.bn_reply_builds.specs.Buildable.{AreLettersOf, IsBuildable}
 

@@ -15,9 +15,9 @@ use Rattle.bn_build_laws.specs.Builds.{Build}
 use Rattle.bn_reply.specs.TableReply.{ReadsStandard}
 use Rattle.bn_reply.specs.declared.status.Status.{Status}
 use Rattle.bn_reply.specs.declared.status.Status.TheVariants.{Done}
-use Rattle.bn_reply_boards_laws.specs.CompileReply.{CompileReplies}
-use Rattle.bn_reply_boards_laws.specs.Headline.{IsGiven}
-use Rattle.bn_reply_boards_laws.specs.Windows.{ComesTo}
+use Rattle.bn_reply_laws.specs.CompileReply.{CompileReplies}
+use Rattle.bn_reply_laws.specs.ToldRuns.{IsGiven}
+use Rattle.bn_reply_laws.specs.Windows.{ComesTo}
 use Rattle.bn_reply_builds.specs.BuildReply.{BuildReplies, IsBuiltFor}
 use Rattle.bn_reply_tables.specs.BennettReply.{bennett_text}
 

@@ -20,11 +20,11 @@ use Rattle.bn_reply.specs.Answering.{IsSettled}
 use Rattle.bn_reply.specs.Lines.{line, long_line}
 use Rattle.bn_reply.specs.declared.status.Status.{Status}
 use Rattle.bn_reply.specs.declared.status.Status.TheVariants as statuses
-use Rattle.bn_reply_quads.specs.QuadReply.{QuadReplies}
-use Rattle.bn_reply_quads.specs.UniformReply.{UniformReplies}
-use Rattle.bn_reply_quads.specs.WordsReply.{WordsReplies}
-use Rattle.bn_reply_boards_laws.specs.CompileReply.{TellsBoard}
-use Rattle.bn_reply_boards_laws.specs.Windows.{large_line}
+use Rattle.bn_reply_tables.specs.QuadReply.{QuadReplies}
+use Rattle.bn_reply_tables.specs.UniformReply.{UniformReplies}
+use Rattle.bn_reply_tables.specs.WordsReply.{WordsReplies}
+use Rattle.bn_reply_laws.specs.CompileReply.{TellsBoard}
+use Rattle.bn_reply_laws.specs.Windows.{large_line}
 
 -- ---- sizes
 

@@ -1,4 +1,11 @@
+pub mod DriveText
+pub mod Drives
+pub mod RenumberedBuilds
+pub mod ErasingBoards
+pub mod DriveLaws
 pub mod BuildReply
 pub mod Buildable
 pub mod Opened
 pub mod BennettBuilds
+pub mod Outcomes
+pub mod Stopping

@@ -11,7 +11,7 @@ use Rattle.bn_network.specs.Starts.{AreInputs, start_from, words_on}
 use Rattle.bn_board_spec.specs.Boards.{board_start}
 use Rattle.bn_board.specs.Flattened.{Flattened, IsBoardKept, end_line, start_line}
 use Rattle.bn_build_laws.specs.Builds.{Build, IsBuild, IsStart}
-use Rattle.bn_reply_quads.specs.NamedWords.{AreNamedBy}
+use Rattle.bn_reply_tables.specs.NamedWords.{AreNamedBy}
 use Rattle.bn_reply_boards.specs.declared.opening.OpenedWindow.{OpenedWindow}
 use Rattle.bn_reply_boards.specs.declared.opening.OpenedWindow.TheVariants as windows
 use Rattle.bn_reply_builds.specs.BuildReply.{BuiltReplies, IsBuiltFor, IsUncrowded, SizedReplies}

@@ -1,11 +1,22 @@
-//! What the commands answer that make a circuit of any uniform machine of quadruples.
+//! Boards of any uniform machine of quadruples: what `build` answers; where a board has come to, told by the names of
+//! the machine's table; and, as definitions and laws, what `drive` answers.
 #![tactic(auto)]
 
+mod awaited;
 mod build;
+mod drives;
 mod laws;
 mod opening;
+mod outcome;
+mod outcome_text;
+mod scanned;
 mod sizes;
+mod stop;
 
+pub use awaited::counts_of_machine;
 pub use build::answer_build;
+pub use drives::drive_laws;
 pub use laws::{build_has_one_reply, compiling_is_building};
 pub use opening::{OpenedBuild, open_build};
+pub use outcome::{Outcome, Stop, outcome_of};
+pub use outcome_text::{TableNames, push_outcome, push_state, push_tapes};

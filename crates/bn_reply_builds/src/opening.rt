@@ -15,7 +15,7 @@ use bn_qtable::TapeWords;
 use bn_quad::{QuadNames, Uniform};
 use bn_reply::{NoMemory, Reply};
 use bn_reply_boards::{OpenedWindow, open_board};
-use bn_reply_quads::{OpenedUniform, SpelledWords, open_uniform, spell_words};
+use bn_reply_tables::{OpenedUniform, SpelledWords, open_uniform, spell_words};
 use std::alloc::Global;
 
 /// What bytes, words on the tapes and a window are opened as, or the answer where they can't be.

@@ -30,15 +30,15 @@ use Rattle.bn_netlist_laws.specs.declared.version.Version.TheVariants.{Two}
 use Rattle.bn_netlist.specs.PackedText.{spelling_of_packed}
 use Rattle.bn_netlist.specs.declared.packed_config.PackedConfig.{PackedConfig}
 use Rattle.bn_netlist.specs.NetText.{IsTextRefusal}
-use Rattle.bn_reply_circuits_laws.specs.CircuitReply.{fault_text, Misspelled}
+use Rattle.bn_reply_laws.specs.CircuitReply.{fault_text, Misspelled}
 use Rattle.bn_netlist.specs.declared.line_refusal.NetlistRefusal.{NetlistRefusal}
 use Rattle.bn_netlist.specs.declared.line_refusal.NetlistRefusal.TheVariants.{Syntax, Order, Target, TwoSources}
 use Rattle.bn_netlist.specs.declared.line_refusal.NetlistRefusal.TheVariants.{StartFed, EndWired, LeftWired, TooMany}
 use Rattle.bn_netlist.specs.declared.line_refusal.NetlistRefusal.TheVariants.{Spelling, NoMemory}
 use Rattle.bn_reply_circuits.specs.Refused.{IsRefused}
 use Rattle.bn_reply_circuits.specs.Walking.{WalkReplies, walked_places, walked_to}
-use Rattle.bn_reply_circuits_laws.specs.CircuitReply.{walked}
-use Rattle.bn_reply_circuits_laws.specs.MigrateReply.{MigrateReplies, migrated}
+use Rattle.bn_reply_laws.specs.CircuitReply.{walked}
+use Rattle.bn_reply_laws.specs.MigrateReply.{MigrateReplies, migrated}
 
 -- ---- a text that is refused
 

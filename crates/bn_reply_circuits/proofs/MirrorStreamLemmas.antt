@@ -13,7 +13,7 @@ use Rattle.bn_reply.specs.Streams.{AnswerEnds}
 use Rattle.bn_reply.specs.declared.status.Status.{Status}
 use Rattle.bn_reply.specs.declared.status.Status.TheVariants as statuses
 use Rattle.bn_reply.proofs.ReplyLemmas.{text_ends}
-use Rattle.bn_reply_circuits_laws.specs.CircuitReply.{Misspelled}
+use Rattle.bn_reply_laws.specs.CircuitReply.{Misspelled}
 use Rattle.bn_reply_circuits.specs.MirrorReply.{MirrorReplies, mirrored, misspelled}
 
 pub mirror_refuses : (bytes text : List ℕ) → Misspelled bytes text → MirrorReplies bytes statuses.Text text []

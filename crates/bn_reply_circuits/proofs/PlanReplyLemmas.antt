@@ -15,14 +15,14 @@ use Rattle.bn_netlist_laws.specs.declared.version.Version.{Version}
 use Rattle.bn_netlist_laws.proofs.AdmittedLemmas.{most_small}
 use Rattle.bn_netlist_laws.proofs.TextLemmas.{spellings-agree, faulty_texts-spell-nothing}
 use Rattle.bn_netlist_laws.proofs.DecideLemmas.{texts-spell-or-fault}
-use Rattle.bn_reply_circuits_laws.proofs.SettledLemmas.{one_fault}
+use Rattle.bn_reply_laws.proofs.SettledLemmas.{one_fault}
 use Rattle.bn_plan.specs.Lists.{Pairwise}
 use Rattle.bn_lists.specs.Lists.{Has}
 use Rattle.bn_plan.specs.Wires.{AreRotary, AreWiresOf}
 use Rattle.bn_plan.proofs.ListLemmas.{in_filter, filter_in, pairwise_filter}
 use Rattle.bn_plan.proofs.CircuitLemmas.{circuits_are_rotary}
 use Rattle.bn_plan.proofs.FloorLemmas.{floor_exists, floor_once}
-use Rattle.bn_reply_circuits_laws.specs.CircuitReply.{Misspelled, fault_text}
+use Rattle.bn_reply_laws.specs.CircuitReply.{Misspelled, fault_text}
 use Rattle.bn_reply.specs.Answering.{HasAnswer, IsOneAnswer}
 use Rattle.bn_reply.specs.Codes.{IsReplyStatus}
 use Rattle.bn_reply.specs.declared.reply.Reply.{Reply}

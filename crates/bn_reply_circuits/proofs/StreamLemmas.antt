@@ -31,8 +31,8 @@ use Rattle.bn_reply_circuits.specs.PlanReply.{PlanReplies}
 use Rattle.bn_reply_circuits.specs.PlanReply as plans
 use Rattle.bn_reply_circuits.specs.Refused.{IsRefused, UnreadEnds}
 use Rattle.bn_reply_circuits.specs.Walking.{WalkReplies}
-use Rattle.bn_reply_circuits_laws.specs.CircuitReply.{Misspelled, misspelled}
-use Rattle.bn_reply_circuits_laws.specs.MigrateReply.{MigrateReplies, faulty}
+use Rattle.bn_reply_laws.specs.CircuitReply.{Misspelled, misspelled}
+use Rattle.bn_reply_laws.specs.MigrateReply.{MigrateReplies, faulty}
 use Rattle.bn_reply_circuits.proofs.CircuitLemmas.{migrate_read, wrong}
 
 text_not_too_long : {T : Type 0} (r : NetlistRefusal) → IsErrOf {T = T} {E = FromRefusal} (Err (reading.Text r))

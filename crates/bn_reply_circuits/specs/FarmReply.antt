@@ -6,7 +6,7 @@ use Rattle.bn_lists.specs.Lists.{IsFirstWith}
 use Rattle.bn_circuits.specs.declared.place.Place.{Place}
 use Rattle.bn_net.specs.declared.net.TheConstants.{MOST_ELEMENTS}
 use Rattle.bn_netlist_laws.specs.Faults.{Fault, IsFirstFault}
-use Rattle.bn_reply_circuits_laws.specs.CircuitReply.{fault_name}
+use Rattle.bn_reply_laws.specs.CircuitReply.{fault_name}
 use Rattle.bn_reply.specs.Answering.{IsSettled}
 use Rattle.bn_base.specs.Cuts.{IsUncut}
 use Rattle.bn_reply.specs.Lines.{line}

@@ -1,4 +1,4 @@
--- What the laws of this crate say, each the contract of a function with an empty body.
+-- What the laws of this crate say, each a field of `Laws`.
 use Rattle.std.specs.Prelude.{◌≡◌, ℕ, ◌≤◌, List, []}
 use Rattle.bn_circuits.specs.Situations.{counted, situation_of}
 use Rattle.bn_circuits.specs.declared.place.Place.{Place}
@@ -12,8 +12,8 @@ use Rattle.bn_board_spec.specs.Flats.{Flat, IsFlatOf, IsAccepted}
 use Rattle.bn_board_spec.specs.Costs.{HasCost}
 use Rattle.bn_reply.specs.declared.status.Status.{Status}
 use Rattle.bn_reply.specs.declared.status.Status.TheVariants.{Done}
-use Rattle.bn_reply_boards_laws.specs.CompileReply.{IsFlatSpelling}
-use Rattle.bn_reply_boards_laws.specs.RunReply.{board_after}
+use Rattle.bn_reply_laws.specs.CompileReply.{IsFlatSpelling}
+use Rattle.bn_reply_laws.specs.RunReply.{board_after}
 use Rattle.bn_reply_circuits.specs.MirrorReply.{MirrorReplies}
 
 -- The bytes spell a configuration, and the text is that of the same in the same version with no steps counted.

@@ -14,7 +14,7 @@ use Rattle.bn_netlist.specs.declared.line_refusal.NetlistRefusal.TheVariants.{No
 use Rattle.bn_rsm.specs.declared.refusal.RsmRefusal.TheVariants as clash
 use Rattle.bn_rsmtable.specs.declared.refusal.RsmTableRefusal.{RsmTableRefusal}
 use Rattle.bn_rsmtable.specs.declared.refusal.RsmTableRefusal.TheVariants as faults
-use Rattle.bn_reply_circuits_laws.specs.CircuitReply.{fault_text}
+use Rattle.bn_reply_laws.specs.CircuitReply.{fault_text}
 use Rattle.bn_reply_circuits.specs.RealiseReply.{clash_line, rsm_fault_line}
 use Rattle.bn_reply.specs.Ends.{Finishes, FinishesReply}
 use Rattle.bn_reply.specs.Streams.{read_fault_text, size_text}

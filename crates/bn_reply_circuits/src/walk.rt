@@ -6,7 +6,7 @@ ghost use Rattle.bn_netlist.specs.PackedText.{spelling_of_packed};
 ghost use Rattle.bn_reply.specs.Outside.{outside};
 ghost use Rattle.bn_reply.specs.Streams.{StreamEnds};
 ghost use Rattle.bn_reply_circuits.specs.Walking.{WalkReplies, walked_places, walked_to};
-ghost use Rattle.bn_reply_circuits_laws.specs.CircuitReply.{BackReplies, StepReplies};
+ghost use Rattle.bn_reply_laws.specs.CircuitReply.{BackReplies, StepReplies};
 
 use crate::config::{give_config, refuse_input};
 use bn_io::{Input, Sink};

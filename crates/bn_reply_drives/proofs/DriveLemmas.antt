@@ -31,19 +31,19 @@ use Rattle.bn_build_laws.specs.Builds.{Build, IsStart, build_elements, start_of}
 use Rattle.bn_build_laws.specs.Exits.{BoardLeaves}
 use Rattle.bn_build_laws.specs.Runs.{BuildRunsTo, EndsInWindow}
 use Rattle.bn_build_laws.proofs.RunLemmas.{none_low}
-use Rattle.bn_drive_laws.specs.Drives.{Drives, leaves, stays}
-use Rattle.bn_drive_laws.specs.DriveText.{drive_exit_line, drive_text, inside_line}
-use Rattle.bn_drive_laws.proofs.DriveLemmas.{drives-once}
+use Rattle.bn_reply_builds.specs.Drives.{Drives, leaves, stays}
+use Rattle.bn_reply_builds.specs.DriveText.{drive_exit_line, drive_text, inside_line}
+use Rattle.bn_reply_builds.proofs.DriveLemmas.{drives-once}
 use Rattle.bn_reply.specs.declared.reply.Reply.{Reply}
 use Rattle.bn_reply_boards.specs.Running.{IsAnswered}
 use Rattle.bn_reply_boards.proofs.AnsweredLemmas.{answered_late, answered_told}
 use Rattle.bn_reply_builds.specs.BuildReply.{IsBuiltFor}
 use Rattle.bn_reply_builds.specs.Opened.{IsBuiltBoard}
-use Rattle.bn_reply_outcomes.specs.declared.outcome.Outcome.TheVariants.{Inside}
+use Rattle.bn_reply_builds.specs.declared.outcome.Outcome.TheVariants.{Inside}
 use Rattle.bn_reply_drives.specs.Driven.{TellsDrive, TellsOutcome, drive_status}
-use Rattle.bn_reply_outcomes.specs.Outcomes.{outcome_by, outcome_line, outcome_status}
+use Rattle.bn_reply_builds.specs.Outcomes.{outcome_by, outcome_line, outcome_status}
 use Rattle.bn_build_laws.proofs.FitLemmas.{final_fits}
-use Rattle.bn_reply_outcomes.proofs.TextLemmas.{outcome_line_is}
+use Rattle.bn_reply_builds.proofs.OutcomeTextLemmas.{outcome_line_is}
 
 -- ---- counts of a run that goes no further
 

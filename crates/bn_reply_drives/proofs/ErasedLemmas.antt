@@ -43,17 +43,17 @@ use Rattle.bn_board_spec.specs.Layouts.{spelled_config, tape_in}
 use Rattle.bn_build_laws.specs.Builds.{Build, IsStart, build_elements, start_of}
 use Rattle.bn_build_laws.specs.Runs.{BuildRunsTo, EndsInWindow}
 use Rattle.bn_build_laws.proofs.ConverseLemmas.{builds-once}
-use Rattle.bn_drive_laws.specs.DriveText.{drive_cells_text, drive_exit_line, drive_tape_line, name_in}
-use Rattle.bn_drive_laws.specs.Drives.{Drives, leaves, stays}
-use Rattle.bn_drive_laws.specs.ErasingBoards.{ErasingBoardTells}
-use Rattle.bn_drive_laws.proofs.ErasingLemmas.{erasing-boards}
+use Rattle.bn_reply_builds.specs.DriveText.{drive_cells_text, drive_exit_line, drive_tape_line, name_in}
+use Rattle.bn_reply_builds.specs.Drives.{Drives, leaves, stays}
+use Rattle.bn_reply_builds.specs.ErasingBoards.{ErasingBoardTells}
+use Rattle.bn_reply_builds.proofs.ErasingLemmas.{erasing-boards}
 use Rattle.bn_reply.specs.Answering.{IsDone}
 use Rattle.bn_reply.specs.Lines.{line, position_text}
 use Rattle.bn_reply.specs.Words.{IsSpelledBy}
 use Rattle.bn_reply.specs.declared.status.Status.{Status}
 use Rattle.bn_reply.specs.declared.status.Status.TheVariants as statuses
 use Rattle.bn_reply.proofs.TableLemmas.{reads_table}
-use Rattle.bn_reply_boards_laws.specs.RunText.{elements_line, head_text, quadruple_line, steps_line}
+use Rattle.bn_reply_laws.specs.RunText.{elements_line, head_text, quadruple_line, steps_line}
 use Rattle.bn_reply_builds.specs.BuildReply.{IsBuiltFor, SizedReplies, built, large, long, many}
 use Rattle.bn_reply_builds.proofs.BuiltLemmas.{build_begins}
 use Rattle.bn_reply_erase.specs.EraseReply.{CountedReplies, EraseReplies, erase_text, few, lettered}
@@ -62,10 +62,10 @@ use Rattle.bn_reply_erase.proofs.AnswerLemmas.{word_letters, word_nonblank}
 use Rattle.bn_reply_erase.proofs.JudgedLemmas.{both_standard, joint_of_tables}
 use Rattle.bn_reply_erase.proofs.PairLemmas.{ReadBoth, pair_tells, two_tells}
 use Rattle.bn_reply_erase.proofs.TextLemmas.{erased_text}
-use Rattle.bn_reply_quads.specs.NamedWords.{AreNamedBy, IsNamedBy}
-use Rattle.bn_reply_quads.specs.QuadReply.{domain, faulty, passes, range}
-use Rattle.bn_reply_quads.specs.UniformReply.{not_uniform, uniform}
-use Rattle.bn_reply_quads.specs.WordsReply.{WordsReplies, named, unnamed}
+use Rattle.bn_reply_tables.specs.NamedWords.{AreNamedBy, IsNamedBy}
+use Rattle.bn_reply_tables.specs.QuadReply.{domain, faulty, passes, range}
+use Rattle.bn_reply_tables.specs.UniformReply.{not_uniform, uniform}
+use Rattle.bn_reply_tables.specs.WordsReply.{WordsReplies, named, unnamed}
 use Rattle.bn_reply_drives.specs.DriveHeadline.{IsGiven, IsOwnRun, ShowsEnd, TellsEnd, TellsOwnRun, drive_lines}
 use Rattle.bn_reply_drives.specs.DriveHeadline as headline
 use Rattle.bn_reply_drives.specs.DriveReply.{DriveReplies}

@@ -37,16 +37,16 @@ use Rattle.bn_build_laws.specs.Runs.{BuildRunsTo, EndsInWindow}
 use Rattle.bn_build_laws.proofs.ConverseLemmas.{builds-once}
 use Rattle.bn_build_laws.proofs.RunLemmas.{builds-run, none_low}
 use Rattle.bn_build_laws.proofs.ThereLemmas.{builds-there}
-use Rattle.bn_drive_laws.specs.DriveText.{drive_exit_line, drive_text, inside_line}
-use Rattle.bn_drive_laws.specs.Drives.{Drives, leaves, stays}
-use Rattle.bn_drive_laws.proofs.DriveLemmas.{drives-once}
+use Rattle.bn_reply_builds.specs.DriveText.{drive_exit_line, drive_text, inside_line}
+use Rattle.bn_reply_builds.specs.Drives.{Drives, leaves, stays}
+use Rattle.bn_reply_builds.proofs.DriveLemmas.{drives-once}
 use Rattle.bn_reply.specs.declared.status.Status.{Status}
 use Rattle.bn_reply.specs.declared.status.Status.TheVariants as statuses
-use Rattle.bn_reply_boards_laws.specs.RunText.{elements_line, quadruple_line, steps_line}
-use Rattle.bn_reply_boards_laws.specs.Windows.{large_line}
-use Rattle.bn_reply_quads.specs.QuadReply.{passes}
-use Rattle.bn_reply_quads.specs.UniformReply.{uniform}
-use Rattle.bn_reply_quads.specs.WordsReply.{named}
+use Rattle.bn_reply_laws.specs.RunText.{elements_line, quadruple_line, steps_line}
+use Rattle.bn_reply_laws.specs.Windows.{large_line}
+use Rattle.bn_reply_tables.specs.QuadReply.{passes}
+use Rattle.bn_reply_tables.specs.UniformReply.{uniform}
+use Rattle.bn_reply_tables.specs.WordsReply.{named}
 use Rattle.bn_reply_builds.specs.BuildReply.{BuiltReplies, IsBuiltFor, SizedReplies, built, large}
 use Rattle.bn_reply_builds.specs.Buildable.{IsBuildable}
 use Rattle.bn_reply_builds.proofs.BuiltLemmas.{build_begins, build_count}
@@ -56,9 +56,9 @@ use Rattle.bn_reply_drives.specs.DriveHeadline.{TellsEnd, TellsInside, TellsOwnR
 use Rattle.bn_reply_drives.specs.DriveHeadline.{leaving, unleft}
 use Rattle.bn_reply_drives.specs.DriveReply.{DriveReplies}
 use Rattle.bn_reply_drives.specs.Driven.{TellsDrive, drive_status}
-use Rattle.bn_reply_outcomes.specs.Outcomes.{drive_tape_lines}
+use Rattle.bn_reply_builds.specs.Outcomes.{drive_tape_lines}
 use Rattle.bn_reply_drives.proofs.CountLemmas.{first_within, input_within, reached_place, some_elements, tally_part}
-use Rattle.bn_reply_outcomes.proofs.OutcomeLemmas.{not_inside}
+use Rattle.bn_reply_builds.proofs.OutcomeLemmas.{not_inside}
 use Rattle.bn_reply_drives.proofs.SettledLemmas.{drive_is_settled, drive_some as drive_answer}
 use Rattle.bn_board_spec.proofs.SpanLemmas.{spans}
 

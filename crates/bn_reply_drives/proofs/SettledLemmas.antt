@@ -23,17 +23,17 @@ use Rattle.bn_build_laws.specs.Runs.{BuildRunsTo}
 use Rattle.bn_build_laws.proofs.ConverseLemmas.{builds-once}
 use Rattle.bn_reply.specs.Answering.{HasAnswer}
 use Rattle.bn_reply.specs.Codes.{IsReplyStatus}
-use Rattle.bn_reply_boards_laws.specs.RunText.{elements_line, quadruple_line, steps_line}
-use Rattle.bn_drive_laws.specs.DriveText.{drive_exit_line, drive_tape_line, drive_text, inside_line}
-use Rattle.bn_drive_laws.specs.Drives.{Drives, leaves, stays}
-use Rattle.bn_drive_laws.proofs.DriveLemmas.{drives-once}
+use Rattle.bn_reply_laws.specs.RunText.{elements_line, quadruple_line, steps_line}
+use Rattle.bn_reply_builds.specs.DriveText.{drive_exit_line, drive_tape_line, drive_text, inside_line}
+use Rattle.bn_reply_builds.specs.Drives.{Drives, leaves, stays}
+use Rattle.bn_reply_builds.proofs.DriveLemmas.{drives-once}
 use Rattle.bn_reply_builds.specs.BuildReply.{IsBuiltFor}
 use Rattle.bn_reply_builds.proofs.AlikeLemmas.{circuits, ends_as, layouts, limits, machines, names, starts}
 use Rattle.bn_reply_builds.proofs.BuiltLemmas.{build_begins}
 use Rattle.bn_reply_builds.proofs.SettledLemmas.{AreToldOnce, built_settled}
 use Rattle.bn_reply_drives.specs.Driven.{TellsDrive, drive_status}
 use Rattle.bn_reply_drives.specs.DriveReply.{DriveIsSettled}
-use Rattle.bn_reply_outcomes.proofs.OutcomeLemmas.{not_inside}
+use Rattle.bn_reply_builds.proofs.OutcomeLemmas.{not_inside}
 
 -- ---- counts of circuits that are alike
 

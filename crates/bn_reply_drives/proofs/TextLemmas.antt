@@ -5,11 +5,11 @@ use Rattle.bn_circuits.specs.declared.config.Config.{Config}
 use Rattle.bn_qtable.specs.Rows.{QuadTable}
 use Rattle.bn_board_spec.specs.declared.spelled.Spelled.{Spelled}
 use Rattle.bn_board_spec.specs.Layouts.{spelled_by}
-use Rattle.bn_reply_boards_laws.specs.RunText.{elements_line, quadruple_line, steps_line}
+use Rattle.bn_reply_laws.specs.RunText.{elements_line, quadruple_line, steps_line}
 use Rattle.bn_build_laws.specs.Builds.{Build, build_elements}
-use Rattle.bn_drive_laws.specs.DriveText.{drive_text}
-use Rattle.bn_reply_outcomes.specs.declared.outcome.Outcome.{Outcome}
-use Rattle.bn_reply_outcomes.specs.Outcomes.{drive_tape_lines, outcome_line}
+use Rattle.bn_reply_builds.specs.DriveText.{drive_text}
+use Rattle.bn_reply_builds.specs.declared.outcome.Outcome.{Outcome}
+use Rattle.bn_reply_builds.specs.Outcomes.{drive_tape_lines, outcome_line}
 
 five_pieces : (a b c d e start one two three four five : List ℕ) → start ≡ [] → one ≡ start ++ a → two ≡ one ++ b
     → three ≡ two ++ c → four ≡ three ++ d

@@ -19,7 +19,7 @@ use Rattle.bn_bennett_laws.specs.Steps.{EndsAt, Exit, Finished, Stopped, Leaving
 use Rattle.bn_network.specs.Controls.{IsNotLeft, symbol_count}
 use Rattle.bn_network.specs.Starts.{words_on}
 use Rattle.bn_network_laws.specs.Ends.{left_at, taken_from}
-use Rattle.bn_quad_stops.specs.Stops.{IsStuckAtRead, taken_to}
+use Rattle.bn_network_laws.specs.Stops.{IsStuckAtRead, taken_to}
 use Rattle.bn_board_spec.specs.declared.spelled.Spelled.{Spelled}
 use Rattle.bn_board_spec.specs.Layouts.{spelled_config}
 use Rattle.bn_board_spec.specs.Spans.{Spans}
@@ -28,14 +28,14 @@ use Rattle.bn_assembly.specs.Assembled.{CountsElements}
 use Rattle.bn_reply.specs.Lines.{line}
 use Rattle.bn_reply.specs.declared.status.Status.{Status}
 use Rattle.bn_reply.specs.declared.status.Status.TheVariants.{Size, Inside}
-use Rattle.bn_reply_boards_laws.specs.RunText.{elements_line, quadruple_line, steps_line}
-use Rattle.bn_reply_boards_laws.specs.Windows.{large_line}
-use Rattle.bn_reply_quads.specs.NamedWords.{AreNamedBy}
+use Rattle.bn_reply_laws.specs.RunText.{elements_line, quadruple_line, steps_line}
+use Rattle.bn_reply_laws.specs.Windows.{large_line}
+use Rattle.bn_reply_tables.specs.NamedWords.{AreNamedBy}
 use Rattle.bn_reply_builds.specs.BuildReply.{HaveRoom, IsUncrowded}
-use Rattle.bn_drive_laws.specs.DriveText.{drive_exit_line}
+use Rattle.bn_reply_builds.specs.DriveText.{drive_exit_line}
 use Rattle.bn_reply_drives.specs.Driven.{drive_status}
 use Rattle.bn_reply_drives.specs.DriveReply.{DriveReplies}
-use Rattle.bn_reply_outcomes.specs.Outcomes.{drive_tape_lines}
+use Rattle.bn_reply_builds.specs.Outcomes.{drive_tape_lines}
 use Rattle.bn_words.specs.declared.request.TheConstants.{MOST_DRIVE_STEPS}
 
 -- ---- what is given, and what the machine does

@@ -10,14 +10,14 @@ use Rattle.bn_network.specs.Starts.{FitsWindow, start_from}
 use Rattle.bn_board.specs.Flattened.{Flattened}
 use Rattle.bn_build_laws.specs.Builds.{Build, IsBuild, build_elements, start_of}
 use Rattle.bn_build_laws.specs.Exits.{BoardLeaves}
-use Rattle.bn_drive_laws.specs.Drives.{Drives}
-use Rattle.bn_drive_laws.specs.DriveText.{drive_text}
+use Rattle.bn_reply_builds.specs.Drives.{Drives}
+use Rattle.bn_reply_builds.specs.DriveText.{drive_text}
 use Rattle.bn_reply.specs.declared.reply.Reply.{Reply}
 use Rattle.bn_reply.specs.declared.status.Status.{Status}
 use Rattle.bn_reply.specs.declared.status.Status.TheVariants as statuses
-use Rattle.bn_reply_outcomes.specs.declared.outcome.Outcome.{Outcome}
-use Rattle.bn_reply_outcomes.specs.declared.outcome.Outcome.TheVariants.{Inside}
-use Rattle.bn_reply_outcomes.specs.Outcomes.{outcome_by, outcome_line, outcome_status}
+use Rattle.bn_reply_builds.specs.declared.outcome.Outcome.{Outcome}
+use Rattle.bn_reply_builds.specs.declared.outcome.Outcome.TheVariants.{Inside}
+use Rattle.bn_reply_builds.specs.Outcomes.{outcome_by, outcome_line, outcome_status}
 
 -- ---- a run
 

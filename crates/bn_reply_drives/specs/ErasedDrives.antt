@@ -18,9 +18,9 @@ use Rattle.bn_reply.specs.Lines.{line}
 use Rattle.bn_reply.specs.Words.{IsSpelledBy}
 use Rattle.bn_reply.specs.declared.status.Status.{Status}
 use Rattle.bn_reply.specs.declared.status.Status.TheVariants.{Done, Stuck}
-use Rattle.bn_reply_boards_laws.specs.RunText.{elements_line, quadruple_line, steps_line}
+use Rattle.bn_reply_laws.specs.RunText.{elements_line, quadruple_line, steps_line}
 use Rattle.bn_reply_erase.specs.EraseReply.{EraseReplies, lettered}
-use Rattle.bn_drive_laws.specs.DriveText.{drive_tape_line}
+use Rattle.bn_reply_builds.specs.DriveText.{drive_tape_line}
 use Rattle.bn_reply_drives.specs.DriveReply.{DriveReplies}
 use Rattle.bn_words.specs.declared.request.TheConstants.{MOST_DRIVE_STEPS}
 

@@ -14,7 +14,7 @@ ghost use Rattle.bn_reply_builds.specs.BuildReply.{IsBuiltFor};
 ghost use Rattle.bn_reply_builds.specs.Opened.{IsBuiltBoard};
 ghost use Rattle.bn_reply_drives.specs.DriveReply.{DriveReplies};
 ghost use Rattle.bn_reply_drives.specs.Driven.{TellsDrive, TellsOutcome};
-ghost use Rattle.bn_reply_outcomes.specs.Stopping.{HasFewSymbols};
+ghost use Rattle.bn_reply_builds.specs.Stopping.{HasFewSymbols};
 
 use crate::drive_text::text_of_drive;
 use crate::run_for::run_for;
@@ -24,8 +24,7 @@ use bn_net::Watch;
 use bn_qtable::TapeWords;
 use bn_quad::{QuadNames, Uniform};
 use bn_reply::Reply;
-use bn_reply_builds::{OpenedBuild, open_build};
-use bn_reply_outcomes::{TableNames, outcome_of};
+use bn_reply_builds::{OpenedBuild, TableNames, open_build, outcome_of};
 use bn_words::MOST_DRIVE_STEPS;
 use std::alloc::Global;
 

@@ -6,12 +6,12 @@ ghost use Rattle.bn_circuits.specs.declared.place.Place.TheVariants.{Enter};
 ghost use Rattle.bn_qtable.specs.Rows.{counts_of, table_of};
 ghost use Rattle.bn_build_laws.specs.Builds.{Build, build_elements};
 ghost use Rattle.bn_board_spec.specs.Layouts.{spelled_by};
-ghost use Rattle.bn_drive_laws.specs.DriveText.{drive_text};
-ghost use Rattle.bn_reply_outcomes.specs.Outcomes.{outcome_line};
+ghost use Rattle.bn_reply_builds.specs.DriveText.{drive_text};
+ghost use Rattle.bn_reply_builds.specs.Outcomes.{outcome_line};
 
 use bn_board::{Board, NoMemory, Spelled};
 use bn_reply::push_counted;
-use bn_reply_outcomes::{Outcome, TableNames, push_outcome, push_tapes};
+use bn_reply_builds::{Outcome, TableNames, push_outcome, push_tapes};
 use std::alloc::Global;
 
 /// The text of a drive that has come to where this board is, whose cells show this, over so many steps of the machine

@@ -1,4 +1,4 @@
--- What the laws of this crate say, each the contract of a function that only names the laws below it.
+-- What the laws of this crate say, each a field of `Laws`.
 use Rattle.std.specs.Prelude.{◌≡◌, ℕ, ◌+◌, ◌*◌, ◌≤◌, List, [], length}
 use Rattle.bn_circuits.specs.declared.place.Place.{Place}
 use Rattle.bn_table.specs.Reading.{Reads}

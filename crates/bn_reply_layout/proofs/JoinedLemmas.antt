@@ -9,7 +9,7 @@ use Rattle.bn_board_spec.specs.Layouts.{Layout, elements_of, first_element, line
 use Rattle.bn_reply.proofs.PieceLemmas.{two_pieces, three_pieces}
 use Rattle.bn_reply_layout.specs.declared.bank.Bank.{Bank}
 use Rattle.bn_reply_layout.specs.Modules.{control_bank, modules_of, shape, tape_banks}
-use Rattle.bn_reply_boards_laws.specs.RunText.{elements_line}
+use Rattle.bn_reply_laws.specs.RunText.{elements_line}
 use Rattle.bn_reply_layout.specs.ModuleText.{module_line, module_lines, modules_line}
 use Rattle.bn_reply_layout.proofs.ModuleLemmas.{module_count}
 

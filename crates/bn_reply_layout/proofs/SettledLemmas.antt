@@ -11,11 +11,11 @@ use Rattle.bn_reply.specs.Answering.{AgreeInAll, HasAnswer}
 use Rattle.bn_reply.specs.Codes.{IsReplyStatus}
 use Rattle.bn_reply.specs.declared.status.Status.{Status}
 use Rattle.bn_reply.specs.declared.status.Status.TheVariants as statuses
-use Rattle.bn_reply_boards_laws.specs.Headline.{IsGiven}
-use Rattle.bn_reply_boards_laws.specs.Laws.{BoardsAreCounted}
-use Rattle.bn_reply_boards_laws.specs.Windows.{ComesTo}
-use Rattle.bn_reply_boards_laws.proofs.TellingLemmas.{same_boards}
-use Rattle.bn_reply_boards_laws.proofs.WindowLemmas.{window_settled}
+use Rattle.bn_reply_laws.specs.ToldRuns.{IsGiven}
+use Rattle.bn_reply_laws.specs.Laws.{BoardsAreCounted}
+use Rattle.bn_reply_laws.specs.Windows.{ComesTo}
+use Rattle.bn_reply_laws.proofs.TellingLemmas.{same_boards}
+use Rattle.bn_reply_laws.proofs.WindowLemmas.{window_settled}
 use Rattle.bn_reply_layout.specs.LayoutText.{layout_text}
 use Rattle.bn_reply_layout.specs.LayoutReply.{TellsLayout, LayoutIsSettled}
 

@@ -4,7 +4,7 @@ use Rattle.std.proofs.Common.{zero, suc, arith, sym, ap, subst, ◌∙◌, appen
 use Rattle.std.specs.List.{flat_map}
 use Rattle.bn_network.specs.Controls.{ControlState}
 use Rattle.bn_board_spec.specs.Layouts.{elements_of}
-use Rattle.bn_reply_boards_laws.specs.RunText.{elements_line}
+use Rattle.bn_reply_laws.specs.RunText.{elements_line}
 use Rattle.bn_reply_layout.specs.Modules.{modules_of}
 use Rattle.bn_reply_layout.specs.ModuleText.{module_line, module_lines, modules_line}
 use Rattle.bn_reply_layout.specs.ControlText.{column_line, column_lines, state_names}

@@ -13,9 +13,9 @@ use Rattle.bn_network.specs.Controls.{is_write, lines_before}
 use Rattle.bn_network.specs.Controls as control
 use Rattle.bn_network.proofs.OccurringLemmas.{order_one}
 use Rattle.bn_network.proofs.RangeLemmas.{rule_in_range}
-use Rattle.bn_control_names.specs.declared.name.StateName.{StateName}
-use Rattle.bn_control_names.specs.declared.name.StateName.TheVariants.{Begin, End, Reads, Shifts, Writes}
-use Rattle.bn_control_names.specs.Names.{listed, state_of}
+use Rattle.bn_control.specs.declared.name.StateName.{StateName}
+use Rattle.bn_control.specs.declared.name.StateName.TheVariants.{Begin, End, Reads, Shifts, Writes}
+use Rattle.bn_control.specs.Names.{listed, state_of}
 use Rattle.bn_board_spec.specs.Flats.{Flat, IsAccepted}
 use Rattle.bn_board_spec.specs.Layouts.{lines_at}
 use Rattle.bn_board_laws.proofs.ClosedLemmas.{read_off}

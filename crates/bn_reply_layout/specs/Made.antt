@@ -5,8 +5,8 @@ use Rattle.bn_bennett.specs.Translation.{Translation}
 use Rattle.bn_net.specs.declared.net.TheConstants.{MOST_ELEMENTS}
 use Rattle.bn_network.specs.Controls.{ControlState, IsNumbering}
 use Rattle.bn_board_spec.specs.Flats.{Flat}
-use Rattle.bn_control_names.specs.declared.name.StateName.{StateName}
-use Rattle.bn_control_names.specs.declared.name.StateName.TheVariants.{Begin, End, Reads, Shifts, Writes}
+use Rattle.bn_control.specs.declared.name.StateName.{StateName}
+use Rattle.bn_control.specs.declared.name.StateName.TheVariants.{Begin, End, Reads, Shifts, Writes}
 
 -- the state of the machine of quadruples in which the control reads, or into which it writes, is one of so many
 abbrev pub HasStateName : ℕ → StateName → Type 0

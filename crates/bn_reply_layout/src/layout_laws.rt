@@ -3,7 +3,7 @@ ghost use Rattle.bn_reply_layout.specs.LayoutReply.{LayoutIsSettled};
 
 use bn_board_laws::flats_are_there;
 use bn_board_spec::flats_are_one;
-use bn_reply_boards_laws::boards_are_counted;
+use bn_reply_laws::boards_are_counted;
 use bn_table::tables_are_machines;
 
 /// To all words, limits that may be asked for, and bytes `layout` has an answer, and only one.

@@ -20,10 +20,10 @@ use Rattle.bn_build_laws.specs.Builds.{Build, IsStart, start_of}
 use Rattle.bn_build_laws.specs.Runs.{EndsInWindow}
 use Rattle.bn_build_laws.proofs.FitLemmas.{final_fits}
 use Rattle.bn_build_laws.proofs.OnceLemmas.{starts_once}
-use Rattle.bn_drive_laws.specs.DriveText.{drive_exit_line}
-use Rattle.bn_reply_outcomes.specs.declared.outcome.Outcome.{Outcome}
-use Rattle.bn_reply_outcomes.specs.Outcomes.{outcome_by, outcome_line}
-use Rattle.bn_reply_outcomes.proofs.TextLemmas.{outcome_line_is}
+use Rattle.bn_reply_builds.specs.DriveText.{drive_exit_line}
+use Rattle.bn_reply_builds.specs.declared.outcome.Outcome.{Outcome}
+use Rattle.bn_reply_builds.specs.Outcomes.{outcome_by, outcome_line}
+use Rattle.bn_reply_builds.proofs.OutcomeTextLemmas.{outcome_line_is}
 use Rattle.bn_session.specs.Boards.{GrowsByFront}
 use Rattle.bn_view.specs.Modules.{IsModuleAt}
 use Rattle.bn_view.specs.Shown.{IsShown}

@@ -12,7 +12,7 @@ use Rattle.bn_board_spec.specs.Layouts.{spelled_by, spelled_config}
 use Rattle.bn_build_laws.specs.Builds.{Build, IsBuild, IsStart, build_elements, start_of}
 use Rattle.bn_build_laws.specs.Runs.{ShowsMoment}
 use Rattle.bn_build_laws.proofs.MomentLemmas.{builds-show}
-use Rattle.bn_reply_outcomes.specs.Outcomes.{drive_tape_lines}
+use Rattle.bn_reply_builds.specs.Outcomes.{drive_tape_lines}
 use Rattle.bn_reply_views.specs.ViewText.{element_line, module_line}
 use Rattle.bn_view.specs.Shown.{IsShown, moment, start}
 use Rattle.bn_view.specs.Viewed.{Finds}

@@ -23,13 +23,13 @@ use Rattle.bn_build_laws.specs.Runs.{EndsInWindow, HasLeft}
 use Rattle.bn_build_laws.proofs.ConverseLemmas.{builds-once}
 use Rattle.bn_build_laws.proofs.LeftLemmas.{builds-left}
 use Rattle.bn_build_laws.proofs.RunLemmas.{none_low}
-use Rattle.bn_drive_laws.specs.DriveText.{drive_exit_line}
+use Rattle.bn_reply_builds.specs.DriveText.{drive_exit_line}
 use Rattle.bn_view.specs.Modules.{IsModuleAt}
 use Rattle.bn_view.specs.Shown.{IsShown}
 use Rattle.bn_view.specs.Viewed.{Finds}
 use Rattle.bn_view.proofs.FoundLemmas.{begins, found-once, found-there, some_elements}
 use Rattle.bn_view.proofs.ShownLemmas.{shown-agrees}
-use Rattle.bn_reply_outcomes.proofs.OutcomeLemmas.{not_inside}
+use Rattle.bn_reply_builds.proofs.OutcomeLemmas.{not_inside}
 use Rattle.bn_reply_looks.specs.LookText.{look_text}
 use Rattle.bn_reply_looks.specs.Looking.{IsExitLine, ShowsBuild, inside, outside}
 

@@ -11,8 +11,8 @@ use Rattle.bn_network.specs.Starts.{FitsWindow, start_from}
 use Rattle.bn_board.specs.Flattened.{Flattened, origin}
 use Rattle.bn_build_laws.specs.Builds.{Build, IsBuild, IsStart, build_elements, start_of}
 use Rattle.bn_build_laws.specs.Exits.{BoardLeaves}
-use Rattle.bn_drive_laws.specs.DriveText.{drive_exit_line}
-use Rattle.bn_reply_outcomes.specs.Stopping.{HasFewSymbols}
+use Rattle.bn_reply_builds.specs.DriveText.{drive_exit_line}
+use Rattle.bn_reply_builds.specs.Stopping.{HasFewSymbols}
 use Rattle.bn_reply_looks.specs.Looking.{ShowsBuild}
 
 -- the board is that of f, to which this machine is built, and it was made at the start of c

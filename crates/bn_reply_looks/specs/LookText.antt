@@ -3,8 +3,8 @@
 use Rattle.std.specs.Prelude.{ℕ, List, [], ◌∷◌, ◌++◌, codes}
 use Rattle.bn_qtable.specs.Rows.{QuadTable}
 use Rattle.bn_reply.specs.Lines.{line}
-use Rattle.bn_drive_laws.specs.DriveText.{name_in}
-use Rattle.bn_reply_outcomes.specs.Outcomes.{drive_tape_lines}
+use Rattle.bn_reply_builds.specs.DriveText.{name_in}
+use Rattle.bn_reply_builds.specs.Outcomes.{drive_tape_lines}
 use Rattle.bn_reply_views.specs.ViewText.{element_line, module_line}
 use Rattle.bn_view.specs.declared.layers.BoardLayers.{BoardLayers}
 

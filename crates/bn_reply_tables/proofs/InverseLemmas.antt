@@ -26,7 +26,7 @@ use Rattle.bn_qtable.proofs.Passing.{no-slash, no_fault}
 use Rattle.bn_qtable.proofs.ReadingLaws.{Good, good, row-forms, no_fault_of, one_reading, reading_of}
 use Rattle.bn_qtable.proofs.RowsLemmas.{table_has_names}
 use Rattle.bn_qtable.proofs.Writing.{entries-back}
-use Rattle.bn_inverse_laws.proofs.InverseLemmas.{inverse_machine, inverse_twice}
+use Rattle.bn_erase_laws.proofs.InverseLemmas.{inverse_machine, inverse_twice}
 use Rattle.bn_circuits.specs.declared.place.Place.{Place}
 use Rattle.bn_reply.specs.Answering.{HasAnswer, IsOneAnswer}
 use Rattle.bn_reply.specs.Codes.{IsReplyStatus}

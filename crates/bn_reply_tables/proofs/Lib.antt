@@ -9,3 +9,8 @@ pub mod ClashOrNot
 pub mod ReversibleLemmas
 pub mod BennettLemmas
 pub mod InverseLemmas
+pub mod AlphabetLemmas
+pub mod NamedWordLemmas
+pub mod QuadReplyLemmas
+pub mod UniformLemmas
+pub mod WordsLemmas

@@ -5,3 +5,8 @@ pub mod MachineRun
 pub mod ReversibleReply
 pub mod BennettReply
 pub mod InverseReply
+pub mod NamedWords
+pub mod QuadReply
+pub mod WordsReply
+pub mod UniformReply
+pub mod Opened

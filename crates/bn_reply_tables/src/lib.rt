@@ -1,5 +1,5 @@
-//! The replies of the commands on one table: `check`, `machine`, `reversible`, `bennett`,
-//! `inverse` and `standard`.
+//! The replies of the commands on one table: `check`, `machine`, `reversible`, `bennett`, `inverse` and `standard`;
+//! and the opening of a table of quadruples and of words on its tapes, for the commands that take them.
 #![tactic(auto)]
 
 mod bennett;
@@ -7,13 +7,21 @@ mod check;
 mod inverse;
 mod machine;
 mod machine_run;
+mod opening;
 mod reversible;
 mod standard;
+mod tape_names;
+mod uniform;
+mod words;
 
 pub use bennett::{bennett_has_one_reply, reply_bennett};
 pub use check::{check_has_one_reply, reply_check};
 pub use inverse::{inverse_reply_laws, reply_inverse};
 pub use machine::{machine_has_one_reply, reply_machine};
 pub use machine_run::letter_at;
+pub use opening::{OpenedQuads, foreign_on_tape, open_quads};
 pub use reversible::{quad_fault_text, reply_reversible, reversible_has_one_reply};
 pub use standard::{reply_standard, standard_has_one_reply};
+pub use tape_names::{Spelling, TapeNames};
+pub use uniform::{OpenedUniform, open_uniform};
+pub use words::{SpelledWord, SpelledWords, spell_words};

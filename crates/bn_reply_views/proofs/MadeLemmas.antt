@@ -11,11 +11,11 @@ use Rattle.bn_bennett.specs.Translation.{IsTranslation, Translation}
 use Rattle.bn_board_spec.specs.Layouts.{IsExit, Layout}
 use Rattle.bn_board_spec.specs.Flats.{Flat, IsAccepted, flat_start}
 use Rattle.bn_board_spec.specs.LayoutLaws.{ExitsAreOne}
-use Rattle.bn_board_laws.specs.HeadlineLaws.{BoardsRunToTheirExit}
+use Rattle.bn_board_laws.specs.RunLaws.{BoardsRunToTheirExit}
 use Rattle.bn_board.specs.Flattened.{Flattened, IsSameBoard, origin, origin_by}
 use Rattle.bn_reply.specs.declared.status.Status.TheVariants as statuses
-use Rattle.bn_reply_boards_laws.specs.Laws.{ExitsAreNamed}
-use Rattle.bn_reply_boards_laws.specs.RunReply.{board_after}
+use Rattle.bn_reply_laws.specs.Laws.{ExitsAreNamed}
+use Rattle.bn_reply_laws.specs.RunReply.{board_after}
 use Rattle.bn_reply_boards.specs.Opened.{IsMade}
 use Rattle.bn_reply_boards.specs.Shown.{HasNames}
 use Rattle.bn_reply_boards.proofs.NameLemmas.{exit_names}

@@ -27,13 +27,13 @@ use Rattle.bn_reply.specs.Answering.{AgreeInAll, HasAnswer, IsOneAnswer, IsSettl
 use Rattle.bn_reply.specs.declared.status.Status.{Status}
 use Rattle.bn_reply.specs.TableReply.{ReadsStandard}
 use Rattle.bn_reply.proofs.TableLemmas.{reads_table}
-use Rattle.bn_reply_boards_laws.specs.Headline.{IsGiven}
-use Rattle.bn_reply_boards_laws.specs.Laws.{BoardsAreCounted}
-use Rattle.bn_reply_boards_laws.specs.RunReply.{board_after}
+use Rattle.bn_reply_laws.specs.ToldRuns.{IsGiven}
+use Rattle.bn_reply_laws.specs.Laws.{BoardsAreCounted}
+use Rattle.bn_reply_laws.specs.RunReply.{board_after}
 use Rattle.bn_network.specs.Limits.{AreSmall}
-use Rattle.bn_reply_boards_laws.specs.Windows.{ComesTo, WindowReplies}
-use Rattle.bn_reply_boards_laws.proofs.TellingLemmas.{after_same, same_boards}
-use Rattle.bn_reply_boards_laws.proofs.WindowLemmas.{given_accepted, window_settled}
+use Rattle.bn_reply_laws.specs.Windows.{ComesTo, WindowReplies}
+use Rattle.bn_reply_laws.proofs.TellingLemmas.{after_same, same_boards}
+use Rattle.bn_reply_laws.proofs.WindowLemmas.{given_accepted, window_settled}
 use Rattle.bn_view.specs.Laws.{ViewsAreOne, ViewsAreThere}
 use Rattle.bn_view.specs.Viewed.{IsViewOf}
 use Rattle.bn_reply_views.specs.Showing.{TellsLayers}

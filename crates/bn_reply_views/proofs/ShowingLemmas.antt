@@ -19,10 +19,10 @@ use Rattle.bn_board_spec.specs.declared.exit.Exit.TheVariants.{End, Inside, Stuc
 use Rattle.bn_board_spec.specs.Layouts.{IsExit, Layout, moment_at, spelled_by}
 use Rattle.bn_board_spec.specs.Flats.{Flat, IsAccepted, flat_start}
 use Rattle.bn_board_spec.specs.LayoutLaws.{ExitsAreOne}
-use Rattle.bn_board_laws.specs.HeadlineLaws.{BoardsRunToTheirExit}
+use Rattle.bn_board_laws.specs.RunLaws.{BoardsRunToTheirExit}
 use Rattle.bn_board.specs.Flattened.{Flattened, IsBoardKept, origin, origin_by}
-use Rattle.bn_reply_boards_laws.specs.RunReply.{board_after}
-use Rattle.bn_reply_boards_laws.specs.RunText.{exit_line, stuck_line, state_text, tape_lines}
+use Rattle.bn_reply_laws.specs.RunReply.{board_after}
+use Rattle.bn_reply_laws.specs.RunText.{exit_line, stuck_line, state_text, tape_lines}
 use Rattle.bn_reply_boards.specs.Opened.{IsMade}
 use Rattle.bn_reply_boards.specs.Shown.{HasNames}
 use Rattle.bn_reply_boards.proofs.NameLemmas.{exit_names}

@@ -4,10 +4,10 @@ use Rattle.bn_network.proofs.ExistingLemmas.{have-entries}
 use Rattle.bn_rsm.proofs.CostLemmas.{costs-bounded}
 use Rattle.bn_network_laws.proofs.FirstLemmas.{first-moment}
 use Rattle.bn_board_spec.proofs.ExitLemmas.{exits-one}
-use Rattle.bn_reply_boards_laws.proofs.ClosedLemmas.{counted}
+use Rattle.bn_reply_laws.proofs.ClosedLemmas.{counted}
 use Rattle.bn_board_laws.proofs.ClosedLemmas.{flats_one, flats_there, have_moments, read_off, run_to_exit, stand}
 use Rattle.bn_board_laws.proofs.ClosedLemmas.{uniform}
-use Rattle.bn_reply_boards_laws.proofs.RunLemmas.{exits-named}
+use Rattle.bn_reply_laws.proofs.RunLemmas.{exits-named}
 use Rattle.bn_view.specs.Laws.{ShownIsFound, ViewsAreOne, ViewsAreThere, ViewsStand}
 use Rattle.bn_view.proofs.OneLemmas.{views-one, views-there}
 use Rattle.bn_view.proofs.StandingLemmas.{shown-found, views-stand}

@@ -20,13 +20,13 @@ use Rattle.bn_reply.specs.Answering.{AgreeInAll, HasAnswer}
 use Rattle.bn_reply.specs.Codes.{IsReplyStatus}
 use Rattle.bn_reply.specs.declared.status.Status.{Status}
 use Rattle.bn_reply.specs.declared.status.Status.TheVariants as statuses
-use Rattle.bn_reply_boards_laws.specs.Headline.{IsGiven}
-use Rattle.bn_reply_boards_laws.specs.Laws.{BoardsAreCounted, ExitsAreNamed}
-use Rattle.bn_reply_boards_laws.specs.RunReply.{board_after}
-use Rattle.bn_reply_boards_laws.specs.RunText.{tape_lines}
-use Rattle.bn_reply_boards_laws.specs.Windows.{ComesTo}
-use Rattle.bn_reply_boards_laws.proofs.TellingLemmas.{after_same, exit_same, moment_there, same_boards}
-use Rattle.bn_reply_boards_laws.proofs.WindowLemmas.{given_accepted, window_settled}
+use Rattle.bn_reply_laws.specs.ToldRuns.{IsGiven}
+use Rattle.bn_reply_laws.specs.Laws.{BoardsAreCounted, ExitsAreNamed}
+use Rattle.bn_reply_laws.specs.RunReply.{board_after}
+use Rattle.bn_reply_laws.specs.RunText.{tape_lines}
+use Rattle.bn_reply_laws.specs.Windows.{ComesTo}
+use Rattle.bn_reply_laws.proofs.TellingLemmas.{after_same, exit_same, moment_there, same_boards}
+use Rattle.bn_reply_laws.proofs.WindowLemmas.{given_accepted, window_settled}
 use Rattle.bn_view.specs.Shown.{IsShown}
 use Rattle.bn_view.specs.Modules.{IsModuleAt}
 use Rattle.bn_view.specs.Viewed.{Comes, IsViewOf}

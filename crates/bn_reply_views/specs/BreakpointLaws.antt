@@ -10,7 +10,7 @@ use Rattle.bn_table.specs.Rows.{Named}
 use Rattle.bn_bennett.specs.Translation.{Translation}
 use Rattle.bn_board_spec.specs.Flats.{Flat, IsAccepted, IsFlatOf, flat_start}
 use Rattle.bn_board.specs.Flattened.{Flattened, IsReached}
-use Rattle.bn_reply_boards_laws.specs.RunReply.{board_after}
+use Rattle.bn_reply_laws.specs.RunReply.{board_after}
 use Rattle.bn_session.specs.Breakpoints.{Breakpoint, some_holds}
 use Rattle.bn_session.specs.Laws.{IsOnRun}
 use Rattle.bn_session.specs.Plays.{Session, place_line}

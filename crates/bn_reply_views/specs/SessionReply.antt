@@ -10,7 +10,7 @@ use Rattle.bn_board_spec.specs.Flats.{Flat, flat_start}
 use Rattle.bn_reply.specs.Answering.{IsSettled}
 use Rattle.bn_reply.specs.declared.status.Status.{Status}
 use Rattle.bn_network.specs.Limits.{AreSmall}
-use Rattle.bn_reply_boards_laws.specs.Windows.{WindowReplies}
+use Rattle.bn_reply_laws.specs.Windows.{WindowReplies}
 use Rattle.bn_session.specs.Plays.{Plays, Session, session}
 use Rattle.bn_session.specs.declared.command.Command.{Command}
 use Rattle.bn_reply_views.specs.ScriptReply.{CutReplies, ScriptReplies}

@@ -1,13 +1,13 @@
--- What the laws of this crate say, each the contract of a function that only names the laws below it.
+-- What the laws of this crate say, each a field of `Laws`.
 use Rattle.std.specs.Prelude.{◌≡◌, ℕ, List, ◌++◌}
 use Rattle.bn_circuits.specs.declared.place.Place.{Place}
 use Rattle.bn_machine.specs.Outcome.{Limits}
 use Rattle.bn_netlist_laws.specs.Spelling.{Spelling, Spelled}
 use Rattle.bn_netlist_laws.specs.declared.version.Version.TheVariants.{Two}
-use Rattle.bn_reply_circuits_laws.specs.CircuitReply.{StepReplies}
+use Rattle.bn_reply_laws.specs.CircuitReply.{StepReplies}
 use Rattle.bn_reply.specs.declared.status.Status.{Status}
 use Rattle.bn_reply.specs.declared.status.Status.TheVariants.{Done}
-use Rattle.bn_reply_boards_laws.specs.CompileReply.{CompileReplies}
+use Rattle.bn_reply_laws.specs.CompileReply.{CompileReplies}
 use Rattle.bn_reply_views.specs.ViewReply.{ViewReplies}
 use Rattle.bn_reply_views.specs.ViewText.{element_line}
 

@@ -9,9 +9,9 @@ use Rattle.bn_board_spec.specs.Flats.{Flat}
 use Rattle.bn_reply.specs.Answering.{IsSettled}
 use Rattle.bn_reply.specs.declared.status.Status.{Status}
 use Rattle.bn_reply.specs.declared.status.Status.TheVariants.{Done}
-use Rattle.bn_reply_boards_laws.specs.RunReply.{board_after}
+use Rattle.bn_reply_laws.specs.RunReply.{board_after}
 use Rattle.bn_network.specs.Limits.{AreSmall}
-use Rattle.bn_reply_boards_laws.specs.Windows.{WindowReplies}
+use Rattle.bn_reply_laws.specs.Windows.{WindowReplies}
 use Rattle.bn_view.specs.Viewed.{IsViewOf}
 use Rattle.bn_view.specs.declared.layers.Layers.{Layers}
 use Rattle.bn_reply_views.specs.ViewText.{view_text}

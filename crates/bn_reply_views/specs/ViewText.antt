@@ -15,7 +15,7 @@ use Rattle.bn_bennett.specs.declared.translated.MachineState.TheVariants.{AtStat
 use Rattle.bn_board_spec.specs.Flats.{Flat}
 use Rattle.bn_reply.specs.Lines.{line, position_text}
 use Rattle.bn_reply_boards.specs.LineNames.{cell_line_text, control_line_text}
-use Rattle.bn_reply_boards_laws.specs.RunText.{exit_line, tape_lines}
+use Rattle.bn_reply_laws.specs.RunText.{exit_line, tape_lines}
 use Rattle.bn_view.specs.declared.layers.Layers.{Layers}
 use Rattle.bn_view.specs.declared.layers.ModuleAt.{ModuleAt}
 use Rattle.bn_view.specs.declared.layers.ModuleAt.TheVariants.{ControlLine, ControlInside}

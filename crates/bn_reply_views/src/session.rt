@@ -5,7 +5,7 @@ ghost use Rattle.bn_network.specs.Limits.{AreSmall};
 ghost use Rattle.bn_assembly.specs.Assembled.{limits_of};
 ghost use Rattle.bn_machine.specs.Outcome.{Limits};
 ghost use Rattle.bn_board_spec.specs.Flats.{Flat, flat_start};
-ghost use Rattle.bn_reply_boards_laws.specs.Windows.{WindowReplies};
+ghost use Rattle.bn_reply_laws.specs.Windows.{WindowReplies};
 ghost use Rattle.bn_view.specs.Viewed.{IsBoardFor};
 ghost use Rattle.bn_reply_views.specs.SessionReply.{IsAnswerTo, SessionReplies, TellsSession};
 ghost use Rattle.bn_reply_views.specs.Viewing.{MayShow};

@@ -2,7 +2,7 @@
 ghost use Rattle.bn_reply_views.specs.ViewLaws.{ViewsShowSteps};
 ghost use Rattle.bn_reply_views.specs.ViewReply.{ViewIsSettled};
 
-use bn_reply_circuits_laws::circuits_have_one_reply;
+use bn_reply_laws::circuits_have_one_reply;
 use bn_table::tables_are_machines;
 use bn_view::views_are_one;
 

@@ -10,7 +10,7 @@ ghost use Rattle.bn_reply.specs.Fronts.{GrewInPart};
 ghost use Rattle.bn_reply.specs.Lines.{line};
 ghost use Rattle.bn_reply_boards.specs.LineNames.{AreFew, counts_in};
 ghost use Rattle.bn_reply_boards.specs.Shown.{HasNames};
-ghost use Rattle.bn_reply_boards_laws.specs.RunText.{exit_line};
+ghost use Rattle.bn_reply_laws.specs.RunText.{exit_line};
 ghost use Rattle.bn_reply_views.specs.ViewText.{cell_text, element_line, machine_line, machine_text, module_line};
 ghost use Rattle.bn_reply_views.specs.ViewText.{stage_text, view_text};
 ghost use Rattle.bn_reply_views.specs.Showing.{CanBeWritten, IsNamedState};

@@ -10,16 +10,16 @@ use Rattle.bn_net.specs.declared.net.TheConstants.{MOST_ELEMENTS}
 use Rattle.bn_table.specs.Rows.{Named}
 use Rattle.bn_board_spec.specs.Boards.{size}
 use Rattle.bn_assembly.specs.Widening.{IsEnd, IsWhole, first_window, number_at}
-use Rattle.bn_windows_laws.specs.Searches.{Widens}
-use Rattle.bn_windows_laws.specs.Laws.{IsOnTheWay}
-use Rattle.bn_windows_laws.specs.AutoReply.{AutoIsSettled, MakeRounds}
-use Rattle.bn_windows_laws.specs.AutoLaws.{RoundsBeginAnswers}
-use Rattle.bn_windows_laws.specs.FoundHeadline.{IsWordGiven}
-use Rattle.bn_windows_laws.proofs.EndLemmas.{by_end, ends-four}
-use Rattle.bn_windows_laws.proofs.SizeLemmas.{numbers-stay_low}
-use Rattle.bn_windows_laws.proofs.SearchLemmas.{first_on_way, rounds_short, stays_on_way}
-use Rattle.bn_windows_laws.proofs.RoundLemmas.{Boards, fits_table, has_board, leaves_outside, rounds_search, standard}
-use Rattle.bn_windows_laws.proofs.AutoLemmas.{auto_searched}
+use Rattle.bn_headline.specs.Searches.{Widens}
+use Rattle.bn_headline.specs.WindowLaws.{IsOnTheWay}
+use Rattle.bn_headline.specs.AutoReply.{AutoIsSettled, MakeRounds}
+use Rattle.bn_headline.specs.AutoLaws.{RoundsBeginAnswers}
+use Rattle.bn_headline.specs.FoundHeadline.{IsWordGiven}
+use Rattle.bn_headline.proofs.EndLemmas.{by_end, ends-four}
+use Rattle.bn_headline.proofs.SizeLemmas.{numbers-stay_low}
+use Rattle.bn_headline.proofs.SearchLemmas.{first_on_way, rounds_short, stays_on_way}
+use Rattle.bn_headline.proofs.RoundLemmas.{Boards, fits_table, has_board, leaves_outside, rounds_search, standard}
+use Rattle.bn_headline.proofs.AutoLemmas.{auto_searched}
 use Rattle.bn_reply_windows.specs.Rounds.{LeavesBy}
 use Rattle.bn_reply_windows.specs.Laws.{GoesOn, MayWiden, RoundsBeginSearches, RoundsGoOn}
 

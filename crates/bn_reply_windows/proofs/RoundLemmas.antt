@@ -14,7 +14,7 @@ use Rattle.bn_reply.specs.declared.reply.Reply.{Reply}
 use Rattle.bn_reply.specs.declared.status.Status.{Status}
 use Rattle.bn_reply_boards.specs.Running.{IsAnswered}
 use Rattle.bn_assembly.specs.Widening.{first_window, widened}
-use Rattle.bn_windows_laws.specs.AutoReply.{EndReplies, IsRound, MakeRounds, SearchReplies}
+use Rattle.bn_headline.specs.AutoReply.{EndReplies, IsRound, MakeRounds, SearchReplies}
 use Rattle.bn_reply_windows.specs.Rounds.{HasCome, LeavesBy}
 use Rattle.bn_reply_windows.specs.Laws.{BeginsSearch}
 

@@ -5,8 +5,8 @@ use Rattle.bn_lists.specs.declared.memory.NoMemory.{NoMemory}
 use Rattle.bn_reply.specs.Replying.{IsReplied}
 use Rattle.bn_reply.specs.declared.reply.Reply.{Reply}
 use Rattle.bn_reply.specs.declared.status.Status.TheVariants as statuses
-use Rattle.bn_windows_laws.specs.AutoReply.{AutoReplies}
-use Rattle.bn_windows_laws.specs.AutoLaws.{AutosEndInside, AutosTellFindings, AutosTellPlaces}
+use Rattle.bn_headline.specs.AutoReply.{AutoReplies}
+use Rattle.bn_headline.specs.AutoLaws.{AutosEndInside, AutosTellFindings, AutosTellPlaces}
 use Rattle.bn_reply_windows.specs.Told.{HearsSearch, TellsSearch}
 
 module _ (bytes letters : List ℕ) (told heard : Option (List Place)) where

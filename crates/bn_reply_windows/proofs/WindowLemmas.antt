@@ -20,16 +20,16 @@ use Rattle.bn_reply.specs.Replying.{IsUnfinished, told_some, untold}
 use Rattle.bn_reply.specs.declared.reply.Reply.{Reply}
 use Rattle.bn_reply.specs.declared.status.Status.{Status}
 use Rattle.bn_reply.specs.declared.status.Status.TheVariants as statuses
-use Rattle.bn_reply_boards_laws.specs.Windows.{ComesTo}
-use Rattle.bn_reply_boards_laws.specs.RunReply.{budget, reached, exit_status}
-use Rattle.bn_reply_boards_laws.specs.RunText.{run_text}
-use Rattle.bn_reply_boards_laws.specs.Laws.{ExitsAreNamed, MomentsAreCounted, found_text}
-use Rattle.bn_reply_boards_laws.proofs.RunLemmas.{named_of}
-use Rattle.bn_reply_boards_laws.proofs.WindowLemmas.{given_accepted}
+use Rattle.bn_reply_laws.specs.Windows.{ComesTo}
+use Rattle.bn_reply_laws.specs.RunReply.{budget, reached, exit_status}
+use Rattle.bn_reply_laws.specs.RunText.{run_text}
+use Rattle.bn_reply_laws.specs.Laws.{ExitsAreNamed, MomentsAreCounted, found_text}
+use Rattle.bn_reply_laws.proofs.RunLemmas.{named_of}
+use Rattle.bn_reply_laws.proofs.WindowLemmas.{given_accepted}
 use Rattle.bn_reply_boards.specs.Opened.{IsLarge}
 use Rattle.bn_reply_boards.specs.Running.{HasRun}
 use Rattle.bn_reply_boards.proofs.RunLemmas.{found_tells}
-use Rattle.bn_windows_laws.specs.AutoReply.{EndReplies, found, found_line, large}
+use Rattle.bn_headline.specs.AutoReply.{EndReplies, found, found_line, large}
 use Rattle.bn_reply_windows.specs.Asked.{IsAsked}
 use Rattle.bn_reply_windows.specs.Rounds.{IsRoundOf, IsRun, LeavesBy, RanBy, TellsEnd}
 use Rattle.bn_reply_windows.specs.declared.round.Round.{Round}

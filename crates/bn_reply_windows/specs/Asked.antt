@@ -5,7 +5,7 @@ use Rattle.bn_bennett.specs.Translation.{Translation, IsTranslation}
 use Rattle.bn_control.specs.Controlled.{IsWithinLimits}
 use Rattle.bn_assembly.specs.Assembled.{IsWordOf}
 use Rattle.bn_reply_boards.specs.Opened.{IsMachineAsked}
-use Rattle.bn_windows_laws.specs.FoundHeadline.{IsWordGiven}
+use Rattle.bn_headline.specs.FoundHeadline.{IsWordGiven}
 
 -- some bytes and letters are opened as this table, this translation and these symbols
 abbrev pub IsRead : Named → Translation → List ℕ → Type 0

@@ -1,4 +1,4 @@
--- What the laws of this crate say, each the contract of a function that only names the laws below it.
+-- What the laws of this crate say, each a field of `Laws`.
 use Rattle.std.specs.Prelude.{◌≡◌, ℕ, ◌+◌, ◌≤◌, List, ◌++◌, length}
 use Rattle.bn_circuits.specs.declared.place.Place.{Place}
 use Rattle.bn_machine.specs.Machine.{Program}
@@ -9,8 +9,8 @@ use Rattle.bn_table.specs.Rows.{Named}
 use Rattle.bn_network.specs.Limits.{AreSmall}
 use Rattle.bn_reply.specs.declared.status.Status.{Status}
 use Rattle.bn_assembly.specs.Widening.{IsEnd, first_window, number_at}
-use Rattle.bn_windows_laws.specs.AutoReply.{MakeRounds, SearchReplies}
-use Rattle.bn_windows_laws.specs.FoundHeadline.{IsWordGiven}
+use Rattle.bn_headline.specs.AutoReply.{MakeRounds, SearchReplies}
+use Rattle.bn_headline.specs.FoundHeadline.{IsWordGiven}
 use Rattle.bn_reply_windows.specs.Rounds.{LeavesBy}
 
 -- where the signal of the board in this window leaves by an end of a tape, this end may be doubled

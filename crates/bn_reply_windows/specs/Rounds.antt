@@ -14,11 +14,11 @@ use Rattle.bn_lists.specs.declared.memory.NoMemory.{NoMemory}
 use Rattle.bn_reply.specs.Replying.{IsReplied, IsUnfinished}
 use Rattle.bn_reply.specs.declared.status.Status.{Status}
 use Rattle.bn_reply.specs.declared.status.Status.TheVariants as statuses
-use Rattle.bn_reply_boards_laws.specs.Windows.{ComesTo}
-use Rattle.bn_reply_boards_laws.specs.RunReply.{budget, reached}
+use Rattle.bn_reply_laws.specs.Windows.{ComesTo}
+use Rattle.bn_reply_laws.specs.RunReply.{budget, reached}
 use Rattle.bn_reply_boards.specs.Running.{TellsFound}
 use Rattle.bn_assembly.specs.Widening.{first_window}
-use Rattle.bn_windows_laws.specs.AutoReply.{MakeRounds, found_line}
+use Rattle.bn_headline.specs.AutoReply.{MakeRounds, found_line}
 use Rattle.bn_reply_windows.specs.declared.round.Round.{Round}
 use Rattle.bn_reply_windows.specs.declared.round.Round.TheVariants.{Ended, Short}
 

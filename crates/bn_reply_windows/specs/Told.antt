@@ -4,9 +4,9 @@ use Rattle.bn_circuits.specs.declared.place.Place.{Place}
 use Rattle.bn_net.specs.Watching.{Hears}
 use Rattle.bn_table.specs.Rows.{Named}
 use Rattle.bn_reply.specs.declared.status.Status.{Status}
-use Rattle.bn_windows_laws.specs.Searches.{Finding, HasFinding}
-use Rattle.bn_windows_laws.specs.AutoLaws.{TellsPlaces}
-use Rattle.bn_windows_laws.specs.FoundHeadline.{IsWordGiven, TellsFinding}
+use Rattle.bn_headline.specs.Searches.{Finding, HasFinding}
+use Rattle.bn_headline.specs.AutoLaws.{TellsPlaces}
+use Rattle.bn_headline.specs.FoundHeadline.{IsWordGiven, TellsFinding}
 
 -- Whatever the search by the machine's own bounded runs finds for the table and the word, the answer tells it.
 abbrev pub TellsSearch : List ℕ → List ℕ → Status → List ℕ → Type 0

@@ -3,7 +3,7 @@
 ghost use Rattle.std.specs.Prelude.{◌≢◌, IfOk, OnErr};
 ghost use Rattle.bn_reply.specs.Replying.{IsReplied, IsUnfinished};
 ghost use Rattle.bn_reply_boards.specs.Running.{IsAnswered};
-ghost use Rattle.bn_windows_laws.specs.AutoReply.{AutoReplies, FindReplies};
+ghost use Rattle.bn_headline.specs.AutoReply.{AutoReplies, FindReplies};
 ghost use Rattle.bn_reply_windows.specs.Asked.{IsRead};
 ghost use Rattle.bn_reply_windows.specs.Told.{HearsSearch, TellsSearch};
 

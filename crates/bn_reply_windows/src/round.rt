@@ -6,10 +6,10 @@ ghost use Rattle.bn_assembly.specs.Assembled.{limits_of};
 ghost use Rattle.bn_board_spec.specs.Flats.{Flat};
 ghost use Rattle.bn_board_spec.specs.Layouts.{IsExit, symbol_count_at};
 ghost use Rattle.bn_board_spec.specs.declared.exit.Exit.{Exit};
-ghost use Rattle.bn_reply_boards_laws.specs.RunText.{run_text};
+ghost use Rattle.bn_reply_laws.specs.RunText.{run_text};
 ghost use Rattle.bn_reply_boards.specs.Running.{IsAtStart, end_by};
 ghost use Rattle.bn_reply_boards.specs.Shown.{HasNames, IsShown};
-ghost use Rattle.bn_windows_laws.specs.AutoReply.{EndReplies, found_line};
+ghost use Rattle.bn_headline.specs.AutoReply.{EndReplies, found_line};
 ghost use Rattle.bn_reply_windows.specs.Asked.{IsAsked, IsReady};
 ghost use Rattle.bn_reply_windows.specs.Rounds.{IsRun, LeavesBy, RanBy, TellsEnd};
 

@@ -1,7 +1,7 @@
 //! The search for a window, round by round.
 
 ghost use Rattle.std.specs.Prelude.{◌≡◌};
-ghost use Rattle.bn_windows_laws.specs.AutoReply.{SearchReplies};
+ghost use Rattle.bn_headline.specs.AutoReply.{SearchReplies};
 ghost use Rattle.bn_reply_boards.specs.Running.{IsAnswered};
 ghost use Rattle.bn_reply_windows.specs.Asked.{IsAsked, IsReady};
 

@@ -15,15 +15,15 @@ use Rattle.bn_reply.specs.declared.status.Status.{Status}
 use Rattle.bn_reply.specs.declared.status.Status.TheVariants.{Usage, Size, ReadFault, WriteFault, NoMemory}
 use Rattle.bn_reply.proofs.CountLemmas.{counts_nothing}
 use Rattle.bn_reply_boards.proofs.ClosedLemmas.{tells}
-use Rattle.bn_reply_boards_laws.specs.Headline.{TellsHeadline}
-use Rattle.bn_headline_laws.specs.CircuitHeadline.{CircuitHeadline}
-use Rattle.bn_headline_laws.specs.Generated.{GeneratedHeadline}
-use Rattle.bn_headline_laws.specs.MachineHeadline.{MachineHeadline, MachineHeadlineWithin}
-use Rattle.bn_headline_laws.proofs.ClosedLemmas.{circuit_told}
-use Rattle.bn_windows_laws.specs.FoundHeadline.{TellsFoundWindow}
-use Rattle.bn_headline_laws.specs.FoundCircuitHeadline.{FoundCircuitHeadline}
-use Rattle.bn_headline_laws.specs.FoundMachineHeadline.{FoundMachineHeadline}
-use Rattle.bn_headline_laws.proofs.FoundMachineLemmas.{found-tells_machine}
+use Rattle.bn_reply_laws.specs.ToldRuns.{TellsHeadline}
+use Rattle.bn_headline.specs.CircuitHeadline.{CircuitHeadline}
+use Rattle.bn_headline.specs.Generated.{GeneratedHeadline}
+use Rattle.bn_headline.specs.MachineHeadline.{MachineHeadline, MachineHeadlineWithin}
+use Rattle.bn_headline.proofs.ClosedLemmas.{circuit_told}
+use Rattle.bn_headline.specs.FoundHeadline.{TellsFoundWindow}
+use Rattle.bn_headline.specs.FoundCircuitHeadline.{FoundCircuitHeadline}
+use Rattle.bn_headline.specs.FoundMachineHeadline.{FoundMachineHeadline}
+use Rattle.bn_headline.proofs.FoundMachineLemmas.{found-tells_machine}
 use Rattle.bn_top.specs.Answers.{Replies, usage_text}
 use Rattle.bn_top.specs.Clauses.{CallEnds, ClausesApart}
 use Rattle.bn_top.specs.CommandLaws.{TellsCommands}

@@ -1,5 +1,5 @@
 -- The laws of this crate with those below put in.
-use Rattle.bn_headline_laws.proofs.ClosedLemmas.{generated_tell, replies_tell}
+use Rattle.bn_headline.proofs.ClosedLemmas.{generated_tell, replies_tell}
 use Rattle.bn_reply_windows.proofs.ClosedLemmas.{found_told}
 use Rattle.bn_words.proofs.DecideLemmas.{words_have_form_or_none}
 use Rattle.bn_top.specs.Clauses.{ClausesGiveEnds}

@@ -25,7 +25,7 @@ use Rattle.bn_reply.specs.Streams.{AnswerEnds, StreamEnds}
 use Rattle.bn_reply.proofs.ReplyLemmas.{given_ends, silent_ends}
 use Rattle.bn_reply_erase.proofs.SettledLemmas.{erase_settled, erase_run_settled}
 use Rattle.bn_reply_boards.proofs.GenerateLemmas.{generate_settled}
-use Rattle.bn_reply_circuits_laws.proofs.SettledLemmas.{back_settled, migrate_settled, step_settled}
+use Rattle.bn_reply_laws.proofs.SettledLemmas.{back_settled, migrate_settled, step_settled}
 use Rattle.bn_reply_circuits.proofs.MirrorLemmas.{mirror_settled}
 use Rattle.bn_reply_circuits.proofs.FarmReplyLemmas.{farm-settled}
 use Rattle.bn_reply_circuits.proofs.RealiseLemmas.{realise_settled}
@@ -36,7 +36,7 @@ use Rattle.bn_reply_tables.proofs.CheckLemmas.{check_settled}
 use Rattle.bn_reply_tables.proofs.InverseLemmas.{inverse_settled}
 use Rattle.bn_reply_tables.proofs.MachineLemmas.{machine_settled}
 use Rattle.bn_reply_tables.proofs.ReversibleLemmas.{reversible_settled}
-use Rattle.bn_reply_boards_laws.proofs.ClosedLemmas.{compile_settled, run_settled}
+use Rattle.bn_reply_laws.proofs.ClosedLemmas.{compile_settled, run_settled}
 use Rattle.bn_reply_traces.proofs.MomentsSettled.{moments_are_settled}
 use Rattle.bn_reply_traces.proofs.TraceLemmas.{all_settled}
 use Rattle.bn_reply_builds.proofs.SettledLemmas.{build_is_settled}

@@ -6,9 +6,9 @@ use Rattle.bn_words.specs.Requests.{HasForm, RunAuto}
 use Rattle.bn_words.proofs.FormLemmas.{one_form}
 use Rattle.bn_reply.specs.declared.limits.TheConstants.{MOST_INPUT_BYTES}
 use Rattle.bn_reply.specs.declared.status.Status.{Status}
-use Rattle.bn_windows_laws.specs.AutoLaws.{AnswersTellFoundWindow, TookAuto}
-use Rattle.bn_windows_laws.specs.AutoReply.{AutoReplies}
-use Rattle.bn_windows_laws.specs.FoundHeadline.{TellsFoundWindow, auto_words}
+use Rattle.bn_headline.specs.AutoLaws.{AnswersTellFoundWindow, TookAuto}
+use Rattle.bn_headline.specs.AutoReply.{AutoReplies}
+use Rattle.bn_headline.specs.FoundHeadline.{TellsFoundWindow, auto_words}
 use Rattle.bn_top.specs.Answers.{Answers, no_form, unread, too_long, replied, Replies}
 use Rattle.bn_top.specs.FoundLaws.{AnswersTellFound}
 use Rattle.bn_top.specs.Told.{IsAnswered}

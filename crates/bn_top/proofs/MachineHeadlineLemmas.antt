@@ -2,13 +2,13 @@
 use Rattle.std.specs.Prelude.{ℕ, List, Option}
 use Rattle.bn_circuits.specs.declared.place.Place.{Place}
 use Rattle.bn_reply.specs.declared.status.Status.{Status}
-use Rattle.bn_reply_boards_laws.specs.Laws.{TookReplies}
+use Rattle.bn_reply_laws.specs.Laws.{TookReplies}
 use Rattle.bn_top.specs.Told.{IsAnswered}
 use Rattle.bn_top.proofs.EndLemmas.{by_told}
 use Rattle.bn_top.proofs.HeadlineLemmas.{asked_reply}
-use Rattle.bn_headline_laws.specs.Generated.{GeneratedHeadline}
-use Rattle.bn_headline_laws.specs.MachineHeadline.{MachineHeadline, MachineHeadlineWithin}
-use Rattle.bn_headline_laws.specs.Laws.{GeneratedTellsMachine, RepliesTellMachine}
+use Rattle.bn_headline.specs.Generated.{GeneratedHeadline}
+use Rattle.bn_headline.specs.MachineHeadline.{MachineHeadline, MachineHeadlineWithin}
+use Rattle.bn_headline.specs.HeadlineLaws.{GeneratedTellsMachine, RepliesTellMachine}
 use Rattle.bn_top.specs.HeadlineLaws.{AnswersTellMachine, GeneratedClauseTells}
 
 -- an answer that was given whole is the reply to whatever run the words ask for

@@ -7,16 +7,16 @@ use Rattle.bn_words.specs.Requests.{Step, Back, Check, Machine, Trace, Moments, 
 use Rattle.bn_words.specs.Requests.{Bennett, Realise, Standard}
 use Rattle.bn_words.specs.Requests.{Build, Compile, Drive, Layout, Run, RunAuto, View, Session, Look, Play, Plan}
 use Rattle.bn_words.specs.Requests.{Migrate, Mirror, Farm, Generate, Erase, EraseRun}
-use Rattle.bn_reply_boards_laws.specs.CompileReply.{CompileReplies}
+use Rattle.bn_reply_laws.specs.CompileReply.{CompileReplies}
 use Rattle.bn_reply.specs.declared.limits.TheConstants.{MOST_INPUT_BYTES}
-use Rattle.bn_reply_boards_laws.specs.RunReply.{RunReplies}
-use Rattle.bn_windows_laws.specs.AutoReply.{AutoReplies}
+use Rattle.bn_reply_laws.specs.RunReply.{RunReplies}
+use Rattle.bn_headline.specs.AutoReply.{AutoReplies}
 use Rattle.bn_reply_erase.specs.EraseReply.{EraseReplies, EraseRunReplies}
 use Rattle.bn_reply_boards.specs.GenerateReply.{GenerateReplies}
-use Rattle.bn_reply_circuits_laws.specs.CircuitReply.{BackReplies, StepReplies}
+use Rattle.bn_reply_laws.specs.CircuitReply.{BackReplies, StepReplies}
 use Rattle.bn_reply_circuits.specs.RealiseReply.{RealiseReplies}
 use Rattle.bn_reply_circuits.specs.PlanReply.{PlanReplies}
-use Rattle.bn_reply_circuits_laws.specs.MigrateReply.{MigrateReplies}
+use Rattle.bn_reply_laws.specs.MigrateReply.{MigrateReplies}
 use Rattle.bn_reply_circuits.specs.MirrorReply.{MirrorReplies}
 use Rattle.bn_reply_circuits.specs.FarmReply.{FarmReplies}
 use Rattle.bn_reply_tables.specs.StandardReply.{StandardTableReplies}

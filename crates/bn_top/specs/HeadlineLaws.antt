@@ -4,8 +4,8 @@ use Rattle.bn_circuits.specs.declared.place.Place.{Place}
 use Rattle.bn_reply.specs.Codes.{IsAnswer}
 use Rattle.bn_reply.specs.declared.status.Status.{Status}
 use Rattle.bn_top.specs.Told.{IsAnswered, TellsGenerate}
-use Rattle.bn_headline_laws.specs.Generated.{GeneratedHeadline}
-use Rattle.bn_headline_laws.specs.MachineHeadline.{MachineHeadline, MachineHeadlineWithin}
+use Rattle.bn_headline.specs.Generated.{GeneratedHeadline}
+use Rattle.bn_headline.specs.MachineHeadline.{MachineHeadline, MachineHeadlineWithin}
 
 -- the answer gives the headline by the machine alone, and that with a greatest number of steps
 abbrev pub AnswersTellMachine : Type 0

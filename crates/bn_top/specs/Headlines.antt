@@ -6,12 +6,12 @@ use Rattle.bn_reply.specs.Codes.{IsAnswer}
 use Rattle.bn_reply.specs.Replying.{IsReplied}
 use Rattle.bn_reply.specs.declared.reply.Reply.{Reply}
 use Rattle.bn_reply.specs.declared.status.Status.{Status}
-use Rattle.bn_headline_laws.specs.MachineHeadline.{MachineHeadline, MachineHeadlineWithin}
-use Rattle.bn_headline_laws.specs.CircuitHeadline.{CircuitHeadline}
-use Rattle.bn_headline_laws.specs.FoundCircuitHeadline.{FoundCircuitHeadline}
-use Rattle.bn_headline_laws.specs.FoundMachineHeadline.{FoundMachineHeadline}
-use Rattle.bn_headline_laws.specs.Generated.{GeneratedHeadline}
-use Rattle.bn_windows_laws.specs.FoundHeadline.{TellsFoundWindow}
+use Rattle.bn_headline.specs.MachineHeadline.{MachineHeadline, MachineHeadlineWithin}
+use Rattle.bn_headline.specs.CircuitHeadline.{CircuitHeadline}
+use Rattle.bn_headline.specs.FoundCircuitHeadline.{FoundCircuitHeadline}
+use Rattle.bn_headline.specs.FoundMachineHeadline.{FoundMachineHeadline}
+use Rattle.bn_headline.specs.Generated.{GeneratedHeadline}
+use Rattle.bn_headline.specs.FoundHeadline.{TellsFoundWindow}
 use Rattle.bn_top.specs.Answers.{Answers}
 use Rattle.bn_top.specs.CommandLaws.{TellsCommands}
 

@@ -24,8 +24,8 @@ use Rattle.bn_board_spec.specs.Layouts.{IsExit, IsNamedExit, Layout, elements_of
 use Rattle.bn_board_spec.specs.Flats.{Flat, IsAccepted, IsFlatOf, flat_start, machine_of}
 use Rattle.bn_machine.specs.Machine.{Program}
 use Rattle.bn_board_spec.specs.LayoutLaws.{BoardsRead, ExitsAreOne}
-use Rattle.bn_board_laws.specs.Headline.{RunsToExit}
-use Rattle.bn_board_laws.specs.HeadlineLaws.{BoardsRunToTheirExit}
+use Rattle.bn_board_laws.specs.Runs.{RunsToExit}
+use Rattle.bn_board_laws.specs.RunLaws.{BoardsRunToTheirExit}
 use Rattle.bn_board_laws.proofs.CountLemmas.{before_end}
 use Rattle.bn_view.specs.Shown.{IsShown}
 use Rattle.bn_view.specs.Viewed.{Comes, Finds, IsFoundView, IsViewOf, board_layers}

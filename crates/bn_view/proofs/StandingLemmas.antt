@@ -34,8 +34,8 @@ use Rattle.bn_board_spec.specs.Flats.{Flat, IsAccepted, IsFlatOf, flat_start, ma
 use Rattle.bn_board_spec.specs.LayoutLaws.{BoardsRead}
 use Rattle.bn_board_spec.specs.Layouts.{spelled_config}
 use Rattle.bn_board_spec.proofs.ShownHeadLemmas.{shown_inside}
-use Rattle.bn_board_laws.specs.Headline.{RunsToExit, BoardSpells}
-use Rattle.bn_board_laws.specs.HeadlineLaws.{BoardsRunToTheirExit}
+use Rattle.bn_board_laws.specs.Runs.{RunsToExit, BoardSpells}
+use Rattle.bn_board_laws.specs.RunLaws.{BoardsRunToTheirExit}
 use Rattle.bn_board_laws.specs.Moments.{BoardsHaveMoments, HasMoments}
 use Rattle.bn_view.specs.Shown.{moment, start}
 use Rattle.bn_view.specs.Viewed.{Comes, Finds, MachineIsAt}

@@ -1,4 +1,4 @@
--- What the laws of this crate say, each the contract of a function that only names the laws below it.
+-- What the laws of this crate say, each a field of `Laws`.
 use Rattle.std.specs.Prelude.{◌≤◌, ◌≡◌, ◌↔◌, ℕ, pos, List}
 use Rattle.bn_lists.specs.Runs.{Reaches}
 use Rattle.bn_circuits.specs.Circuits.{Circuit, Goes}
@@ -14,7 +14,7 @@ use Rattle.bn_bennett.specs.Translation.{name_of}
 use Rattle.bn_bennett.specs.Meaning.{machine_state_by}
 use Rattle.bn_board_spec.specs.Layouts.{Layout}
 use Rattle.bn_board_spec.specs.Flats.{Flat, IsAccepted, IsFlatOf, flat_start, machine_of}
-use Rattle.bn_board_laws.specs.Headline.{BoardSpells}
+use Rattle.bn_board_laws.specs.Runs.{BoardSpells}
 use Rattle.bn_view.specs.declared.layers.Layers.{Layers}
 use Rattle.bn_view.specs.declared.layers.ModuleAt.{ModuleAt}
 use Rattle.bn_view.specs.Shown.{IsShown}

@@ -1,7 +1,7 @@
 use Rattle.std.proofs.Common.{[], subst}
 use Rattle.bn_assembly.specs.Assembled.{limits_of}
-use Rattle.bn_reply_boards_laws.specs.CompileReply.{CompileReplies, TellsStart}
-use Rattle.bn_reply_boards_laws.proofs.SpelledLemmas.{boards-spelled}
+use Rattle.bn_reply_laws.specs.CompileReply.{CompileReplies, TellsStart}
+use Rattle.bn_reply_laws.proofs.SpelledLemmas.{boards-spelled}
 use Rattle.bn_board_laws.proofs.ClosedLemmas.{read_off}
 use Rattle.bn_reply_boards.specs.Opened.{IsOpenedInput}
 use Rattle.bn_reply_boards.proofs.AskedLemmas.{input_refused}

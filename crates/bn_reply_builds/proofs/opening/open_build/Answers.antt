@@ -3,9 +3,9 @@ use Rattle.std.proofs.Common.{subst}
 use Rattle.bn_qtable.specs.Rows.{table_of}
 use Rattle.bn_qtable.specs.TapeWords.{tape_words_of}
 use Rattle.bn_assembly.specs.Assembled.{limits_of}
-use Rattle.bn_reply_quads.specs.Opened.{AreSpelledWords, IsOpenedUniform}
-use Rattle.bn_reply_quads.proofs.AlphabetLemmas.{read_alphabets}
-use Rattle.bn_reply_quads.proofs.UniformLemmas.{uniform_refused}
+use Rattle.bn_reply_tables.specs.Opened.{AreSpelledWords, IsOpenedUniform}
+use Rattle.bn_reply_tables.proofs.AlphabetLemmas.{read_alphabets}
+use Rattle.bn_reply_tables.proofs.UniformLemmas.{uniform_refused}
 use Rattle.bn_reply_builds.specs.Opened.{IsOpenedSized}
 use Rattle.bn_reply_builds.proofs.OpenedLemmas.{NoneTold, named_slices, sized_asked, sized_refused, words_refused}
 use Rattle.bn_reply_builds.proofs.TableFacts.{buildable}

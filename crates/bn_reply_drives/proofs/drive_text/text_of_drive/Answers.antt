@@ -1,7 +1,7 @@
 use Rattle.std.proofs.Common.{◌≡◌, ◌++◌, ap, sym, ◌∙◌}
 use Rattle.bn_qtable.specs.Rows.{table_of}
 use Rattle.bn_board_spec.specs.Layouts.{Layout, spelled_by}
-use Rattle.bn_reply_boards_laws.specs.RunText.{steps_line}
+use Rattle.bn_reply_laws.specs.RunText.{steps_line}
 use Rattle.bn_circuits.specs.declared.place.Place.TheVariants.{Enter}
 use Rattle.bn_reply_boards.proofs.ShownLemmas.{line_within}
 use Rattle.bn_reply_drives.proofs.TextLemmas.{drive_joined}

@@ -1,5 +1,5 @@
 use Rattle.std.proofs.Common.{◌≡◌, ◌++◌, drop, map}
-use Rattle.bn_control_names.specs.Names.{state_of}
+use Rattle.bn_control.specs.Names.{state_of}
 use Rattle.bn_reply_layout.specs.ControlText.{column_lines}
 use Rattle.bn_reply_layout.proofs.control_text.push_columns.Given as goal
 

@@ -5,8 +5,8 @@ use Rattle.bn_quad.specs.Names.{Naming}
 use Rattle.bn_quad.specs.Quadruples.{Quadruples}
 use Rattle.bn_bennett.specs.Printed.{bennett_state_text}
 use Rattle.bn_network.specs.Controls.{IsNumbering}
-use Rattle.bn_control_names.specs.Names.{state_of}
-use Rattle.bn_control_names.specs.declared.name.StateName.{StateName}
+use Rattle.bn_control.specs.Names.{state_of}
+use Rattle.bn_control.specs.declared.name.StateName.{StateName}
 use Rattle.bn_reply_layout.specs.ControlText.{column_lines}
 use Rattle.bn_reply_layout.specs.Made.{HasStateName}
 use Rattle.bn_reply_layout.proofs.TextLemmas.{all_named, joined_text}

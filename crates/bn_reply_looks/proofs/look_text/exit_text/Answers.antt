@@ -2,7 +2,7 @@ use Rattle.std.proofs.Common.{◌≡◌, ℕ, Vec, Global, ap, sym, ◌∙◌}
 use Rattle.bn_circuits.specs.declared.place.Place.TheVariants.{Enter, Left}
 use Rattle.bn_quad.specs.Quadruples.{Quadruples}
 use Rattle.bn_qtable.specs.Rows.{table_of}
-use Rattle.bn_reply_outcomes.proofs.OutcomeLemmas.{not_inside}
+use Rattle.bn_reply_builds.proofs.OutcomeLemmas.{not_inside}
 use Rattle.bn_reply_looks.proofs.BuiltLemmas.{exit_written}
 use Rattle.bn_reply_looks.proofs.look_text.exit_text.Goals.{in-Left+in_ok-shown+in_ok-outcome+in_ok-push_outcome}
 use Rattle.bn_reply_looks.proofs.look_text.exit_text.Goals.{in_default}

@@ -1,6 +1,6 @@
 use Rattle.bn_reply_views.proofs.SessionSettledLemmas.{session_settled}
 use Rattle.bn_board_laws.proofs.ClosedLemmas.{flats_one, flats_there}
-use Rattle.bn_reply_boards_laws.proofs.ClosedLemmas.{counted}
+use Rattle.bn_reply_laws.proofs.ClosedLemmas.{counted}
 use Rattle.bn_reply_views.proofs.session_laws.session_has_one_reply.Goals as goal
 
 pub returns : goal.returns

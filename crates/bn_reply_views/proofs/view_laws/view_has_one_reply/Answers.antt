@@ -1,7 +1,7 @@
 use Rattle.bn_reply_views.proofs.ViewSettledLemmas.{view_settled}
 use Rattle.bn_board_laws.proofs.ClosedLemmas.{run_to_exit, flats_one, flats_there}
-use Rattle.bn_reply_boards_laws.proofs.ClosedLemmas.{counted}
-use Rattle.bn_reply_boards_laws.proofs.RunLemmas.{exits-named}
+use Rattle.bn_reply_laws.proofs.ClosedLemmas.{counted}
+use Rattle.bn_reply_laws.proofs.RunLemmas.{exits-named}
 use Rattle.bn_reply_views.proofs.view_laws.view_has_one_reply.Goals as goal
 
 pub returns : goal.returns

@@ -2,7 +2,7 @@ use Rattle.std.proofs.Common.{[], sym, subst}
 use Rattle.bn_reply_boards.specs.Opened.{IsMachineAsked, IsOpenedMachine}
 use Rattle.bn_reply_boards.proofs.AnsweredLemmas.{answered_as, answered_reply}
 use Rattle.bn_reply_boards.proofs.AskedLemmas.{machine_refused, machine_replies}
-use Rattle.bn_windows_laws.specs.AutoReply.{AutoReplies, FindReplies}
+use Rattle.bn_headline.specs.AutoReply.{AutoReplies, FindReplies}
 use Rattle.bn_reply_windows.proofs.auto.answer_auto.Goals as goal
 
 pub auto_symbols-requires : goal.auto_symbols-requires

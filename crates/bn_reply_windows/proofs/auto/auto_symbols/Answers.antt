@@ -1,7 +1,7 @@
 use Rattle.std.proofs.Common.{◌≤◌, length, arith}
 use Rattle.bn_base.specs.declared.limits.TheConstants.{MOST_COUNT}
 use Rattle.bn_reply_boards.proofs.AnsweredLemmas.{answered_as}
-use Rattle.bn_windows_laws.specs.AutoReply.{FindReplies, SearchReplies, searched}
+use Rattle.bn_headline.specs.AutoReply.{FindReplies, SearchReplies, searched}
 use Rattle.bn_reply_windows.proofs.auto.auto_symbols.Goals as goal
 
 pub run_rounds-requires-clause-given : goal.run_rounds-requires-clause-given

@@ -3,7 +3,7 @@ use Rattle.std.proofs.lemmas.Result.{err_from_is_err_and}
 use Rattle.bn_circuits.specs.declared.place.Place.{Place}
 use Rattle.bn_net.specs.Watching.{Hears}
 use Rattle.bn_assembly.specs.Assembled.{limits_of}
-use Rattle.bn_windows_laws.specs.AutoReply.{EndReplies}
+use Rattle.bn_headline.specs.AutoReply.{EndReplies}
 use Rattle.bn_reply_windows.specs.Laws.{MayWiden}
 use Rattle.bn_reply_windows.specs.Rounds.{IsRoundOf, LeavesBy}
 use Rattle.bn_reply_windows.proofs.rounds.run_rounds.Given.{Over}

@@ -1,6 +1,6 @@
 use Rattle.std.proofs.Common.{◌≡◌, map, Global, subst}
 use Rattle.std.specs.String.{string_bytes}
-use Rattle.bn_headline_laws.specs.CommandHeadlines.{BackCommand, BennettCommand, MachineCommand, StepCommand}
+use Rattle.bn_headline.specs.CommandHeadlines.{BackCommand, BennettCommand, MachineCommand, StepCommand}
 use Rattle.bn_reply.specs.Outside.{outside}
 use Rattle.bn_top.specs.Clauses.{CallEnds}
 use Rattle.bn_top.specs.Outside.{NeedNoInput}

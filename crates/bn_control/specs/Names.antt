@@ -1,0 +1,27 @@
+-- The states of a control by their names as the program gives them, and what they stand for.
+use Rattle.std.specs.Prelude.{◌≡◌, ℕ, ◌≤◌, List, [], ◌∷◌, length, Some, None}
+use Rattle.bn_network.specs.Controls as control
+use Rattle.bn_control.specs.declared.name.Symbols.{Symbols}
+use Rattle.bn_control.specs.declared.name.Symbols.TheVariants.{Empty, Leading}
+use Rattle.bn_control.specs.declared.name.StateName.{StateName}
+use Rattle.bn_control.specs.declared.name.StateName.TheVariants.{Begin, End, Reads, Shifts, Writes}
+
+-- some symbols as a list
+abbrev pub listed : Symbols → List ℕ
+listed Empty = []
+listed (Leading a None) = a ∷ []
+listed (Leading a (Some b)) = a ∷ b ∷ []
+
+-- the control's state of this name
+abbrev pub state_of : StateName → control.ControlState
+state_of Begin = control.Begin
+state_of End = control.End
+state_of (Reads a n s) = control.Reads a (listed s)
+state_of (Shifts n t) = control.Shifts n t
+state_of (Writes a t u) = control.Writes a t.0 (listed u)
+
+-- the number of symbols that were read is theirs, and a tape is one of three
+abbrev pub IsProper : StateName → Type 0
+IsProper (Reads a n s) = n ≡ length (listed s)
+IsProper (Writes a t u) = t.0 ≤ 3
+IsProper _ = Unit {0}

@@ -1,4 +1,0 @@
-pub mod KeyLemmas
-pub mod ShownLemmas
-pub mod NamesLemmas
-mod TieLemmas

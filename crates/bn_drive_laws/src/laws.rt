@@ -1,8 +1,0 @@
-//! Laws on drives. The function does nothing: its contract is the laws.
-ghost use Rattle.bn_drive_laws.specs.Laws.{Laws};
-
-/// The laws on what the command `drive` answers (this project's own profile), a named field each. Steps are element
-/// steps.
-pub fn drive_laws()
-    ensures { Laws }
-{}

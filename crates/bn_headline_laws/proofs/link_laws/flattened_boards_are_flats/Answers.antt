@@ -1,5 +1,0 @@
-use Rattle.bn_headline_laws.proofs.FlattenLemmas.{flattened-flats}
-use Rattle.bn_headline_laws.proofs.link_laws.flattened_boards_are_flats.Goals as goal
-
-pub returns : goal.returns
-returns c = flattened-flats

@@ -1,7 +1,0 @@
-//! Laws on inverse machines. The function does nothing: its contract is the laws.
-ghost use Rattle.bn_inverse_laws.specs.Laws.{Laws};
-
-/// The laws on the inverse of a machine of quadruples (Bennett 1973: its list turned round), a named field each.
-pub fn inverse_laws()
-    ensures { Laws }
-{}

@@ -1,0 +1,70 @@
+-- What holds of drives. `Laws` at the end is the contract of this crate's one function.
+use Rattle.std.specs.Prelude.{◌≡◌, ℕ, ◌+◌, ◌*◌, ◌≤◌, List, [], map, Option}
+use Rattle.bn_lists.specs.Runs.{Reaches}
+use Rattle.bn_circuits.specs.Circuits.{clock, Goes, IsStuck}
+use Rattle.bn_circuits.specs.Situations.{Situation}
+use Rattle.bn_circuits.specs.declared.config.Config.{Config}
+use Rattle.bn_quad.specs.Quadruples.{Configuration, Quadruples, IsQuadMachine}
+use Rattle.bn_quad.specs.Overlap.{IsDeterministic}
+use Rattle.bn_qtable.specs.Rows.{QuadTable}
+use Rattle.bn_bennett_laws.specs.Stages.{IsStandardMachine, IsSpelledBy}
+use Rattle.bn_bennett_laws.specs.Steps.{Exit}
+use Rattle.bn_erase_laws.specs.Erasing.{IsWord}
+use Rattle.bn_erase.specs.Joint.{Joint, IsJoint}
+use Rattle.bn_erase.specs.Made.{Erasure, IsErasing}
+use Rattle.bn_erase.specs.Printed.{names_of}
+use Rattle.bn_named_laws.specs.Renumbering.{Renumbering, IsRenumbering, IsRenumbered, ReadsBack}
+use Rattle.bn_build_laws.specs.Builds.{Build, IsBuild, IsStart, build_elements}
+use Rattle.bn_network.specs.Starts.{words_on}
+use Rattle.bn_reply_builds.specs.Drives.{Drives}
+use Rattle.bn_reply_builds.specs.RenumberedBuilds.{TellsRenumbered}
+use Rattle.bn_reply_builds.specs.ErasingBoards.{ErasingBoardTells}
+
+-- the clock has room for the greatest number of steps and for those of one more step of the machine
+abbrev pub DrivesHaveOneAnswer : Type 0
+DrivesHaveOneAnswer =
+    (t : QuadTable) (f : Build) → IsBuild f → (c : Configuration ℕ) (s : Situation) (at_start : Config)
+    → IsStart f c s at_start → (most : ℕ) → most + 48 * build_elements f ≤ clock
+    → ((exit : Option Exit) × (text : List ℕ) × Drives t f c s at_start most exit text)
+    × ((exit other : Option Exit) (text again : List ℕ) → Drives t f c s at_start most exit text
+    → Drives t f c s at_start most other again → (exit ≡ other) × (text ≡ again))
+
+-- the board stops at z after t steps
+abbrev pub RenumberedBuildsTell : Type 0
+RenumberedBuildsTell =
+    (k : Renumbering) (f : Build) (m : Quadruples) → IsBuild f → IsRenumbering k f.machine m → IsDeterministic m.rules
+    → (c x : Configuration ℕ) (s : Situation) (at_start : Config) → IsStart f c s at_start → IsRenumbered k c x
+    → (t : ℕ) (z : Config) → Reaches (Goes f.circuit) t at_start z → IsStuck f.circuit z
+    → t + 48 * build_elements f ≤ clock → TellsRenumbered k f m c x s at_start t z
+
+abbrev pub WordsAreRenumbered : Type 0
+WordsAreRenumbered =
+    (k : Renumbering) (p m : Quadruples) → IsQuadMachine p → IsRenumbering k p m → (one two three : List ℕ)
+    → IsRenumbered k (words_on p one two three) (words_on m (map k.one one) (map k.two two) (map k.three three))
+
+-- z are the symbols of x by the numbers of the table that is read, and its machine is built
+abbrev pub ErasingBoardsErase : Type 0
+ErasingBoardsErase =
+    (j : Joint) (e : Erasure) (t : QuadTable) (f : Build) → IsJoint j → IsErasing j.first j.second e
+    → IsStandardMachine j.first → IsStandardMachine j.second → (back : ReadsBack e.machine (names_of j e) t)
+    → IsBuild f → f.machine ≡ t.machine
+    → (z x : List ℕ) → map back.renumbering.one z ≡ x → IsSpelledBy j.first x → IsWord x
+    → (s : Situation) (at_start : Config) → IsStart f (words_on f.machine z [] []) s at_start
+    → (n : ℕ) (d : Config) → Reaches (Goes f.circuit) n at_start d → IsStuck f.circuit d
+    → n + 48 * build_elements f ≤ clock
+    → ErasingBoardTells back.renumbering j e f (words_on f.machine z [] []) s at_start x n d
+
+pub record Laws : Type 0 where
+  -- To a table, a build, a start and a greatest number of element steps there is an answer, an exit or none and a text,
+  -- and only one.
+  pub drives_have_one_answer : DrivesHaveOneAnswer
+  -- Where the board of a build stops whose machine is another one but for its numbers, as the machine that is read of
+  -- what was written of that one is, it tells how that one's run has ended.
+  pub renumbered_builds_tell : RenumberedBuildsTell
+  -- Three words are, with the other numbers, three words: the starts differ in the numbers alone.
+  pub words_are_renumbered : WordsAreRenumbered
+  -- The circuit that erases: of the machine that is read of what `erase` writes of two machines in standard form,
+  -- started with the word x, a board that has stopped was left by the end only where each machine halts on the other's
+  -- word, and then its tapes are blank but for the output on tape 3; where both halt so, it was left by the end or by a
+  -- window's end.
+  pub erasing_boards_erase : ErasingBoardsErase

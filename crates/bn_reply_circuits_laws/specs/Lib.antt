@@ -1,3 +1,0 @@
-pub mod CircuitReply
-pub mod MigrateReply
-pub mod TextSizes

@@ -1,0 +1,12 @@
+pub mod SettledLemmas
+pub mod SizeLemmas
+pub mod CountLemmas
+pub mod WindowLemmas
+pub mod SpelledLemmas
+pub mod RunLemmas
+pub mod TellingLemmas
+pub mod OutputLemmas
+pub mod OutcomeLemmas
+pub mod ToldRunLemmas
+pub mod CompileLemmas
+pub mod ClosedLemmas

@@ -1,0 +1,11 @@
+pub mod CircuitReply
+pub mod MigrateReply
+pub mod TextSizes
+pub mod Windows
+pub mod Counts
+pub mod CompileReply
+pub mod RunText
+pub mod RunReply
+pub mod ToldRuns
+pub mod CompileLaws
+pub mod Laws

@@ -1,9 +1,0 @@
-pub mod ScannedLemmas
-pub mod StopLemmas
-pub mod LineLemmas
-pub mod ExitLemmas
-pub mod ReadsLemmas
-pub mod CellLemmas
-pub mod AwaitLemmas
-pub mod TextLemmas
-pub mod OutcomeLemmas

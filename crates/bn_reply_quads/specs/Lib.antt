@@ -1,5 +1,0 @@
-pub mod NamedWords
-pub mod QuadReply
-pub mod WordsReply
-pub mod UniformReply
-pub mod Opened
