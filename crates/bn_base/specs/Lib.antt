@@ -3,3 +3,4 @@ pub mod Line
 pub mod LentLine
 pub mod Cuts
 pub mod CutLaws
+pub mod Laws

@@ -5,8 +5,3 @@ ghost use Rattle.std.specs.Prelude.{◌≡◌, ◌^◌};
 /// The greatest count of what a machine or a table is asked for: of a machine's own steps, of the cells of a side, of
 /// letters, of states and of lines (this project's own profile).
 pub const MOST_COUNT: u64 = 1_048_576;
-
-/// A law: the greatest count is 2^20.
-pub fn most_count_is_stated()
-    ensures { MOST_COUNT ≡ 2 ^ 20 }
-{}

@@ -1,6 +1,5 @@
 //! The lines of a text.
 ghost use Rattle.std.specs.Prelude.{◌≡◌};
-ghost use Rattle.bn_base.specs.Line.{LinesAgree, CutLinesDiffer};
 
 use memchr::memchr;
 use std::marker::Model;
@@ -59,9 +58,3 @@ impl<'a> Lines<'a> {
         }
     }
 }
-
-/// The law of lines, with nothing to run: a text is cut into lines in one way.
-pub fn one_cut()
-    ensures whole { LinesAgree }
-    ensures cut { CutLinesDiffer }
-{}

@@ -1,11 +1,11 @@
 //! Numbers in decimal digits.
-ghost use Rattle.std.specs.Prelude.{◌≡◌, ◌↔◌, ℕ, ◌+◌, ◌^◌, ◌-◌, ◌≤◌, List, [], ◌++◌, length, take_while, drop, min};
+ghost use Rattle.std.specs.Prelude.{◌≡◌, ◌↔◌, ◌+◌, ◌^◌, ◌-◌, ◌≤◌, [], ◌++◌, length, take_while, drop, min};
 ghost use Rattle.std.specs.Prelude.{decimal, IfOk, OnOk, OnErr, IsErrOf};
 ghost use Rattle.std.specs.List.{prefix_len};
 ghost use Rattle.std.specs.Char.{is_ascii_digit};
 ghost use Rattle.std.specs.Str.Parse.{digits_value};
 ghost use Rattle.bn_base.specs.Number.{AreDigits, digits_at, HasLeadingZero, IsTooLarge, number_of, read_number};
-ghost use Rattle.bn_base.specs.Number.{greatest, WhatIsReadIsSpelled, WhatIsSpelledIsRead, SpellingsDiffer};
+ghost use Rattle.bn_base.specs.Number.{greatest};
 
 use bn_lists::NoMemory;
 use itoa::Buffer;
@@ -123,12 +123,3 @@ pub fn push_u64(out: &mut Vec<u8>, value: u64) -> Result<(), NoMemory>
     out.extend_from_slice(buffer.format(value).as_bytes())?;
     Ok(())
 }
-
-/// The law of reading and writing numbers, with nothing to run. What `read_u64` reads stands there
-/// in its decimal text, this text is read back whatever stands round it but a further digit, and no
-/// two numbers have one text.
-pub fn one_spelling()
-    ensures read { WhatIsReadIsSpelled }
-    ensures spelled { WhatIsSpelledIsRead }
-    ensures one { SpellingsDiffer }
-{}

@@ -13,3 +13,4 @@ pub mod Tables
 pub mod Texts
 pub mod ThereLemmas
 mod InPartLemmas
+pub mod LawLemmas

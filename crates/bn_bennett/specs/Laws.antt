@@ -83,3 +83,34 @@ TranslationsHaveNames = (t : Named) (s : Translation) → IsMachine t.machine �
 abbrev pub TranslationsAreTables : Type 0
 TranslationsAreTables = (t : Named) (s : Translation) → IsMachine t.machine → IsTable t → FitsTable t.machine
     → IsTranslation t.machine s → QuadTables.IsTable (QuadTables.table_of s.machine (translation_names t s))
+
+-- ---- the laws
+
+pub record Laws : Type 0 where
+  -- A machine has one translation at most.
+  pub translations_are_one : TranslationsAreOne
+  -- A machine in standard form within the limits of tables has a translation.
+  pub translations_are_there : TranslationsAreThere
+  -- The machine of a translation is deterministic, reversible and uniform, and it begins and ends in
+  -- the states of those names.
+  pub translations_are_uniform : TranslationsAreUniform
+  -- Bennett's theorem (1973) on the machine of a translation: it comes from (word, blank, blank) to
+  -- (word, blank, output) in 4v + 4L + 5 steps exactly where the one-tape machine halts after v steps
+  -- with an output of L letters.
+  pub translations_halt_alike : TranslationsHaltAlike
+  -- Within limits the run of a translation's machine ends exactly as the one-tape machine's own bounded
+  -- run comes out.
+  pub translations_end_alike : TranslationsEndAlike
+  -- Call by call `QuadMachine::step` comes out exactly as the one-tape machine's own bounded run does.
+  pub calls_end_alike : CallsEndAlike
+  -- What a translation's machine is at where a head would leave its tape: before or within the next step
+  -- of the one-tape machine's own run, or while its output is copied.
+  pub translations_have_no_room : TranslationsHaveNoRoom
+  -- What stands on the tapes of a translation's machine at every moment of its run, and how long a run
+  -- within limits is.
+  pub translations_stand : TranslationsStand
+  -- Every state and every symbol of a table's translation has a printed name in the form of its kind.
+  pub translations_have_names : TranslationsHaveNames
+  -- A table's translation with its names is a table of quadruples, so what is written of it is read as it
+  -- again.
+  pub translations_are_tables : TranslationsAreTables

@@ -12,7 +12,6 @@ ghost use Rattle.bn_bennett.specs.Printed.{AreLetters, with_states};
 ghost use Rattle.bn_bennett.specs.Printed.{on_tape, translation_names};
 ghost use Rattle.bn_bennett.specs.InPart.{AreNamedInPart};
 
-use crate::laws::{translations_are_tables, translations_have_names};
 use crate::translated::Translated;
 use bn_base::push_u64;
 use bn_bennett_laws::Name;
@@ -145,7 +144,5 @@ pub fn names(alloc: Global, table: &Table, translated: &Translated) -> Result<Qu
     ensures forms { IfOk result (HasNames translated.now.machine) }
     ensures table { IfOk result (λ names. IsTable (table_of translated.now.machine names)) }
 {
-    translations_have_names();
-    translations_are_tables();
     all_names(alloc, table, translated)
 }

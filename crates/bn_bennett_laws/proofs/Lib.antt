@@ -18,3 +18,4 @@ pub mod Theorem
 pub mod Bounded
 pub mod Moments
 pub mod Short
+pub mod LawLemmas

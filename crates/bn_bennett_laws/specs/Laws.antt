@@ -192,3 +192,50 @@ NumbersRunAlike =
     × Reaches (QuadruplesRunTo rooms q) n c d × (x ≡ in_state name d) × IsIn (states_in q.rules) d.state)
     × ((e : Exit) → EndsAt rooms q.rules (final_state_of q.rules) c e
     ↔ EndsAt rooms (bennett p) (final_name p) (in_state name c) e)
+
+-- ---- the laws
+
+pub record Laws : Type 0 where
+  -- A step of the machine is two steps of the reversible machine, which keeps its number in the
+  -- history (Bennett 1973, compute).
+  pub computes_two_steps : ComputesTwoSteps
+  -- Where a machine in standard form halts, its output can be copied.
+  pub halted_is_ready : HaltedIsReady
+  -- An output of L letters is copied in 4L + 5 steps (Bennett 1973, copy).
+  pub copies_output : CopiesOutput
+  -- A step of the machine is taken back by two steps of the reversible machine (Bennett 1973,
+  -- retrace).
+  pub retraces_two_steps : RetracesTwoSteps
+  -- Of a machine in standard form Bennett's list is deterministic, reversible and uniform.
+  pub list_passes_tests : ListPassesTests
+  -- Bennett's list begins in its initial state and ends in its final state.
+  pub list_has_ends : ListHasEnds
+  -- For N quintuples and z symbols Bennett's list has 4N + 2z + 3 quadruples.
+  pub list_has_length : ListHasLength
+  -- Each symbol of each quadruple is one of its tape's.
+  pub list_is_in_range : ListIsInRange
+  -- Which names stand in Bennett's list.
+  pub list_has_names : ListHasNames
+  -- For N quintuples and f states that all appear, Bennett's list has 2f + 2N + 4 states.
+  pub list_counts_names : ListCountsNames
+  -- Bennett's list with numbers in place of names is deterministic, reversible and uniform.
+  pub numbers_pass_tests : NumbersPassTests
+  -- The thirteen quadruples of the least machine in standard form, in order.
+  pub least_is_listed : LeastIsListed
+  -- Bennett's theorem (1973): the reversible machine comes from (word, blank, blank) to (word, blank,
+  -- output) in 4v + 4L + 5 steps exactly where the machine halts after v steps with an output of L
+  -- letters, and it comes to its final state in no other way.
+  pub bennetts_theorem : BennettsTheorem
+  -- Within limits the reversible machine's run ends exactly as the machine's own bounded run comes
+  -- out: with the output, stuck, or where a head would leave its tape.
+  pub bounded_runs_agree : BoundedRunsAgree
+  -- What the reversible machine is at where a head would leave its tape: before or within the next step
+  -- of the machine's own run, or while its output is copied.
+  pub runs_have_no_room : RunsHaveNoRoom
+  -- What stands on the tapes at every moment of a run.
+  pub every_moment_stands : EveryMomentStands
+  -- A run within limits makes at most 4n + 4r + 5 steps, for a history of n steps and an output tape
+  -- from 0 to r.
+  pub bounded_runs_are_short : BoundedRunsAreShort
+  -- The quadruple machine with numbers in place of names makes the same runs, with the same ends.
+  pub numbers_run_alike : NumbersRunAlike

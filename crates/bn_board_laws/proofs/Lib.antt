@@ -25,3 +25,4 @@ pub mod BoardReadLemmas
 pub mod StuckLemmas
 pub mod NoRoomLemmas
 pub mod StartsLemmas
+pub mod LawLemmas

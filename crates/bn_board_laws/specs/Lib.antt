@@ -5,3 +5,4 @@ pub mod Moments
 pub mod RunLaws
 pub mod NetworkReads
 pub mod NetworkMoments
+pub mod Laws

@@ -21,3 +21,4 @@ pub mod ShownHeadLemmas
 pub mod ReadingLemmas
 pub mod WordLemmas
 pub mod SpanLemmas
+pub mod LawLemmas

@@ -7,3 +7,4 @@ pub mod BoardMoments
 pub mod Readings
 pub mod LayoutLaws
 pub mod Spans
+pub mod Laws

@@ -130,13 +130,13 @@ pub record Laws : Type 0 where
   pub builds_start_with_words : BuildsStartWithWords
   -- With a word on tape 1 alone that is the start with this word as it is of the machines that the program translates.
   pub one_word_starts : OneWordStarts
-  -- For every uniform machine, window and start: whatever the machine's own run in the window comes to, its board runs
-  -- in exactly its cost to that exit, and spells its tapes there.
+  -- For every uniform machine, window and start, where the clock has room: whatever the machine's own run in the window
+  -- comes to, its board runs in exactly its cost to that exit, and spells its tapes there.
   pub builds_run_to_their_exit : BuildsRunToTheirExit
   -- Steps taken back from within such a run restore it, all of them the start.
   pub builds_run_back : BuildsRunBack
-  -- The converse: where the board makes t steps and then no more, the machine's own run has ended, and the board has
-  -- run to that exit.
+  -- The converse, where the clock has room: where the board makes t steps and then no more, the machine's own run has
+  -- ended, and the board has run to that exit.
   pub builds_tell_their_machine : BuildsTellTheirMachine
   -- Wherever the signal has left, the machine's own run has ended, and the board was left by that exit.
   pub builds_are_left_by_their_machine : BuildsAreLeftByTheirMachine

@@ -27,3 +27,13 @@ abbrev pub CellStatesAreNumbered : Type 0
 CellStatesAreNumbered =
     ((z : ℕ) (q : CellState) → IsStateOf z q → (state_number z q < 2 * z) × (state_of z (state_number z q) ≡ q))
     × ((z n : ℕ) → n < 2 * z → IsStateOf z (state_of z n) × (state_number z (state_of z n) ≡ n))
+
+-- ---- the laws
+
+pub record Laws : Type 0 where
+  -- A cell's moves are one to one, for every number of symbols.
+  pub cells_are_reversible : CellsAreReversible
+  -- The lines of a cell have the numbers from 0 on, each line one and each number one line.
+  pub cell_lines_are_numbered : CellLinesAreNumbered
+  -- The states of a cell have the numbers from 0 on, each state one and each number one state.
+  pub cell_states_are_numbered : CellStatesAreNumbered

@@ -8,7 +8,7 @@ mod table;
 
 pub use bn_network::{CellLine, MOST_SYMBOLS};
 pub use bn_rsm::NoMemory;
-pub use laws::{cell_lines_are_numbered, cell_states_are_numbered, cells_are_reversible};
+pub use laws::cell_laws;
 pub use make::cell;
 pub use numbers::{line_number, line_of, state_number};
 pub use table::CellTable;

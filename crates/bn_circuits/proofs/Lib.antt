@@ -5,3 +5,4 @@ pub mod CountingLemmas
 pub mod SituationLemmas
 pub mod AlikeLemmas
 pub mod TableLemmas
+pub mod LawLemmas

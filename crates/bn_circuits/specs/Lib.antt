@@ -5,3 +5,4 @@ pub mod RunParts
 pub mod Situations
 pub mod Counting
 pub mod Alike
+pub mod Laws

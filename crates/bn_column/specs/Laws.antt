@@ -26,3 +26,13 @@ abbrev pub CrossingsStayWithin : Type 0
 CrossingsStayWithin =
     (k : Circuit) (b rows i : ℕ) (marked from_east : Bool) (c : Config) (e : ℕ) → IsBeside b rows e
     → slice_get (crossed k b rows i marked from_east c).states e ≡ slice_get c.states e
+
+-- ---- the laws
+
+pub record Laws : Type 0 where
+  -- The four crossings of a column, in exactly their steps, with what holds strictly between.
+  pub columns_are_crossed : ColumnsAreCrossed
+  -- After a crossing the column is at rest, and marked exactly where the signal came from the east.
+  pub crossed_columns_rest : CrossedColumnsRest
+  -- A crossing changes no bar beside the column.
+  pub crossings_stay_within : CrossingsStayWithin

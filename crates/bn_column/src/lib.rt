@@ -11,7 +11,7 @@ mod wires;
 pub use bn_lists::NoMemory;
 pub use bn_net::rotary_net;
 pub use cross::{cost, cross_in};
-pub use laws::{columns_are_crossed, crossed_columns_rest, crossings_stay_within};
+pub use laws::column_laws;
 pub use make::column;
 pub use refusal::ColumnRefusal;
 pub use standing::Column;

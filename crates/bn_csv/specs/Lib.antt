@@ -6,3 +6,4 @@ pub mod Lines
 pub mod Numbering
 pub mod NumberingLaws
 pub mod Written
+pub mod Laws

@@ -11,3 +11,4 @@ pub mod EraseLemmas
 pub mod MachineLemmas
 pub mod PrintedLemmas
 pub mod ClosedLemmas
+pub mod LawLemmas

@@ -19,6 +19,7 @@ use Rattle.bn_erase.specs.Joint.{IsAlphabet, IsCode, IsJoint, Joint, joined, joi
 use Rattle.bn_erase.specs.Made.{Erasure, IsErasing, name_of}
 use Rattle.bn_erase.specs.Printed.{names_of}
 use Rattle.bn_erase.specs.Recoded.{KeepsSymbols, recoded}
+use Rattle.bn_erase.specs.declared.erasing.TheConstants.{MOST_QUADRUPLES}
 
 -- ---- one alphabet
 
@@ -101,3 +102,22 @@ abbrev pub ErasingsHaveNames : Type 0
 ErasingsHaveNames =
     (j : Joint) (e : Erasure) → IsJoint j → IsErasing j.first j.second e
     → HasNames e.machine (names_of j e)
+
+-- ---- the laws
+
+pub record Laws : Type 0 where
+  -- The most quadruples are 20,000.
+  pub most_quadruples_are_stated : MOST_QUADRUPLES ≡ 20000
+  -- Two machines over one alphabet: the joint letters are an alphabet, numbers by letter keep symbols apart, and a
+  -- machine in standard form stays one where its symbols are numbered anew.
+  pub machines_share_letters : JointAlphabet × CodesKeepSymbols × RecodedIsStandard
+  -- The machines of two tables over one alphabet pass the test of standard form as the tables' own do, and fail it at
+  -- the same demand.
+  pub joined_are_judged_alike : JoinedAreJudgedAlike
+  -- The erasing machine (Bennett 1973) is deterministic, reversible and uniform.
+  pub erasings_are_uniform : ErasingsAreUniform
+  -- From x the erasing machine comes to its final state exactly where the first machine halts on x with some output y,
+  -- and the second one halts on y with the output x; and then only y is left (Bennett 1973).
+  pub erasings_erase : ErasingsErase
+  -- Every state and every symbol of the erasing machine has a printed name.
+  pub erasings_have_names : ErasingsHaveNames

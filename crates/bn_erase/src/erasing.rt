@@ -24,11 +24,6 @@ use std::marker::Model;
 /// The most quadruples of an erasing machine: as many as a table of quadruples may have.
 pub const MOST_QUADRUPLES: u32 = 20_000;
 
-/// A law: the most quadruples are 20,000.
-pub fn most_quadruples_are_stated()
-    ensures { MOST_QUADRUPLES ≡ 20000 }
-{}
-
 /// The machine that leaves only its output (Bennett 1973), with the names of its states, each at its number. Callers
 /// see both.
 #[derive(Drop)]

@@ -10,11 +10,8 @@ mod refusal;
 
 pub use bn_erase_laws::ErasingName;
 pub use bn_quad::NoMemory;
-pub use erasing::{Erasing, MOST_QUADRUPLES, erase, most_quadruples_are_stated};
+pub use erasing::{Erasing, MOST_QUADRUPLES, erase};
 pub use joined::{Joined, join_letters};
-pub use laws::{
-    erasings_are_uniform, erasings_erase, erasings_have_names, joined_are_judged_alike,
-    machines_share_letters,
-};
+pub use laws::joining_laws;
 pub use naming::erasing_names;
 pub use refusal::EraseRefusal;

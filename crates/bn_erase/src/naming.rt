@@ -10,10 +10,9 @@ ghost use Rattle.bn_erase.specs.Printed.{erasing_text, names_of};
 
 use crate::erasing::Erasing;
 use crate::joined::Joined;
-use crate::laws::erasings_have_names;
 use bn_bennett::{add_history_symbols, add_letters, name_text};
 use bn_bennett_laws::Name;
-use bn_erase_laws::{ErasingName, erasing_names as erasing_has_names};
+use bn_erase_laws::ErasingName;
 use bn_quad::{NoMemory, QuadNames};
 use std::alloc::Global;
 
@@ -29,7 +28,6 @@ pub fn erasing_names(
     ensures names { IfOk result (λ names. names ≡ names_of joined.now erasing.now) }
     ensures forms { IfOk result (HasNames erasing.now.machine) }
 {
-    erasings_have_names();
     all_names(alloc, joined, erasing)
 }
 
@@ -39,7 +37,6 @@ fn all_names(alloc: Global, joined: &Joined, erasing: &Erasing) -> Result<QuadNa
     ensures names { IfOk result (λ names. names ≡ names_of joined.now erasing.now) }
     ensures valid { IsJoint joined.now }
 {
-    erasing_has_names();
     let mut names = QuadNames::empty(alloc);
     let first = joined.first().quints().len() as u32;
     let second = joined.second().quints().len() as u32;

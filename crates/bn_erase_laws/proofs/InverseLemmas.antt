@@ -18,8 +18,10 @@ use Rattle.bn_bennett_laws.proofs.NumberLemmas.{uniform_numbers, run_of_goes, ru
 use Rattle.bn_erase_laws.proofs.TurnedLemmas.{turned_list-turned_list, turned_deterministic, turned_reversible}
 use Rattle.bn_erase_laws.proofs.TurnedLemmas.{turned_uniform, follows_turned, run_turned}
 use Rattle.bn_erase_laws.proofs.TurnedLemmas.{run_turned_back}
-use Rattle.bn_erase_laws.specs.InverseLaws.{InversesAreMachines, InversesOfInverses, InversesExchangeEnds, InversesPassTests}
-use Rattle.bn_erase_laws.specs.InverseLaws.{InversesAreUniform, InversesFollowBack, InversesRunBack, InversesEndAtTheStart}
+use Rattle.bn_erase_laws.specs.InverseLaws.{InversesAreMachines, InversesOfInverses, InversesExchangeEnds}
+use Rattle.bn_erase_laws.specs.InverseLaws.{InversesPassTests}
+use Rattle.bn_erase_laws.specs.InverseLaws.{InversesAreUniform, InversesFollowBack, InversesRunBack}
+use Rattle.bn_erase_laws.specs.InverseLaws.{InversesEndAtTheStart}
 
 -- ---- the ends of the list
 

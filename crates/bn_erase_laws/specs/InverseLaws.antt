@@ -58,7 +58,7 @@ RunsGoOnOrEnd = (rooms : Rooms) (rs : List (Rule ℕ)) (final : ℕ) (c : Config
 -- ---- the laws
 
 pub record Laws : Type 0 where
-  -- The inverse of a machine is a machine: in range, with as many quadruples, states and symbols.
+  -- The inverse of a machine is a machine.
   pub inverses_are_machines : InversesAreMachines
   -- The inverse of the inverse is the machine.
   pub inverses_of_inverses : InversesOfInverses

@@ -4,3 +4,4 @@ pub mod ErasingLaws
 pub mod Lists
 pub mod ListLaws
 pub mod InverseLaws
+pub mod Laws

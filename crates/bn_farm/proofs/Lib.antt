@@ -10,3 +10,4 @@ pub mod PlayLemmas
 pub mod WriteLemmas
 pub mod FarmReadLemmas
 pub mod TextLawLemmas
+pub mod LawLemmas

@@ -8,6 +8,9 @@ use Rattle.bn_farm.specs.Farms.{FarmBoard, IsAdmitted, IsFarm, Tick, after_steps
 use Rattle.bn_farm.specs.Farms.{farm_after, in_config}
 use Rattle.bn_farm.specs.Farms.{own, play, ticks, ticks_of}
 use Rattle.bn_farm.specs.Undo.{AllLawful, steps_between, moving, undoing}
+use Rattle.bn_farm.specs.TextLaws.{UndoingIsASchedule, FarmsAreReadBack, FarmsHaveTexts, FarmTextsAreOne}
+use Rattle.bn_farm.specs.declared.farm_reader.TheConstants.{MOST_FARM_BYTES}
+use Rattle.std.specs.Prelude.{◌^◌}
 
 -- a line of n ticks leaves its board where a run of n steps does, forward or back, and all others as they were
 abbrev pub LinesAreRuns : Type 0
@@ -64,3 +67,33 @@ BoardsKeepCircuits =
     ((farm : List FarmBoard) (es : List Tick) → length (play farm es) ≡ length farm)
     × ((farm : List FarmBoard) (es : List Tick) (i : ℕ) (b : FarmBoard) → slice_get farm i ≡ Some b
     → (d : FarmBoard) × (slice_get (play farm es) i ≡ Some d) × (d ≡ in_config b d.spelling.config))
+
+-- ---- the laws
+
+pub record Laws : Type 0 where
+  -- The most bytes of a farm with a schedule are 2^28.
+  pub most_farm_bytes_are_stated : MOST_FARM_BYTES ≡ 2 ^ 28
+  -- A line of n ticks is a run of n steps of its board.
+  pub lines_are_runs : LinesAreRuns
+  -- Each board ends where its own ticks alone leave it.
+  pub boards_are_apart : BoardsAreApart
+  -- Schedules with the same ticks for each board end in the same farm.
+  pub order_is_free : OrderIsFree
+  -- Each board stays a board.
+  pub farms_stay : FarmsStay
+  -- What is counted of a line is the number of steps that it made.
+  pub counts_are_steps : CountsAreSteps
+  -- The undoing schedule restores every board.
+  pub undoing_restores : UndoingRestores
+  -- Undone twice, a schedule has the lines that made steps.
+  pub undoing_twice : UndoingTwice
+  -- A farm keeps its boards and their circuits.
+  pub boards_keep_circuits : BoardsKeepCircuits
+  -- The undoing schedule is a schedule of the same farm.
+  pub undoing_is_lawful : UndoingIsLawful
+  -- The undoing schedule of a schedule of a farm is one of the farm that it leaves.
+  pub undoing_is_a_schedule : UndoingIsASchedule
+  -- The text of a farm and a schedule of it is read back.
+  pub farms_are_read_back : FarmsAreReadBack
+  -- Each farm has a text with each schedule, and only one.
+  pub farms_have_one_text : FarmsHaveTexts × FarmTextsAreOne

@@ -19,11 +19,6 @@ use std::alloc::Global;
 /// The most bytes of a farm with a schedule that are read: 256 MiB (this project's own profile).
 pub const MOST_FARM_BYTES: u64 = 268_435_456;
 
-/// The most bytes of a farm with a schedule are 2^28.
-pub fn most_farm_bytes_are_stated()
-    ensures { MOST_FARM_BYTES ≡ 2 ^ 28 }
-{}
-
 /// Reads a farm with a schedule: what stands before each line that is exactly `%` with its byte 10 is a board, and what
 /// stands behind the last one is the schedule. A refusal names what comes first: that no line is `%`; the first faulty
 /// board, with its first fault; the first faulty line of the schedule, with its first fault; the number of all

@@ -3,3 +3,4 @@ mod RoundLemmas
 pub mod FormLemmas
 pub mod MachineLemmas
 pub mod TableLemmas
+pub mod LawLemmas

@@ -10,11 +10,6 @@ use std::alloc::Global;
 /// The most increments.
 pub const MOST_INCREMENTS: u32 = 4;
 
-/// A law: the most increments are 4.
-pub fn most_increments_are_stated()
-    ensures { MOST_INCREMENTS ≡ 4 }
-{}
-
 /// The machine, in standard form, that adds one to a binary number k times, one round after another; k is from 1 to
 /// 4. Its symbols are the blank, the digit 0 and the digit 1, in this order, and its states are numbered by first
 /// appearance, from 0. `Err` comes only for want of memory. The machine is this project's own.

@@ -13,7 +13,8 @@ use Rattle.bn_reply_laws.specs.Laws.{BoardsAreCounted, RunsHaveOneOfEach}
 use Rattle.bn_headline.specs.Elements.{elements}
 use Rattle.bn_headline.specs.Generated.{binary}
 use Rattle.bn_headline.specs.MachineHeadline.{IsOwnRun}
-use Rattle.bn_headline.specs.HeadlineLaws.{ElementsAreCounted, GeneratedTellsMachine, IncrementsAreCounted, IncrementsRun}
+use Rattle.bn_headline.specs.HeadlineLaws.{ElementsAreCounted, GeneratedTellsMachine, IncrementsAreCounted}
+use Rattle.bn_headline.specs.HeadlineLaws.{IncrementsRun}
 use Rattle.bn_headline.proofs.HeadlineLemmas as headline
 use Rattle.bn_headline.proofs.WalkLemmas.{by_cases, increments-halt}
 

@@ -29,3 +29,4 @@ pub mod CountLemmas
 pub mod NameLemmas
 pub mod TotalLemmas
 pub mod FoundMachineLemmas
+pub mod LawLemmas

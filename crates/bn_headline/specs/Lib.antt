@@ -20,3 +20,4 @@ pub mod CountLaws
 pub mod FoundMachineHeadline
 pub mod FoundCircuitHeadline
 pub mod FoundLaws
+pub mod Laws

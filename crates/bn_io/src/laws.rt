@@ -5,7 +5,7 @@ ghost use Rattle.std.specs.Prelude.{◌≡◌};
 use crate::giving::PIECE;
 use crate::reading::CHUNK;
 
-/// A text is given in pieces of 4,096 bytes, and a source is asked for at most 65,536 bytes at once.
+/// `PIECE` is 4,096 bytes, and `CHUNK` 65,536.
 pub fn sizes_are_stated()
     ensures piece { PIECE ≡ 4096 }
     ensures chunk { CHUNK ≡ 65536 }

@@ -49,3 +49,18 @@ MovesAreRead =
     → q < t.states → i < t.inputs
     → target k.wires (turning_line (base n.tables m) t q i)
     ≡ option_map (λ p. line_at (column_at (base n.tables m) t.inputs p.0 + p.1) east) (t.go q i)
+
+-- ---- the laws
+
+pub record Laws : Type 0 where
+  -- Where the signal of a board that is under way enters an input line of a bank, the board stands for a situation.
+  pub boundaries_stand : BoundariesStand
+  -- Where the signal of a board that is under way enters an input line of a bank, this bank rests in some state.
+  pub boundaries_rest : BoundariesRest
+  -- From such an entry exactly the cost of the move leads to where the move ends, and each test that holds of what is
+  -- within the move holds strictly between.
+  pub boards_leap : BoardsLeap
+  -- Steps keep a board under way.
+  pub boards_stay_under_way : BoardsStayUnderWay
+  -- The moves of a bank are read off the wires of its board.
+  pub moves_are_read : MovesAreRead

@@ -9,8 +9,6 @@ mod passing;
 mod run;
 
 pub use entry::{Banks, Entry};
-pub use laws::{
-    boards_leap, boards_stay_under_way, boundaries_rest, boundaries_stand, moves_are_read,
-};
+pub use laws::leap_laws;
 pub use passing::Passing;
 pub use run::{run_leaping, run_leaping_until};

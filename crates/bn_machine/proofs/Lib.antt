@@ -8,3 +8,4 @@ pub mod TapeLemmas
 pub mod TurnsLemmas
 pub mod RoomLemmas
 pub mod WindowLemmas
+pub mod LawLemmas

@@ -59,3 +59,24 @@ MirrorsExchangeEnds =
     (v : Version) (s m : Spelling) → Admits v s → IsMirror s m
     → (s.config.place ≡ Left s.end.element s.end.line → m.config.place ≡ Enter m.start.element m.start.line)
     × (s.config.place ≡ Enter s.start.element s.start.line → m.config.place ≡ Left m.end.element m.end.line)
+
+-- ---- the laws
+
+pub record Laws : Type 0 where
+  -- What may be spelled has a mirror.
+  pub mirrors_are_there : MirrorsAreThere
+  -- The mirrors of what may be spelled may be spelled, in the same version.
+  pub mirrors_are_admitted : MirrorsAreAdmitted
+  -- A circuit has one mirror, in whatever order wires are listed.
+  pub mirrors_are_one : MirrorsAreOne
+  -- The mirror of the mirror is the first with no steps counted.
+  pub mirrors_turn_back : MirrorsTurnBack
+  -- As many steps as can be made back in a circuit are made forward in its mirror, and lead to the bars and the place
+  -- of the mirror of what those steps back lead to.
+  pub mirrors_run_back : MirrorsRunBack
+  -- Where a run began with the signal about to enter the start, as many steps of the mirror of its end come back to the
+  -- mirror of its beginning, and leave by the mirror's end.
+  pub runs_come_back : RunsComeBack
+  -- A mirror is about to be entered by its start where the first had been left by its end, and has been left by its end
+  -- where the first was about to be entered by its start.
+  pub mirrors_exchange_ends : MirrorsExchangeEnds

@@ -82,7 +82,6 @@ fn push_wire(
     requires listed { IsListing net.now.wires (4 * element + line) wires.old.items }
     ensures { OnOk result (IsListing net.now.wires (4 * element + line + 1) wires.new.items) }
 {
-    let _ = net.len();
     let from = Line { element, line };
     match net.target(from) {
         None => Ok(()),

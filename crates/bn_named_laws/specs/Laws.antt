@@ -74,11 +74,11 @@ pub record Laws : Type 0 where
   -- Where a machine runs in rooms to an exit, it does so with other numbers, in as many steps, to the same exit, and to
   -- the final configuration with the new numbers; and the other way round.
   pub renumberings_run_alike : RenumberingsRunAlike
-  -- What is written of a machine with names in their forms, of which none stands twice, is read as a table, whose
-  -- machine is the one that was written but for the numbers, each name kept.
+  -- What is written of a machine of at most 20,000 quadruples with names in their forms, of which none stands twice, is
+  -- read as a table, whose machine is the one that was written but for the numbers, each name kept.
   pub written_machines_read_back : WrittenMachinesReadBack
-  -- What is written of an erasing machine (Bennett 1973, his last construction) is read as a table, whose machine is
-  -- that one but for the numbers; it is uniform where both machines are in standard form.
+  -- What is written of an erasing machine of at most 20,000 quadruples is read as a table, whose machine is that one
+  -- but for the numbers; it is uniform where both machines are in standard form.
   pub erasings_are_tables : ErasingsAreTables
   -- What is written of the inverse of a table's machine, with the table's names, is read as a table, whose machine is
   -- that inverse but for the numbers; it is deterministic where the table's machine is reversible, reversible where

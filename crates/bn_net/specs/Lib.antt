@@ -8,3 +8,4 @@ pub mod Watching
 pub mod Walking
 pub mod Heard
 pub mod Ends
+pub mod Laws

@@ -11,7 +11,7 @@ mod watch;
 
 pub use bn_circuits::{CLOCK, Config, Line, Place, States, Wire};
 pub use bn_lists::NoMemory;
-pub use laws::{most_elements_are_stated, watches_tell_within_room, wires_stand_once};
+pub use laws::net_laws;
 pub use net::{MOST_ELEMENTS, Net};
 pub use refusal::NetRefusal;
 pub use rotary::rotary_net;

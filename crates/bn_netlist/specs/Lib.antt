@@ -9,3 +9,4 @@ pub mod Pieces
 pub mod Coming
 pub mod Writing
 pub mod PackedText
+pub mod Laws

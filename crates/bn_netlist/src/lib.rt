@@ -31,12 +31,7 @@ mod write;
 mod write_to;
 
 pub use bn_lists::NoMemory;
-pub use bn_netlist_laws::{
-    MOST_ELEMENTS_IN_ONE, Version, admission_rises, columns_are_found,
-    each_configuration_has_a_text, each_text_spells_or_has_a_fault, faulty_texts_spell_nothing,
-    lines_are_short, one_configuration_a_text, one_first_fault, one_number_of_rows,
-    one_text_a_configuration, spelled_alike, spellings_move, texts_end,
-};
+pub use bn_netlist_laws::{MOST_ELEMENTS_IN_ONE, Version};
 pub use bytes::Cursor;
 pub use column::column_at;
 pub use column_lines::column_rows;
@@ -44,7 +39,7 @@ pub use forms::{column_of, element_of, named_after, number_after, sides_of, vers
 pub use from_wires::FromWires;
 pub use front::LONGEST_LINE;
 pub use header_lines::{take_count, take_end, take_place, take_start, take_steps, take_title};
-pub use laws::{circuits_agree, lines_are_read, lines_refuse_texts, longest_line_is_stated};
+pub use laws::line_laws;
 pub use line_refusal::NetlistRefusal;
 pub use net_config::NetConfig;
 pub use packed_config::PackedConfig;

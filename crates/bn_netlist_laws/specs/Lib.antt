@@ -4,3 +4,4 @@ pub mod Saying
 pub mod Columns
 pub mod Spelling
 pub mod Faults
+pub mod Laws

@@ -17,3 +17,4 @@ pub mod OccurringLemmas
 pub mod LineLemmas
 pub mod GoingLemmas
 pub mod TabledLemmas
+pub mod LawLemmas

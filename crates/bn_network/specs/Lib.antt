@@ -5,3 +5,4 @@ pub mod Networks
 pub mod Starts
 pub mod Moments
 pub mod Limits
+pub mod Laws

@@ -4,12 +4,9 @@
 #![tactic(auto)]
 
 mod cell_line;
-mod control_laws;
+mod laws;
 mod limits;
 
 pub use cell_line::CellLine;
-pub use control_laws::{
-    controls_are_one, controls_are_one_to_one, overlaps_are_one, states_have_entries,
-    tapes_are_same,
-};
-pub use limits::{MOST_SYMBOLS, most_symbols_are_stated};
+pub use laws::control_laws;
+pub use limits::MOST_SYMBOLS;

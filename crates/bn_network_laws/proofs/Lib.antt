@@ -26,3 +26,4 @@ pub mod StartsLemmas
 pub mod ThereLemmas
 pub mod AdmitLemmas
 pub mod StoppedLemmas
+pub mod LawLemmas

@@ -40,7 +40,8 @@ use Rattle.bn_network_laws.proofs.DepartLemmas.{lead_until, stops_before, later_
 use Rattle.bn_network_laws.proofs.RangeLemmas.{rule_range, six_stops}
 use Rattle.bn_network_laws.proofs.NextLemmas.{begun}
 use Rattle.bn_network_laws.proofs.LastLemmas.{line_in_range, letters_are, answer_line}
-use Rattle.bn_network_laws.specs.Stops.{deeds_before, IsStuckAtRead, symbols_before, taken_before, taken_to, StopsAtRead}
+use Rattle.bn_network_laws.specs.Stops.{deeds_before, IsStuckAtRead, symbols_before, taken_before, taken_to}
+use Rattle.bn_network_laws.specs.Stops.{StopsAtRead}
 use Rattle.bn_network_laws.specs.StopLaws.{NetworksStop}
 use Rattle.bn_network_laws.proofs.AdmitLemmas.{admits_by, reads_cut, stops_cut, obeys, untouched}
 

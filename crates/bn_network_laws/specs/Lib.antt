@@ -4,3 +4,4 @@ pub mod Commands
 pub mod Departures
 pub mod Stops
 pub mod StopLaws
+pub mod Laws

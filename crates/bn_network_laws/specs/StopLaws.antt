@@ -43,6 +43,5 @@ pub record Laws : Type 0 where
   -- A machine is stuck at the read of one tape at most.
   pub stops_are_one : StopsAreOne
   -- For every uniform machine and window: from the moment of a configuration that is stuck at a read, the first or a
-  -- later one, the network comes to the answer of this read in a counted number of moves, at a bounded cost, and stops
-  -- there.
+  -- later one, the network comes to the answer of this read in some moves, at a bounded cost, and stops there.
   pub networks_stop : NetworksStop

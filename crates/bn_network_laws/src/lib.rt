@@ -3,10 +3,8 @@
 //! and laws; no code.
 #![tactic(auto)]
 
-mod network_laws;
+mod laws;
 mod stops;
-mod tape_laws;
 
-pub use network_laws::{first_moment_comes, heads_stay_one, last_moment_ends, next_moment_comes};
+pub use laws::network_laws;
 pub use stops::stop_laws;
-pub use tape_laws::{commands_are_answered, departures_are_counted};

@@ -10,3 +10,4 @@ pub mod PositionLemmas
 pub mod SweepLemmas
 pub mod BeginLemmas
 pub mod EndLemmas
+pub mod LawLemmas

@@ -8,6 +8,8 @@ use Rattle.bn_lists.specs.Lists.{Has}
 use Rattle.bn_plan.specs.Wires.{density, IsDensest, AreRotary, AreWiresOf}
 use Rattle.bn_plan.specs.Plans.{FloorPlan, IsPlan, IsFloorPlan, IsAssignment, TracksFit, HasTracks, tracks_of, wires_of}
 use Rattle.bn_plan.specs.Assigned.{assigned}
+use Rattle.bn_plan.specs.declared.positions.TheConstants.{MOST_PLANNED}
+use Rattle.std.specs.Prelude.{◌^◌}
 
 -- the wires of a circuit of elements with at most four lines each way have a floor plan, and only one, in whatever
 -- order they are listed
@@ -84,3 +86,28 @@ BankExample = (map (λ (t : Tracked). t.track) (assigned [] bank_wires)
     ≡ 1 ∷ 2 ∷ 3 ∷ 4 ∷ 5 ∷ 6 ∷ 7 ∷ 7 ∷ 8 ∷ 3 ∷ 3 ∷ 1 ∷ 3 ∷ 5 ∷ 8 ∷ 2 ∷ 3 ∷ 3 ∷ [])
     × (tracks_of (assigned [] bank_wires) ≡ 8)
     × IsDensest bank_wires 8 10
+
+-- ---- the laws
+
+pub record Laws : Type 0 where
+  -- The wires of a circuit of rotary elements have a floor plan, and only one.
+  pub floor_plan_is_one : HasOneFloorPlan
+  -- Wires of one track fit.
+  pub wires_of_one_track_fit : PlansFit
+  -- An assignment in which wires of one track fit has at least as many tracks as wires cover any
+  -- position.
+  pub tracks_are_needed : TracksAreNeeded
+  -- No assignment in which wires of one track fit has fewer tracks than the plan.
+  pub none_has_fewer : NoneHasFewer
+  -- The plan uses as many tracks as the greatest density says.
+  pub tracks_are_the_density : TracksAreTheDensity
+  -- Without wires there are no tracks, and the densest position is 0.
+  pub no_wires_no_tracks : NoWiresNoTracks
+  -- A plan is what the function of its wires computes.
+  pub plans_compute : PlansCompute
+  -- The wires of a circuit of rotary elements are as the laws on tracks ask.
+  pub circuits_are_rotary : CircuitsAreRotary
+  -- The plan of the wires of a bank of six elements: its tracks, and its densest position.
+  pub bank_example : BankExample
+  -- At most 2^22 elements have a floor plan.
+  pub most_planned_is_stated : MOST_PLANNED ≡ 2 ^ 22

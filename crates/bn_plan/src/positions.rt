@@ -15,11 +15,6 @@ use bn_net::{Line, Net, Wire};
 /// The greatest number of elements of a circuit that has a floor plan.
 pub const MOST_PLANNED: u32 = 4_194_304;
 
-/// A law: at most 2^22 elements have a floor plan.
-pub fn most_planned_is_stated()
-    ensures { MOST_PLANNED ≡ 2 ^ 22 }
-{}
-
 /// The number of positions that an element takes: its outputs, and then its inputs.
 pub(crate) const POSITIONS: u32 = 8;
 

@@ -5,3 +5,4 @@ pub mod Drafting
 pub mod ReadingLaws
 pub mod Writing
 pub mod Gathering
+pub mod LawLemmas

@@ -6,3 +6,4 @@ pub mod Reading
 pub mod Draft
 pub mod Named
 pub mod TapeWords
+pub mod Laws

@@ -15,11 +15,6 @@ use bn_machine::{Shift, shift_of};
 /// The most entries of a table.
 pub const MOST_ENTRIES: u32 = 20000;
 
-/// A law: the most entries are 20,000.
-pub fn most_entries_are_stated()
-    ensures { MOST_ENTRIES ≡ 20000 }
-{}
-
 /// What an entry says of a tape.
 #[derive(Clone, Copy)]
 pub enum TapeText<'a> {

@@ -11,10 +11,8 @@ mod tape_word;
 mod text;
 
 pub use bn_csv::NoMemory;
-pub use entry::{MOST_ENTRIES, most_entries_are_stated};
-pub use laws::{
-    bytes_have_a_reading_or_a_fault, bytes_have_one_reading, tables_that_are_read_can_be_written,
-};
+pub use entry::MOST_ENTRIES;
+pub use laws::quad_table_laws;
 pub use refusal::QuadTableRefusal;
 pub use tape_word::{TapeWord, TapeWords};
 pub use text::{read_quads, write_quads};

@@ -9,3 +9,4 @@ pub mod ReversibleLemmas
 pub mod SearchLemmas
 pub mod SoundLemmas
 pub mod QuadStepLemmas
+pub mod LawLemmas

@@ -49,3 +49,21 @@ abbrev pub StepsAreLeads : Type 0
 StepsAreLeads = (p : Quadruples) (n : ℕ) (c d : Configuration ℕ) → IsDeterministic p.rules
     → c.state ≢ final_state_of p.rules
     → (GoesBy everywhere p n c d ↔ LeadsBy p.rules n c d)
+
+-- ---- the laws
+
+pub record Laws : Type 0 where
+  -- The contract of `QuadMachine::step` allows one answer, one state and three tapes.
+  pub quad_turns_are_one : QuadTurnsAreOne
+  -- The contracts of the tests allow one refusal: of each pair and of each single quadruple there is one least.
+  pub refusals_are_one : RefusalsAreOne
+  -- Of quadruples that are apart in domain one at most applies to a configuration (Bennett 1973).
+  pub one_rule_applies : OneRuleApplies
+  -- A quadruple turned round leads back, and only back (Bennett 1973).
+  pub turned_rules_lead_back : TurnedRulesLeadBack
+  -- Rules that are kept as the same quadruples are the same.
+  pub rules_are_their_quads : RulesAreTheirQuads
+  -- One configuration follows another at most (Bennett 1973).
+  pub quad_steps_are_functions : QuadStepsAreFunctions
+  -- Outside of its final state, a deterministic machine makes exactly the steps to which its quadruples lead.
+  pub steps_are_leads : StepsAreLeads

@@ -17,10 +17,7 @@ mod uniform;
 
 pub use bn_lists::NoMemory;
 pub use indexed::IndexedMachine;
-pub use laws::{
-    one_rule_applies, quad_steps_are_functions, quad_turns_are_one, refusals_are_one,
-    rules_are_their_quads, steps_are_leads, turned_rules_lead_back,
-};
+pub use laws::quad_laws;
 pub use machine::QuadMachine;
 pub use names::QuadNames;
 pub use quad::{Act, Quad};

@@ -4,3 +4,4 @@ pub mod BankListsLemmas
 pub mod BankWiresLemmas
 pub mod WireLemmas
 pub mod StartLemmas
+pub mod LawLemmas

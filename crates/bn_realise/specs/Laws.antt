@@ -56,3 +56,19 @@ abbrev pub BanksAreOfOneTable : Type 0
 BanksAreOfOneTable =
     (net : Parts Rotary) (t u : Table) → IsReversible t → IsReversible u → t.outputs ≡ t.inputs → u.outputs ≡ u.inputs
     → IsBankNet net t → IsBankNet net u → u.inputs ≡ t.inputs → (q i : ℕ) → t.go q i ≡ u.go q i
+
+-- ---- the laws
+
+pub record Laws : Type 0 where
+  -- A move of a bank, in exactly its steps, with what holds strictly between.
+  pub banks_are_crossed : BanksAreCrossed
+  -- After a move the bank is at rest in the new state, or with no column marked.
+  pub moved_banks_rest : MovedBanksRest
+  -- A move changes no bar beside the bank.
+  pub moves_stay_within : MovesStayWithin
+  -- A bank's own wires join its own lines, and none leads to an input line.
+  pub own_wires_stay_inside : OwnWiresStayInside
+  -- At most one column of a bank is marked, at rest and strictly within a move.
+  pub marks_are_one : MarksAreOne
+  -- A bank's net and lines give its moves.
+  pub banks_are_of_one_table : BanksAreOfOneTable

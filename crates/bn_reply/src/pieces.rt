@@ -27,7 +27,7 @@ pub fn push_counted(text: &mut Vec<u8>, word: &[u8], number: u64) -> Result<(), 
     push(text, b"\n")
 }
 
-/// Appends a position on a tape in decimal digits, with a sign where it is below 0. After `NoMemory` the sign alone may
+/// Appends a position on a tape in decimal digits, with a sign where it is below 0. After `NoMemory` a front of it may
 /// stand behind the text.
 pub fn push_position(text: &mut Vec<u8>, position: i64) -> Result<(), NoMemory>
     ensures added { OnOk result (text.new.items ≡ text.old.items ++ position_text position) }

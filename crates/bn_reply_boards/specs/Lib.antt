@@ -4,3 +4,4 @@ pub mod Running
 pub mod GenerateReply
 pub mod GenerateLaws
 pub mod LineNames
+pub mod Laws

@@ -4,7 +4,7 @@
 
 mod compile;
 mod generate;
-mod generate_laws;
+mod laws;
 mod line_names;
 mod opening;
 mod run;
@@ -13,9 +13,7 @@ mod tape_text;
 
 pub use compile::{answer_compile, board_config};
 pub use generate::reply_generate;
-pub use generate_laws::{
-    generate_has_one_reply, generated_runs_tell_outcomes, generated_tables_are_given,
-};
+pub use laws::generate_laws;
 pub use line_names::{SymbolCounts, counts_of_table, push_cell_line, push_control_line};
 pub use opening::{
     OpenedInput, OpenedMachine, OpenedWindow, open_board, open_input, open_machine, open_window,

@@ -18,3 +18,4 @@ pub mod CellLemmas
 pub mod AwaitLemmas
 pub mod OutcomeTextLemmas
 pub mod OutcomeLemmas
+pub mod LawLemmas

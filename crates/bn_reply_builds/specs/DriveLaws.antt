@@ -55,8 +55,8 @@ ErasingBoardsErase =
     → ErasingBoardTells back.renumbering j e f (words_on f.machine z [] []) s at_start x n d
 
 pub record Laws : Type 0 where
-  -- To a table, a build, a start and a greatest number of element steps there is an answer, an exit or none and a text,
-  -- and only one.
+  -- To a table, a build, a start and a greatest number of element steps for which the clock has room there is an
+  -- answer, an exit or none and a text, and only one.
   pub drives_have_one_answer : DrivesHaveOneAnswer
   -- Where the board of a build stops whose machine is another one but for its numbers, as the machine that is read of
   -- what was written of that one is, it tells how that one's run has ended.

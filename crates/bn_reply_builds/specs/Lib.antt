@@ -9,3 +9,4 @@ pub mod Opened
 pub mod BennettBuilds
 pub mod Outcomes
 pub mod Stopping
+pub mod Laws

@@ -16,7 +16,7 @@ mod stop;
 pub use awaited::counts_of_machine;
 pub use build::answer_build;
 pub use drives::drive_laws;
-pub use laws::{build_has_one_reply, compiling_is_building};
+pub use laws::build_reply_laws;
 pub use opening::{OpenedBuild, open_build};
 pub use outcome::{Outcome, Stop, outcome_of};
 pub use outcome_text::{TableNames, push_outcome, push_state, push_tapes};

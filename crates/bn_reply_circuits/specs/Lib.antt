@@ -7,3 +7,4 @@ pub mod MirrorReply
 pub mod MirrorLaws
 pub mod FarmReply
 pub mod FarmRefused
+pub mod Laws

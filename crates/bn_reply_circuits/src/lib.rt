@@ -4,10 +4,9 @@
 
 mod config;
 mod farm;
-mod farm_laws;
+mod laws;
 mod migrate;
 mod mirror;
-mod mirror_laws;
 mod plan;
 mod plan_text;
 mod realise;
@@ -17,11 +16,10 @@ mod walk;
 
 pub use config::{give_config, refuse_input};
 pub use farm::reply_farm;
-pub use farm_laws::{farm_has_one_reply, farms_come_back};
+pub use laws::circuit_command_laws;
 pub use migrate::answer_migrate;
 pub use mirror::answer_mirror;
-pub use mirror_laws::{boards_come_back, mirror_has_one_reply, mirrored_texts_come_back};
-pub use plan::{answer_plan, plan_has_one_reply};
-pub use realise::{answer_realise, realise_has_one_reply};
+pub use plan::answer_plan;
+pub use realise::answer_realise;
 pub use unwritten::Unwritten;
 pub use walk::{answer_back, answer_step};

@@ -4,7 +4,7 @@ ghost use Rattle.std.specs.Prelude.{◌≡◌, ◌≤◌, IfOk, List, Option, le
 ghost use Rattle.bn_circuits.specs.declared.place.Place.{Place};
 ghost use Rattle.bn_reply.specs.Outside.{outside};
 ghost use Rattle.bn_reply.specs.Streams.{StreamEnds};
-ghost use Rattle.bn_reply_circuits.specs.PlanReply.{PlanIsSettled, PlanReplies, TellsPlan};
+ghost use Rattle.bn_reply_circuits.specs.PlanReply.{PlanReplies, TellsPlan};
 
 use crate::config::refuse_input;
 use crate::plan_text::plan_text;
@@ -43,9 +43,3 @@ fn plan_net(alloc: Global, net: &Net<Rotary>) -> Result<Reply, NoMemory>
         status: Status::Done,
     })
 }
-
-/// To all bytes `plan` has an answer, and only one. The function does nothing: its contract is the
-/// law.
-pub fn plan_has_one_reply()
-    ensures { PlanIsSettled }
-{}

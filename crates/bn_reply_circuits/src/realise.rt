@@ -8,7 +8,7 @@ ghost use Rattle.bn_rsm.specs.Machines.{machine_table};
 ghost use Rattle.bn_realise.specs.Banks.{exit_after};
 ghost use Rattle.bn_realise.specs.BankNets.{IsBankOf, bank_elements};
 ghost use Rattle.bn_reply_circuits.specs.Refused.{IsRsmRefused};
-ghost use Rattle.bn_reply_circuits.specs.RealiseReply.{BankReplies, RealiseIsSettled, RealiseReplies};
+ghost use Rattle.bn_reply_circuits.specs.RealiseReply.{BankReplies, RealiseReplies};
 ghost use Rattle.bn_reply_circuits.specs.Unwritten.{IsBankConfig, WillReply};
 
 use crate::unwritten::Unwritten;
@@ -167,9 +167,3 @@ fn exit_line(rsm: &Rsm, state: u32, line: u32) -> Line
         },
     }
 }
-
-/// To all states and lines, counted from 1, and all bytes `realise` has an answer, and only one. The
-/// function does nothing: its contract is the law.
-pub fn realise_has_one_reply()
-    ensures { RealiseIsSettled }
-{}

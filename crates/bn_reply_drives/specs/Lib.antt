@@ -3,3 +3,4 @@ pub mod DriveReply
 pub mod DriveHeadline
 pub mod DriveCircuits
 pub mod ErasedDrives
+pub mod Laws

@@ -7,6 +7,4 @@ mod laws;
 mod run_for;
 
 pub use drive::reply_drive;
-pub use laws::{
-    builds_run_and_return, drive_has_one_reply, drives_tell_their_machine, erased_circuits_erase,
-};
+pub use laws::drive_reply_laws;

@@ -13,6 +13,7 @@ use Rattle.bn_reply.specs.declared.status.Status.{Status}
 use Rattle.bn_reply.specs.declared.status.Status.TheVariants.{Done}
 use Rattle.bn_reply_erase.specs.EraseReply.{EraseRunReplies, erasing_of, erased_lines, lettered}
 use Rattle.bn_base.specs.declared.limits.TheConstants.{MOST_COUNT}
+use Rattle.bn_reply_erase.specs.EraseReply.{EraseIsSettled, EraseRunIsSettled}
 
 -- the bytes are two tables with machines in standard form, the word is spelled by these symbols of the joint letters,
 -- and neither the word nor the erasing machine is too large
@@ -51,3 +52,14 @@ ErasingRunsTellBoth =
     (told : List Place) → IsAskedOf bytes word t u symbols → EraseRunReplies word n bytes status text told
     → ((i : ℕ) (y : List ℕ) → BothHalt t u symbols n i y → TellsHalt t u i y status text)
     × (status ≡ Done → (i : ℕ) × (y : List ℕ) × BothHalt t u symbols n i y × TellsHalt t u i y status text)
+
+-- ---- the laws
+
+pub record Laws : Type 0 where
+  -- To all bytes `erase` has an answer, and only one.
+  pub erase_has_one_reply : EraseIsSettled
+  -- To all words, numbers of steps and bytes `erase =W n` has an answer, and only one.
+  pub erase_run_has_one_reply : EraseRunIsSettled
+  -- `erase =W n` answers that the run halts exactly where both machines do, each on the other's word, and the number of
+  -- steps that they make it take is at most n (Bennett 1973).
+  pub erasing_runs_tell_both : ErasingRunsTellBoth

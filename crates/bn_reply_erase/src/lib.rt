@@ -9,4 +9,4 @@ mod pair;
 mod run;
 
 pub use erase::{reply_erase, reply_erase_run};
-pub use laws::{erase_has_one_reply, erase_run_has_one_reply, erasing_runs_tell_both};
+pub use laws::erase_reply_laws;

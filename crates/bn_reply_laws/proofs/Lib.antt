@@ -10,3 +10,4 @@ pub mod OutcomeLemmas
 pub mod ToldRunLemmas
 pub mod CompileLemmas
 pub mod ClosedLemmas
+pub mod LawLemmas

@@ -27,6 +27,12 @@ use Rattle.bn_reply_laws.specs.RunReply.{budget}
 use Rattle.bn_reply_laws.specs.ToldRuns.{AsksRun, ComesOutOn, IsGiven, TellsHeadline}
 use Rattle.bn_reply_laws.specs.ToldRuns.{TellsOutcome, TookOutcome}
 use Rattle.bn_reply.specs.declared.limits.TheConstants.{MOST_INPUT_BYTES}
+use Rattle.bn_reply_laws.specs.CircuitReply.{CircuitIsSettled}
+use Rattle.bn_reply_laws.specs.CompileLaws.{TextsDifferInWords, CompiledTextsStepBack}
+use Rattle.bn_reply_laws.specs.CompileReply.{CompileIsSettled}
+use Rattle.bn_reply_laws.specs.MigrateReply.{MigrateIsSettled, MigratedStays}
+use Rattle.bn_reply_laws.specs.RunReply.{RunIsSettled}
+use Rattle.bn_reply_laws.specs.TextSizes.{TextsAreShort, TextsMayBeRead}
 
 -- two counts of the elements of one machine's board agree, and each board has as many
 abbrev pub BoardsAreCounted : Type 0
@@ -153,3 +159,54 @@ abbrev pub AnswersTellHeadline : Type 0
 AnswersTellHeadline =
     (words : List (List ℕ)) (bytes : List ℕ) (status : Status) (taken took : Option (List ℕ))
     → TookReplies words bytes status taken took → TellsHeadline words bytes status taken took
+
+-- ---- the laws
+
+pub record Laws : Type 0 where
+  -- To all numbers of steps and bytes `step` and `back` have an answer, and only one.
+  pub circuits_have_one_reply : CircuitIsSettled
+  -- To all bytes `migrate` has an answer, and only one.
+  pub migrate_has_one_reply : MigrateIsSettled
+  -- What was migrated stays as it is when it is migrated once more.
+  pub migrated_stays : MigratedStays
+  -- A configuration text has at most 52 bytes an element and 97 for its header, in either version: it is within the
+  -- limit of an input.
+  pub texts_may_be_read : TextsAreShort × TextsMayBeRead
+  -- The elements of a board are counted by its machine and limits alone.
+  pub boards_are_counted : BoardsAreCounted
+  -- A table's machine in standard form, a word of its letters and limits that may be asked for may be compiled,
+  -- where their board isn't too large.
+  pub given_boards_are_accepted : GivenBoardsAreAccepted
+  -- A board at its start has a configuration text.
+  pub boards_are_spelled : BoardsAreSpelled
+  -- After each number of steps the signal of a board is inside, or it has left by an exit with a name.
+  pub exits_are_named : ExitsAreNamed
+  -- The moments that a board's layout finds on its run are the run's moments, counted.
+  pub moments_are_counted : MomentsAreCounted
+  -- What is told of one board is told of each board of the same machine, word and limits.
+  pub boards_tell_alike : BoardsTellAlike
+  -- Where a run comes to, the layout finds an exit.
+  pub boards_have_runs : BoardsHaveRuns
+  -- The run of a board is told by the exit and the moments that its layout finds.
+  pub boards_tell_runs : BoardsTellRuns
+  -- To all words, limits that may be asked for, and bytes `compile` has an answer, and only one.
+  pub compile_has_one_reply : CompileIsSettled
+  -- The texts of two words on one table in one window spell one circuit with one start, end and place, whose bars
+  -- differ at most at bottoms of tape 1's cells.
+  pub texts_differ_in_words : TextsDifferInWords
+  -- What `step` makes of a compiled text, `back` takes back.
+  pub compiled_texts_step_back : CompiledTextsStepBack
+  -- To all words, limits that may be asked for, numbers of steps and bytes `run` has an answer, and only one.
+  pub run_has_one_reply : RunIsSettled
+  -- What the run of a board tells is the outcome of the machine's own bounded run.
+  pub runs_tell_outcomes : RunsTellOutcomes
+  -- With a greatest number of steps the run is inside exactly where that is below the board's cost, and else tells
+  -- what it tells without one.
+  pub runs_stop_within : RunsStopWithin
+  -- Each machine, word and limits have one count of elements and one outcome, and a board, the same up to the order
+  -- of wires, with one cost, where it isn't too large.
+  pub runs_have_one_of_each : RunsHaveOneOfEach
+  -- A reply to the words that ask for a run tells the outcome of the machine's own bounded run.
+  pub replies_tell_outcomes : RepliesTellOutcomes
+  -- The headline follows from the answer, where the sink takes it whole.
+  pub answers_tell_headline : AnswersTellHeadline

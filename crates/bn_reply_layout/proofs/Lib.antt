@@ -8,3 +8,4 @@ pub mod TextLemmas
 pub mod SettledLemmas
 pub mod PlaceLemmas
 pub mod TellingLemmas
+pub mod LawLemmas

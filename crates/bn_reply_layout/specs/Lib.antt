@@ -6,3 +6,4 @@ pub mod LayoutText
 pub mod LayoutReply
 pub mod PlaceLaws
 pub mod Made
+pub mod Laws

@@ -12,6 +12,8 @@ use Rattle.bn_build_laws.specs.Builds.{Build, IsBuild, IsStart, build_elements, 
 use Rattle.bn_reply_builds.specs.Outcomes.{drive_tape_lines}
 use Rattle.bn_reply_looks.specs.LookText.{state_line}
 use Rattle.bn_reply_looks.specs.Looking.{ShowsBuild}
+use Rattle.bn_reply_looks.specs.LookReply.{LookIsSettled}
+use Rattle.bn_reply_looks.specs.PlayReply.{PlayIsSettled}
 
 -- behind its first lines the text tells the state and the tapes of a configuration to which some steps of the machine's
 -- own run from c in the window lead
@@ -28,3 +30,14 @@ LooksTellTheirMachine =
     (t : QuadTable) (f : Build) → IsBuild f → 48 * build_elements f ≤ clock → (c : Configuration ℕ)
     → IsStart f c (start_from f.machine f.limits c) (start_of f c) → (d : Config) (text : List ℕ)
     → ShowsBuild t f c d text → TellsRun t f c text
+
+-- ---- the laws
+
+pub record Laws : Type 0 where
+  -- To all words, windows, numbers of steps and bytes `look` has an answer, and only one.
+  pub look_has_one_reply : LookIsSettled
+  -- Wherever a board is shown, the state and the tapes that are told are those to which some steps of the machine's own
+  -- run in the window lead.
+  pub looks_tell_their_machine : LooksTellTheirMachine
+  -- To all words, windows and bytes `play` has an answer, and only one.
+  pub play_has_one_reply : PlayIsSettled

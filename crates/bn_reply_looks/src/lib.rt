@@ -8,6 +8,6 @@ mod look_text;
 mod play;
 mod viewer;
 
-pub use laws::{look_has_one_reply, looks_tell_their_machine, play_has_one_reply};
+pub use laws::look_reply_laws;
 pub use look::reply_look;
 pub use play::reply_play;

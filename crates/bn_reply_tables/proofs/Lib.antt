@@ -14,3 +14,4 @@ pub mod NamedWordLemmas
 pub mod QuadReplyLemmas
 pub mod UniformLemmas
 pub mod WordsLemmas
+pub mod LawLemmas

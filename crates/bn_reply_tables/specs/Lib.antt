@@ -10,3 +10,4 @@ pub mod QuadReply
 pub mod WordsReply
 pub mod UniformReply
 pub mod Opened
+pub mod Laws

@@ -3,7 +3,7 @@
 ghost use Rattle.std.specs.Prelude.{◌≡◌, [], IfOk};
 ghost use Rattle.bn_reply.specs.Answering.{IsDone};
 ghost use Rattle.bn_reply.specs.TableReply.{JudgedReplies};
-ghost use Rattle.bn_reply_tables.specs.BennettReply.{BennettIsSettled, BennettReplies, bennett_text};
+ghost use Rattle.bn_reply_tables.specs.BennettReply.{BennettReplies, bennett_text};
 
 use bn_bennett::{names, translate};
 use bn_qtable::write_quads;
@@ -51,8 +51,3 @@ fn translated_text(
     let names = names(alloc, table, &translated)?;
     write_quads(alloc, translated.machine().machine(), &names)
 }
-
-/// To all bytes `bennett` has an answer, and only one. The function does nothing: its contract is the law.
-pub fn bennett_has_one_reply()
-    ensures { BennettIsSettled }
-{}

@@ -3,7 +3,7 @@
 ghost use Rattle.std.specs.Prelude.{◌≡◌, [], IfOk};
 ghost use Rattle.bn_reply.specs.Answering.{IsDone};
 ghost use Rattle.bn_reply.specs.TableReply.{JudgedReplies};
-ghost use Rattle.bn_reply_tables.specs.CheckReply.{CheckIsSettled, CheckReplies, standard_line};
+ghost use Rattle.bn_reply_tables.specs.CheckReply.{CheckReplies, standard_line};
 
 use bn_machine::Machine;
 use bn_reply::{Judged, NoMemory, OpenedTable, Reply, Status, judge_table, open_table};
@@ -46,8 +46,3 @@ fn standard_text(alloc: Global, machine: &Machine) -> Result<Vec<u8>, NoMemory>
     )?;
     Ok(text.into_bytes())
 }
-
-/// To all bytes `check` has an answer, and only one. The function does nothing: its contract is the law.
-pub fn check_has_one_reply()
-    ensures { CheckIsSettled }
-{}

@@ -5,7 +5,7 @@ ghost use Rattle.bn_quad.specs.Quadruples.{inverse_of};
 ghost use Rattle.bn_csv.specs.Lines.{lines_of};
 ghost use Rattle.bn_qtable.specs.Named.{HasNames};
 ghost use Rattle.bn_qtable.specs.Rows.{quadruple_rows_by};
-ghost use Rattle.bn_reply_tables.specs.InverseReply.{InverseLaws, InverseReplies};
+ghost use Rattle.bn_reply_tables.specs.InverseReply.{InverseReplies};
 
 use crate::reversible::quad_fault_text;
 use bn_qtable::{read_quads, write_quads};
@@ -44,9 +44,3 @@ fn inverted_text(
     let inverse = machine.inverse(alloc)?;
     write_quads(alloc, &inverse, names)
 }
-
-/// The laws of `inverse`, a named field each: it has one answer, and twice it gives the first table's entries. The
-/// function does nothing: its contract is the laws.
-pub fn inverse_reply_laws()
-    ensures { InverseLaws }
-{}

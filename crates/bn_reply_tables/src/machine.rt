@@ -2,7 +2,7 @@
 
 ghost use Rattle.std.specs.Prelude.{◌≡◌, ◌<◌, ◌≤◌, [], All, IfOk};
 ghost use Rattle.bn_reply.specs.TableReply.{JudgedReplies, WordReplies};
-ghost use Rattle.bn_reply_tables.specs.MachineReply.{MachineIsSettled, MachineReplies, TellsMachineRun, ending_text};
+ghost use Rattle.bn_reply_tables.specs.MachineReply.{MachineReplies, TellsMachineRun, ending_text};
 ghost use Rattle.bn_reply_tables.specs.MachineReply.{halted_lines, ending_status, machine_stuck_line};
 ghost use Rattle.bn_reply.specs.Lines.{running_line};
 ghost use Rattle.bn_reply_tables.specs.MachineRun.{FitsTable, ending_of};
@@ -126,9 +126,3 @@ fn running_text(alloc: Global, steps: u32) -> Result<Vec<u8>, NoMemory>
 {
     Ok(format!(in alloc; "running {steps}\n")?.into_bytes())
 }
-
-/// To all words, numbers of steps and bytes `machine` has an answer, and only one. The function does
-/// nothing: its contract is the law.
-pub fn machine_has_one_reply()
-    ensures { MachineIsSettled }
-{}

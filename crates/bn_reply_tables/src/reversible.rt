@@ -3,7 +3,7 @@
 ghost use Rattle.std.specs.Prelude.{◌≡◌, ◌≢◌, [], IfOk};
 ghost use Rattle.bn_quad.specs.declared.clash.Clash.TheVariants.{Domain, Range};
 ghost use Rattle.bn_qtable.specs.declared.refusal.QuadTableRefusal.TheVariants as faults;
-ghost use Rattle.bn_reply_tables.specs.ReversibleReply.{IsVerdict, ReversibleIsSettled, ReversibleReplies};
+ghost use Rattle.bn_reply_tables.specs.ReversibleReply.{IsVerdict, ReversibleReplies};
 ghost use Rattle.bn_reply_tables.specs.ReversibleReply.{TellsVerdicts};
 ghost use Rattle.bn_reply_tables.specs.ReversibleReply.{quad_fault_line, verdict_line};
 
@@ -77,8 +77,3 @@ fn verdict_text(alloc: Global, name: &str, found: Option<(u32, u32)>) -> Result<
         Some((i, j)) => Ok(format!(in alloc; "{name} no {i} {j}\n")?.into_bytes()),
     }
 }
-
-/// To all bytes `reversible` has an answer, and only one. The function does nothing: its contract is the law.
-pub fn reversible_has_one_reply()
-    ensures { ReversibleIsSettled }
-{}

@@ -1,7 +1,7 @@
 //! The command `standard`.
 
 ghost use Rattle.std.specs.Prelude.{[], IfOk};
-ghost use Rattle.bn_reply_tables.specs.StandardReply.{IsRefusedReply, StandardIsSettled, StandardTableReplies};
+ghost use Rattle.bn_reply_tables.specs.StandardReply.{IsRefusedReply, StandardTableReplies};
 ghost use Rattle.bn_reply_tables.specs.StandardReply.{TellsStandard};
 
 use bn_reply::{NoMemory, OpenedTable, Reply, Status, open_table};
@@ -53,8 +53,3 @@ fn refused_reply(alloc: Global, refusal: LooseRefusal) -> Result<Reply, NoMemory
         LooseRefusal::NoMemory => Err(NoMemory),
     }
 }
-
-/// To all bytes `standard` has an answer, and only one. The function does nothing: its contract is the law.
-pub fn standard_has_one_reply()
-    ensures { StandardIsSettled }
-{}

@@ -5,3 +5,4 @@ pub mod Stages
 pub mod ConfigurationText
 pub mod MomentsReply
 pub mod QuadStages
+pub mod Laws

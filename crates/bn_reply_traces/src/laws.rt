@@ -1,14 +1,7 @@
-//! Laws on the answers. Each function does nothing; its contract is the law.
+//! Laws on the answers. The function does nothing: its contract is the laws.
+ghost use Rattle.bn_reply_traces.specs.Laws.{Laws};
 
-ghost use Rattle.bn_reply_traces.specs.MomentsReply.{MomentsAreSettled};
-ghost use Rattle.bn_reply_traces.specs.TraceReply.{TraceIsSettled};
-
-/// To all words, numbers of steps and bytes `trace` has an answer, and only one.
-pub fn trace_has_one_reply()
-    ensures { TraceIsSettled }
-{}
-
-/// To all words, numbers of steps and bytes `moments` has an answer, and only one, in both of its forms.
-pub fn moments_have_one_reply()
-    ensures { MomentsAreSettled }
+/// Laws on the answers, a named field each.
+pub fn trace_reply_laws()
+    ensures { Laws }
 {}

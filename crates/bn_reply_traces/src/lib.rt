@@ -12,6 +12,6 @@ mod stage;
 mod tape_text;
 mod trace;
 
-pub use laws::{moments_have_one_reply, trace_has_one_reply};
+pub use laws::trace_reply_laws;
 pub use moments::{answer_moments, answer_three_moments};
 pub use trace::answer_trace;

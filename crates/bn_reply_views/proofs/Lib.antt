@@ -12,3 +12,4 @@ pub mod ViewClosedLemmas
 pub mod SteppedLemmas
 pub mod PlaceLemmas
 pub mod BreakpointLemmas
+pub mod LawLemmas

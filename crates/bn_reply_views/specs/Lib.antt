@@ -9,3 +9,4 @@ pub mod Showing
 pub mod ViewLaws
 pub mod PlaceLaws
 pub mod BreakpointLaws
+pub mod Laws

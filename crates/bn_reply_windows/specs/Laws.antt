@@ -48,3 +48,12 @@ RoundsBeginSearches =
     (bytes letters : List ℕ) (t : Named) (symbols : List ℕ) → IsWordGiven bytes letters t symbols
     → (n : ℕ) (w : Limits) (front : List Place) → MakeRounds t.machine symbols n (first_window symbols) w front
     → BeginsSearch t symbols front
+
+-- ---- the laws
+
+pub record Laws : Type 0 where
+  -- Whatever rounds are made, there are not too many of them, the window to which they lead may be asked for, and where
+  -- the signal of its board leaves by an end of a tape, this end may be doubled.
+  pub rounds_go_on : RoundsGoOn
+  -- Whatever rounds are made, there is an answer to the search whose places begin with theirs.
+  pub rounds_begin_searches : RoundsBeginSearches

@@ -8,4 +8,4 @@ mod round;
 mod rounds;
 
 pub use auto::reply_run_auto;
-pub use laws::{rounds_begin_searches, rounds_go_on};
+pub use laws::round_laws;

@@ -28,3 +28,15 @@ abbrev pub CostsAreBounded : Type 0
 CostsAreBounded =
     (n k q i r o : ℕ) → q < n → i < k → r < n → o < k
     → (move_cost n k q i r o ≤ 4 * (n * (k + 1))) × (loose_cost k q i ≤ 4 * (n * (k + 1)))
+
+-- ---- the laws
+
+pub record Laws : Type 0 where
+  -- Moves have one refusal at most, beside want of memory.
+  pub refusals_are_one : RefusalsAreOne
+  -- Moves that make a machine have no refusal, beside want of memory.
+  pub sound_moves_are_taken : SoundMovesAreTaken
+  -- Moves make a machine, or they have a refusal beside want of memory.
+  pub moves_are_sound_or_refused : MovesAreSoundOrRefused
+  -- A move costs at most four times the elements of the bank, and so does the way to a loose line.
+  pub costs_are_bounded : CostsAreBounded

@@ -8,9 +8,7 @@ mod rsm;
 mod rsm_move;
 
 pub use bn_lists::NoMemory;
-pub use laws::{
-    costs_are_bounded, moves_are_sound_or_refused, refusals_are_one, sound_moves_are_taken,
-};
+pub use laws::rsm_laws;
 pub use refusal::RsmRefusal;
 pub use rsm::Rsm;
 pub use rsm_move::RsmMove;

@@ -3,3 +3,4 @@ mod Passing
 mod Drafting
 mod Coming
 pub mod ReadingLaws
+pub mod LawLemmas

@@ -4,3 +4,4 @@ pub mod Reading
 pub mod Draft
 pub mod Drafted
 pub mod Writing
+pub mod Laws

@@ -14,11 +14,6 @@ use bn_rsm::RsmMove;
 /// The most entries of a table.
 pub const MOST_ENTRIES: u32 = 65_536;
 
-/// A law: the most entries are 2^16.
-pub fn most_entries_are_stated()
-    ensures { MOST_ENTRIES ≡ 2 ^ 16 }
-{}
-
 // The number that a field is, less one; `None` exactly where it is none from 1 to `MOST_COUNT`.
 fn number_of(field: &[u8]) -> Option<u32>
     ensures { MatchOption result (fault.is_number field.now ≡ false) (λ n. (fault.is_number field.now ≡ true)

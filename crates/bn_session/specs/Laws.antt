@@ -87,3 +87,14 @@ GoesStopAtLeast =
     (k : Circuit) (moment : Config → Option ℕ) (shows : Config → List ℕ) (c0 : Config) (e : ℕ) (s t : Session)
     (text : List ℕ) → c0.steps ≡ 0 → IsOnRun k c0 s → PlaysOne k moment (given shows) (Go e) s t text
     → IsLeastHit k (stops moment s.breaks) c0 s.config e t.config
+
+-- ---- the laws
+
+pub record Laws : Type 0 where
+  -- Bytes are a script of one list of commands, or have one first fault, and never both.
+  pub scripts_have_one_reading : ScriptsAreOne × FaultyScriptsAreNone × FirstFaultsAreOne × ScriptsReadOrFault
+  -- A script has one answer and one end.
+  pub plays_have_one_answer : PlaysAreOne × PlaysAreThere
+  -- A script stays on the run from the start: each place is that of as many steps as its line says, and `go` stops at
+  -- the least later step at which a breakpoint holds. So views that agree on this run give the same answers.
+  pub plays_stay_on_the_run : PlacesAreOfTheRun × GoesStopAtLeast × PlaysAgree

@@ -19,7 +19,7 @@ mod walk;
 
 pub use command::Command;
 pub use label::Label;
-pub use laws::{plays_have_one_answer, plays_stay_on_the_run, scripts_have_one_reading};
+pub use laws::session_laws;
 pub use player::play;
 pub use refusal::ScriptRefusal;
 pub use script::{Script, read_script};

@@ -2,3 +2,4 @@ pub mod Standard
 pub mod Verdict
 pub mod Search
 pub mod VerdictLaws
+pub mod Laws

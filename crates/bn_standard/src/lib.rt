@@ -6,6 +6,6 @@ mod laws;
 mod standard;
 mod why;
 
-pub use laws::{standard_is_accepted, verdicts_are_one};
+pub use laws::verdict_laws;
 pub use standard::{Standard, check};
 pub use why::Why;

@@ -115,3 +115,33 @@ InvertsExample =
     (turns 0 0 0 Right 1 ∷ turns 1 1 2 Right 1 ∷ turns 1 2 1 Right 1 ∷ turns 1 0 0 Left 2 ∷ turns 2 1 1 Left 2
     ∷ turns 2 2 2 Left 2 ∷ turns 2 0 0 Stay 3 ∷ [])
     4 3
+
+-- ---- the laws
+
+pub record Laws : Type 0 where
+  -- Of N quintuples and z symbols come N + z + 1 quintuples.
+  pub counts_rules : CountsRules
+  -- Numbers by first appearance tell the states apart.
+  pub numbers_tell_apart : NumbersTellApart
+  -- The list is a machine, where it isn't too long.
+  pub is_machine_again : IsMachineAgain
+  -- The machine that is made is in standard form.
+  pub is_in_standard_form : IsInStandardForm
+  -- The text of the list is read as the table of the machine that is made, which is in standard form.
+  pub texts_are_read : TextsAreRead
+  -- One refusal beside want of memory fits a machine, and none but that fits one that is accepted.
+  pub refusals_are_one : RefusalsAreOne
+  -- A tape has one longest word without blanks that ends at its head, and only one.
+  pub tail_is_one : HasOneTail
+  -- Where the loose run halts, the machine that is made halts d + 2 steps later, d cells further left.
+  pub halts_behind : HaltsBehind
+  -- Where the loose run is stuck, the machine that is made is stuck one step later.
+  pub sticks_alike : SticksAlike
+  -- The machine that is made halts on a word exactly where the loose run halts.
+  pub halts_together : HaltsTogether
+  -- Where the list isn't too long, it is a machine as tables have it: its states are numbered by first appearance.
+  pub fits_table_again : FitsTableAgain
+  -- The machine that is made is stuck only one step after the loose run is.
+  pub sticks_together : SticksTogether
+  -- The seven rules of a machine that turns each letter of a word.
+  pub inverts_example : InvertsExample

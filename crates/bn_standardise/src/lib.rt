@@ -12,11 +12,7 @@ mod refusal;
 mod rule;
 mod text;
 
-pub use laws::{
-    counts_rules, fits_table_again, halts_behind, halts_together, inverts_example,
-    is_in_standard_form, is_machine_again, numbers_tell_apart, refusals_are_one, sticks_alike,
-    sticks_together, tail_is_one, texts_are_read,
-};
+pub use laws::standardise_laws;
 pub use machine::standardise;
 pub use refusal::LooseRefusal;
 pub use text::standard_text;

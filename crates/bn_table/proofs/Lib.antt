@@ -6,3 +6,4 @@ pub mod Passing
 pub mod ReadingLaws
 pub mod Writing
 pub mod MachineLemmas
+pub mod LawLemmas

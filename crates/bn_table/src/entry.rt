@@ -14,11 +14,6 @@ use bn_machine::{Shift, shift_of};
 /// The most entries of a table.
 pub const MOST_ENTRIES: u32 = 4000;
 
-/// A law: the most entries are 4,000.
-pub fn most_entries_are_stated()
-    ensures { MOST_ENTRIES ≡ 4000 }
-{}
-
 /// What an entry says.
 #[derive(Clone, Copy)]
 pub struct Fields<'a> {

@@ -13,3 +13,4 @@ pub mod CallLemmas
 pub mod MemoryLemmas
 pub mod TextLemmas
 pub mod BuildTextLemmas
+pub mod LawLemmas

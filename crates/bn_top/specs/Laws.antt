@@ -3,6 +3,11 @@ use Rattle.std.specs.Prelude.{ℕ, List}
 use Rattle.bn_reply.specs.Answering.{HasAnswer, IsOneAnswer}
 use Rattle.bn_words.specs.Requests.{Request, HasForm}
 use Rattle.bn_top.specs.Answers.{Answers}
+use Rattle.bn_top.specs.Clauses.{EndsGiveClauses, ClausesGiveEnds}
+use Rattle.bn_top.specs.CommandLaws.{AnswersTellCommands}
+use Rattle.bn_top.specs.HeadlineLaws.{AnswersTellMachine, GeneratedClauseTells}
+use Rattle.bn_top.specs.TextLaws.{CompiledTextsReturn, BuiltTextsReturn, RealisedTextsReturn, MirroredTextsReturn}
+use Rattle.bn_top.specs.TextLaws.{FarmedTextsReturn}
 
 abbrev pub AnswersAreOne : Type 0
 AnswersAreOne = (words : List (List ℕ)) (bytes : List ℕ) → IsOneAnswer (Answers words bytes)
@@ -10,3 +15,25 @@ AnswersAreOne = (words : List (List ℕ)) (bytes : List ℕ) → IsOneAnswer (An
 abbrev pub RequestsAreAnswered : Type 0
 RequestsAreAnswered = (words : List (List ℕ)) (request : Request) (bytes : List ℕ) → HasForm words request →
     HasAnswer (Answers words bytes)
+
+-- ---- the laws
+
+pub record Laws : Type 0 where
+  -- Words and bytes have at most one answer: one status, one text, and one list of places to tell.
+  pub one_answer : AnswersAreOne
+  -- To words that ask for something, and all bytes, there is an answer.
+  pub each_request_has_an_answer : RequestsAreAnswered
+  -- How a call ends says the same as its clauses apart, each by its name.
+  pub ends_give_clauses : EndsGiveClauses × ClausesGiveEnds
+  -- The whole answer gives the headline by the machine alone.
+  pub answers_tell_machine : AnswersTellMachine
+  -- The whole answer tells what `machine`, `bennett`, `step`, `back`, `inverse`, `build` and `drive` print, each in its
+  -- own terms.
+  pub answers_tell_commands : AnswersTellCommands
+  -- What `generate` answers gives its own headline.
+  pub generate_tells_machine : GeneratedClauseTells
+  -- What the workbench prints may be given to it again: what `compile`, `build` or `realise` printed, given to `step E`
+  -- and that to `back E`, is printed again byte for byte, for every E; the mirror of what `mirror` printed is the first
+  -- text with no steps counted; and what `farm` printed, where it is within the limit of an input, undoes the schedule.
+  pub printed_texts_return :
+      CompiledTextsReturn × BuiltTextsReturn × RealisedTextsReturn × MirroredTextsReturn × FarmedTextsReturn

@@ -6,3 +6,4 @@ pub mod BackLemmas
 pub mod ViewLemmas
 pub mod FoundLemmas
 pub mod OneLemmas
+pub mod LawLemmas

@@ -82,3 +82,18 @@ abbrev pub ViewsAreThere : Type 0
 ViewsAreThere =
     (p : Program) (word : List ℕ) (l : Limits) (f : Flat) → IsFlatOf p word l f → IsAccepted p word l f
     → (t : ℕ) (d : Config) → Reaches (Goes f.circuit) t (flat_start f) d → (v : Layers) × IsViewOf f d v
+
+-- ---- the laws
+
+pub record Laws : Type 0 where
+  -- One step is shown, and there is one.
+  pub shown_is_one : ShownIsOne × ShownIsThere
+  -- On a board's way the layout finds what is shown by the board's own moments.
+  pub shown_is_found : ShownIsFound
+  -- The signal is in one module at most.
+  pub modules_are_one : ModulesAreOne
+  -- In every configuration of a board that is reached from its start, what is shown stands for a moment of the
+  -- machine's own run.
+  pub views_stand : ViewsStand
+  -- Wherever a board comes to on its way there is one view of it, and only one.
+  pub views_are_one : ViewsAreOne × ViewsAreThere

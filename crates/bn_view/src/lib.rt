@@ -7,6 +7,6 @@ mod module_at;
 mod viewer;
 
 pub use bn_net::NoMemory;
-pub use laws::{modules_are_one, shown_is_found, shown_is_one, views_are_one, views_stand};
+pub use laws::view_laws;
 pub use layers::{BoardLayers, Layers, ModuleAt};
 pub use viewer::{view, view_board};

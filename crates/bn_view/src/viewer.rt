@@ -12,7 +12,6 @@ ghost use Rattle.bn_view.specs.Shown.{IsShown};
 ghost use Rattle.bn_view.specs.Viewed.{Finds, IsBoardFor, IsBoardOf, IsBoardView, IsLaidOut, IsLastMoment, IsView};
 ghost use Rattle.bn_view.specs.Viewed.{IsViewOf, ShowsMachine};
 
-use crate::laws::{shown_is_found, views_stand};
 use crate::layers::{BoardLayers, Layers};
 use crate::module_at::module_at;
 use bn_bennett::Translated;
@@ -43,9 +42,6 @@ pub fn view(alloc: Global, board: &Board, translated: &Translated) -> Result<Lay
         → IsBoardFor p word l f translated.now board.now → ShowsMachine p word l translated.now v) }
     ensures kept { IsBoardKept board.now }
 {
-    // The laws that what is shown is the last moment, and stands for the machine.
-    shown_is_found();
-    views_stand();
     layers_of(alloc, board, translated)
 }
 
@@ -56,9 +52,6 @@ fn layers_of(alloc: Global, board: &Board, translated: &Translated) -> Result<La
     ensures view { IfOk result (IsView translated.now board.now) }
     ensures kept { IsBoardKept board.now }
 {
-    // The laws that what is shown is the last moment, and stands for the machine.
-    shown_is_found();
-    views_stand();
     let machine = translated.machine().machine();
     let BoardLayers {
         place,

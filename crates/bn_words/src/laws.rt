@@ -1,13 +1,7 @@
-//! Laws over the definitions alone. Neither function does anything: what each ensures is a theorem on all words.
+//! Laws over the definitions alone. The function does nothing: its contract is the laws.
+ghost use Rattle.bn_words.specs.Laws.{Laws};
 
-ghost use Rattle.bn_words.specs.Laws.{WordsHaveAFormOrNone, WordsHaveOneReading};
-
-/// Words ask for at most one thing.
-pub fn words_have_one_reading()
-    ensures { WordsHaveOneReading }
-{}
-
-/// Words have one of the forms, or none.
-pub fn words_have_a_form_or_none()
-    ensures { WordsHaveAFormOrNone }
+/// Laws over the definitions alone, a named field each.
+pub fn word_laws()
+    ensures { Laws }
 {}

@@ -6,6 +6,6 @@ mod read;
 mod request;
 mod word;
 
-pub use laws::{words_have_a_form_or_none, words_have_one_reading};
+pub use laws::word_laws;
 pub use read::read_words;
 pub use request::{ConfigurationRequest, MOST_DRIVE_STEPS, Request, WholeRequest};

@@ -3,6 +3,7 @@ use Rattle.std.proofs.Common.{◌≡◌, List, ℕ, arith, subst, sym}
 use Rattle.bn_machine.specs.Machine.{IsMachine}
 use Rattle.bn_erase_laws.specs.declared.name.ErasingName.{ErasingName}
 use Rattle.bn_bennett.specs.Printed.{AreLetters}
+use Rattle.bn_erase_laws.proofs.NamesLemmas.{erasing_has_names, erasing_counts_names}
 use Rattle.bn_erase.specs.Joint.{Joint, IsJoint}
 use Rattle.bn_erase.specs.Printable.{ArePrintable}
 use Rattle.bn_erase.proofs.PrintedLemmas.{printable}
@@ -16,7 +17,7 @@ add_states-requires-clause-printable c =
     let P : List ErasingName → Type 0 = ArePrintable in
     subst P (sym c.names.ensures)
     (printable j.first j.second c.args.erasing.now left right c.first.ensures.valid.first_fits
-    c.first.ensures.valid.second_fits c.requires c.erasing_names.ensures.names c.erasing_names.ensures.count)
+    c.first.ensures.valid.second_fits c.requires erasing_has_names erasing_counts_names)
 
 -- the joint letters are letters of symbols
 joint_letters : (j : Joint) → IsJoint j → (letters : List ℕ) → letters ≡ j.letters → AreLetters letters

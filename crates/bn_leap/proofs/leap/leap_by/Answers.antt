@@ -20,7 +20,7 @@ pub overflow_sub-to : goal.overflow_sub-to
 overflow_sub-to c =
     (at-Led c.args.packed.now.net c.args.packed.now.config c.args.entry.now c.args.state c.element_at.result
     c.in-Some.to c.requires.at c.requires.state
-    c.requires.marked c.element_at.ensures c.in-Some.ensures).low
+    c.requires.marked c.element_at.ensures c.in-Some.ensures.line).low
 
 pub overflow_add-entry : goal.overflow_add-entry
 overflow_add-entry c =
@@ -34,13 +34,13 @@ pub leap_to-requires : goal.leap_to-requires
 leap_to-requires c =
     (at-Led c.args.packed.now.net c.args.packed.now.config c.args.entry.now c.args.state c.element_at.result
     c.in-Some.to c.requires.at c.requires.state
-    c.requires.marked c.element_at.ensures c.in-Some.ensures).move c.place_of.result c.place_of.ensures.whole
+    c.requires.marked c.element_at.ensures c.in-Some.ensures.line).move c.place_of.result c.place_of.ensures.whole
     c.place_of.ensures.row
 
 pub returns-in-Some : goal.returns-in-Some
 returns-in-Some c =
     rw c.leap_to.ensures ((at-Led c.args.packed.now.net c.args.packed.now.config c.args.entry.now c.args.state
     c.element_at.result c.in-Some.to
-    c.requires.at c.requires.state c.requires.marked c.element_at.ensures c.in-Some.ensures).leap c.place_of.result
+    c.requires.at c.requires.state c.requires.marked c.element_at.ensures c.in-Some.ensures.line).leap c.place_of.result
     c.place_of.ensures.whole
     c.place_of.ensures.row)

@@ -1,6 +1,7 @@
 use Rattle.std.proofs.Common.{ap, sym, subst, ◌∙◌}
 use Rattle.bn_quad.specs.Quadruples.{Quadruples, initial_of}
 use Rattle.bn_view.specs.Viewed.{IsLaidOut}
+use Rattle.bn_view.proofs.LawLemmas.{shown_is_found, views_stand}
 use Rattle.bn_view.proofs.ViewLemmas.{laid_out, layers_head}
 use Rattle.bn_view.proofs.viewer.layers_of.Goals as goal
 
@@ -16,4 +17,4 @@ head_of-requires c =
     layers_head c.args.translated.now c.args.board.now (initial_of c.machine-machine.result.now.rules)
     c.in_ok-place.field-0
     (ap (λ (m : Quadruples). initial_of m.rules) (c.machine-machine.ensures.value ∙ c.machine.ensures.value))
-    c.in_ok-place.ensures.view c.shown_is_found.ensures c.views_stand.ensures c.view_board.ensures.kept c.requires
+    c.in_ok-place.ensures.view shown_is_found views_stand c.view_board.ensures.kept c.requires

@@ -1,0 +1,97 @@
+-- The laws of this crate, a named field each. `Laws` is the contract of `headline_laws`.
+use Rattle.bn_headline.specs.AutoLaws.{RoundsAreTheSearchs, AutosTellFindings, AutosTellPlaces, AutosEndInside}
+use Rattle.bn_headline.specs.AutoLaws.{AnswersTellFoundWindow, RoundsBeginAnswers}
+use Rattle.bn_headline.specs.AutoReply.{AutoIsSettled}
+use Rattle.bn_headline.specs.CircuitLaws.{HeadlineTellsCircuit}
+use Rattle.bn_headline.specs.CommandLaws.{MachineRepliesTell, BennettRepliesTell, StepRepliesTell, BackRepliesTell}
+use Rattle.bn_headline.specs.ControlLaws.{TranslationsHaveControls}
+use Rattle.bn_headline.specs.CountLaws.{ControlsAreCounted}
+use Rattle.bn_headline.specs.FlattenLaws.{FlattenedBoardsAreFlats, FlattenedBoardsRunToTheirExit}
+use Rattle.bn_headline.specs.FoundLaws.{FoundTellsMachine, OwnSearchEnds}
+use Rattle.bn_headline.specs.GeneratedLaws.{GeneratedControlsAreCounted, GeneratedBoardsAreCounted}
+use Rattle.bn_headline.specs.GeneratedLaws.{GeneratedBoardsAreThere}
+use Rattle.bn_headline.specs.GeneratedRuns.{GeneratedRunsHalt}
+use Rattle.bn_headline.specs.HeadlineLaws.{ElementsAreCounted, RepliesTellMachine, IncrementsAreCounted, IncrementsRun}
+use Rattle.bn_headline.specs.HeadlineLaws.{GeneratedTellsMachine, OwnRunsAreOne, BoardsReturn, HeadlinesAgree}
+use Rattle.bn_headline.specs.StuckLaws.{StopsAreNamed, NamedStopsAreEnds, StuckRunsAreNamed}
+use Rattle.bn_headline.specs.WindowLaws.{EndsAreFour, CellsGrow, ElementsGrow, NumbersStayLow, SearchEnds}
+use Rattle.bn_headline.specs.WindowLaws.{SearchIsShort, SearchIsOne, WindowsAreWhole, FoundComesOut, LargeIsTooLarge}
+
+pub record Laws : Type 0 where
+  -- The replies of `machine` and `bennett` to a table whose machine is in standard form, and those of `step` and `back`
+  -- to a text that spells a configuration: how the machine's own run comes out, the table of its reversible machine,
+  -- and the text of the configuration to which, or from which, the circuit goes.
+  pub commands_tell : MachineRepliesTell × BennettRepliesTell × StepRepliesTell × BackRepliesTell
+  -- The control of Bennett's reversible machine has 12N - 2N' + 4(f - 1) + 8z + 16 states, for N quintuples, N' of them
+  -- without a shift, f states and z symbols, less one for each state other than the start that is no quintuple's next,
+  -- and less one for each state other than the final that is no quintuple's state.
+  pub controls_are_counted : ControlsAreCounted
+  -- The elements of a machine's network are counted by the machine and its limits alone.
+  pub elements_are_counted : ElementsAreCounted
+  -- Where the sink took the reply to a run, it took what the machine's own bounded run names.
+  pub replies_tell_machine : RepliesTellMachine
+  -- The circuits of one to four increments have so many elements.
+  pub increments_are_counted : IncrementsAreCounted
+  -- The machine of k increments has such a run, and its circuit isn't too large.
+  pub increments_run : IncrementsRun
+  -- What tells the outcome of the run of k increments tells that it halts after 10k + 1 steps with 11 + k.
+  pub generated_tells_machine : GeneratedTellsMachine
+  -- A table in standard form, a word that fits and limits have an own run, and only one.
+  pub own_runs_are_one : OwnRunsAreOne
+  -- The signal is inside below the cost and outside at it, and steps back lead back, from the exit to the start.
+  pub boards_return : BoardsReturn
+  -- Two answers of which the headline without a greatest number of steps holds have one status, and one text, or two
+  -- that differ in the number of element steps alone.
+  pub headlines_agree : HeadlinesAgree
+  -- What tells the headline of the boards tells that by the circuit.
+  pub headline_tells_circuit : HeadlineTellsCircuit
+  -- What tells the headline where the window is found tells it by the machine alone, and by the circuit; and the search
+  -- by the machine alone ends.
+  pub found_tells_machine : FoundTellsMachine × OwnSearchEnds
+  -- The board that is flattened from the network of a translation is the machine's board, at its start.
+  pub flattened_boards_are_flats : FlattenedBoardsAreFlats
+  -- The board that is flattened from the network of a translation runs to the exit that the one-tape machine's own run
+  -- names.
+  pub flattened_boards_run_to_their_exit : FlattenedBoardsRunToTheirExit
+  -- Where the run of an assembled network stops, `stuck_of` names the machine's state and the symbol.
+  pub stops_are_named : StopsAreNamed × NamedStopsAreEnds × StuckRunsAreNamed
+  -- The machine of a translation meets the control's condition.
+  pub translations_have_controls : TranslationsHaveControls
+  -- The boards of the machine of k increments on 1011 have so many elements, which aren't too many, and are there.
+  pub generated_boards_are_there : GeneratedControlsAreCounted × GeneratedBoardsAreCounted × GeneratedBoardsAreThere
+  -- The machine of k increments halts on 1011 after 10k + 1 steps, with k more.
+  pub generated_runs_halt : GeneratedRunsHalt
+  -- A bounded run comes out at one of four ends alone.
+  pub ends_are_four : EndsAreFour
+  -- Each doubling adds at least one cell.
+  pub cells_grow : CellsGrow
+  -- A board has at least 22 elements for each of its cells, and each doubling adds as many.
+  pub elements_grow : ElementsGrow
+  -- A window whose board isn't too large can be widened at each end.
+  pub numbers_stay_low : NumbersStayLow
+  -- The search for a window ends.
+  pub search_ends : SearchEnds
+  -- The search for a window makes at most one round more than the greatest number of elements.
+  pub search_is_short : SearchIsShort
+  -- The search for a window has one finding, after one number of rounds.
+  pub search_is_one : SearchIsOne
+  -- Each window on the way has numbers from 1 on and room for the word, and may be asked for.
+  pub windows_are_whole : WindowsAreWhole
+  -- A window that is found is one in which the machine halts or is stuck.
+  pub found_comes_out : FoundComesOut
+  -- Where no window is found, the last board is too large.
+  pub large_is_too_large : LargeIsTooLarge
+  -- The rounds on the boards are those of the search by the machine's own bounded runs.
+  pub rounds_are_the_searchs : RoundsAreTheSearchs
+  -- To all words and bytes `run =W auto` has an answer, and only one.
+  pub auto_has_one_reply : AutoIsSettled
+  -- What is answered tells what the search by the machine's own bounded runs finds.
+  pub autos_tell_findings : AutosTellFindings
+  -- The places told are those of the board in each window of the search in turn, up to its cost.
+  pub autos_tell_places : AutosTellPlaces
+  -- The status is never that of a window, and never that of a run cut short.
+  pub autos_end_inside : AutosEndInside
+  -- The headline for a window that is found follows from the answer, where the sink takes it whole.
+  pub answers_tell_found_window : AnswersTellFoundWindow
+  -- Whatever rounds are made from the first window on, their places begin what is told in the answer.
+  pub rounds_begin_answers : RoundsBeginAnswers

@@ -1,0 +1,26 @@
+use Rattle.bn_machine.proofs.LawLemmas.{output_is_one, rooms_change_nothing, alike_moments_end_alike}
+use Rattle.bn_machine.proofs.LawLemmas.{runs_have_histories, ending_is_one, outcome_is_one}
+use Rattle.bn_machine.proofs.MachineStepLemmas.{steps_are_functions, head_after, word_beyond, cut_run}
+use Rattle.bn_machine.proofs.TapeLemmas.{same_tape}
+use Rattle.bn_machine.proofs.TurnsLemmas.{turn_once}
+use Rattle.bn_machine.proofs.WindowLemmas.{windows-one}
+use Rattle.std.proofs.Common.{refl}
+use Rattle.bn_machine.proofs.laws.machine_laws.Goals as goal
+
+pub returns : goal.returns
+returns _ = record {
+  tapes_are_their_symbols = same_tape;
+  output_is_one = output_is_one;
+  steps_are_functions = steps_are_functions;
+  turns_are_one = turn_once;
+  rooms_change_nothing = rooms_change_nothing;
+  heads_stay_near = head_after;
+  words_stand_far = word_beyond;
+  cut_words_run_alike = cut_run;
+  alike_moments_end_alike = alike_moments_end_alike;
+  runs_have_histories = runs_have_histories;
+  ending_is_one = ending_is_one;
+  outcome_is_one = outcome_is_one;
+  windows_have_one_list = windows-one;
+  greatest_side_is_stated = refl;
+}

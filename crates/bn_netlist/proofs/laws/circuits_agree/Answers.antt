@@ -1,5 +1,0 @@
-use Rattle.bn_netlist.proofs.NetLemmas.{circuits-agree}
-use Rattle.bn_netlist.proofs.laws.circuits_agree.Goals as goal
-
-pub returns : goal.returns
-returns c = circuits-agree

@@ -1,0 +1,7 @@
+//! Laws on what `generate` answers. The function does nothing: its contract is the laws.
+ghost use Rattle.bn_reply_boards.specs.Laws.{Laws};
+
+/// Laws on what `generate` answers, a named field each.
+pub fn generate_laws()
+    ensures { Laws }
+{}

@@ -1,0 +1,24 @@
+-- The laws of this crate, a named field each. `Laws` is the contract of `circuit_command_laws`.
+use Rattle.bn_reply_circuits.specs.FarmReply.{FarmIsSettled, FarmsComeBack}
+use Rattle.bn_reply_circuits.specs.MirrorLaws.{MirroredTextsComeBack, BoardsComeBack}
+use Rattle.bn_reply_circuits.specs.MirrorReply.{MirrorIsSettled}
+use Rattle.bn_reply_circuits.specs.PlanReply.{PlanIsSettled}
+use Rattle.bn_reply_circuits.specs.RealiseReply.{RealiseIsSettled}
+
+pub record Laws : Type 0 where
+  -- To all bytes `farm` has an answer, and only one.
+  pub farm_has_one_reply : FarmIsSettled
+  -- `farm` on the text of `farm` gives the first boards byte for byte, and the lines of the schedule that made steps,
+  -- each with the number made.
+  pub farms_come_back : FarmsComeBack
+  -- To all bytes `mirror` has an answer, and only one.
+  pub mirror_has_one_reply : MirrorIsSettled
+  -- `mirror` on the text of `mirror` gives the first text, with no steps counted.
+  pub mirrored_texts_come_back : MirroredTextsComeBack
+  -- A board at any number of steps up to its exit: as many steps of its mirror leave it with the mirrored start, where
+  -- the signal has left by the mirror's end line.
+  pub boards_come_back : BoardsComeBack
+  -- To all bytes `plan` has an answer, and only one.
+  pub plan_has_one_reply : PlanIsSettled
+  -- To all states and lines, counted from 1, and all bytes `realise` has an answer, and only one.
+  pub realise_has_one_reply : RealiseIsSettled

@@ -1,0 +1,20 @@
+-- The laws of this crate, a named field each. `Laws` is the contract of `drive_reply_laws`.
+use Rattle.bn_reply_drives.specs.DriveCircuits.{BuildsTellTheirBoards, DrivesTellTheirBoards}
+use Rattle.bn_reply_drives.specs.DriveHeadline.{DrivesTellTheirMachine}
+use Rattle.bn_reply_drives.specs.DriveReply.{DriveIsSettled}
+use Rattle.bn_reply_drives.specs.ErasedDrives.{ErasedCircuitsErase}
+
+pub record Laws : Type 0 where
+  -- To all words, windows, greatest numbers of steps and bytes `drive` has an answer, and only one.
+  pub drive_has_one_reply : DriveIsSettled
+  -- What `drive` answers tells the machine's own run in the window, with no circuit in what is said: where the signal
+  -- comes to an exit within the greatest number of element steps, the exit that this run names, its steps and its
+  -- tapes; else that it is still inside.
+  pub drives_tell_their_machine : DrivesTellTheirMachine
+  -- What `build` and `drive` answer tells the board of the machine's circuit, which runs in exactly its cost to that
+  -- exit, and whose steps can be taken back.
+  pub builds_run_and_return : BuildsTellTheirBoards × DrivesTellTheirBoards
+  -- The circuit that erases its input, by what the commands print: of the table that `erase` prints, `drive` tells the
+  -- end only where each of the two machines halts on the other's word, with that output alone on the tapes; and where
+  -- they do, it tells no machine that is stuck.
+  pub erased_circuits_erase : ErasedCircuitsErase

@@ -1,0 +1,9 @@
+-- The laws of this crate, a named field each. `Laws` is the contract of `trace_reply_laws`.
+use Rattle.bn_reply_traces.specs.MomentsReply.{MomentsAreSettled}
+use Rattle.bn_reply_traces.specs.TraceReply.{TraceIsSettled}
+
+pub record Laws : Type 0 where
+  -- To all words, numbers of steps and bytes `trace` has an answer, and only one.
+  pub trace_has_one_reply : TraceIsSettled
+  -- To all words, numbers of steps and bytes `moments` has an answer, and only one, in both of its forms.
+  pub moments_have_one_reply : MomentsAreSettled

@@ -1,6 +1,0 @@
-use Rattle.bn_csv.specs.Entries.{entries_of}
-use Rattle.bn_rsmtable.proofs.ReadingLaws.{no_fault_of, reading_of}
-use Rattle.bn_rsmtable.proofs.laws.bytes_have_a_reading_or_a_fault.Goals as goal
-
-pub returns : goal.returns
-returns c = λ bytes. (λ none. reading_of (entries_of bytes) none, λ r. no_fault_of (entries_of bytes) r.0 r.1)
