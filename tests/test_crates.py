@@ -1,6 +1,6 @@
 """The list of crates stands once, in crates.txt, and is the same wherever it is shown again.
 
-- crates.txt lists each folder of crates/ and no other, and no chain of crates is longer than twelve.
+- crates.txt lists each folder of crates/ and no other, and no chain of crates is longer than MOST_CHAIN.
 - The picture in docs/develop/architecture.md has the rooms of crates.txt with their crates; `bn_reply_*` stands
   for the crates whose names begin so. A crate uses its own room and those drawn below it, and where two columns of rooms
   stand side by side, none of the other column.

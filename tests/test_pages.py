@@ -68,6 +68,28 @@ def test_every_crate_and_definition_is_told(made):
     assert not [it for it in named if f"`{it}`".replace("|", "\\|") not in made["every-definition.md"]]
 
 
+def records_of_laws():
+    """The records `Laws` of the crates, each as tools/definitions reads it."""
+    definitions = places.tool("definitions")
+    return [it for it in dict.fromkeys(definitions.read_all()[0].values()) if it.name == "Laws"]
+
+
+def test_every_law_has_a_sentence_and_is_told_with_it(made):
+    assert len(records_of_laws()) > 40
+    for item in records_of_laws():
+        names = re.findall(r"^  pub (\w+) :", "\n".join(item.lines), flags=re.M)
+        assert [name for name, _ in item.fields] == names, item.module
+        assert not [it for it in names if f"\n| `Laws.{it}` | " not in made["every-definition.md"]], item.module
+
+
+def test_the_page_of_a_crate_names_the_functions_whose_contracts_are_laws():
+    for crate in sorted({item.module.split(".")[1] for item in records_of_laws()}):
+        folder = os.path.join(places.TOP, "crates", crate, "src")
+        code = "".join(text_of(folder, name) for name in sorted(os.listdir(folder)))
+        found = re.findall(r"^pub fn (\w+)\(\)\n    ensures \{ Laws \}\n\{\}$", code, flags=re.M)
+        assert found and all(f"`{it}`" in pages.read_pages()[crate].parts["Calls"] for it in found), crate
+
+
 @pytest.mark.parametrize("path", sorted(pages.made_of_files()))
 def test_what_is_made_of_files_is_what_they_say(path):
     assert pages.is_there(path, pages.made_of_files()[path]), f"tools/build/pages --write makes {path} anew"
