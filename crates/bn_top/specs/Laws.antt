@@ -8,6 +8,7 @@ use Rattle.bn_top.specs.CommandLaws.{AnswersTellCommands}
 use Rattle.bn_top.specs.HeadlineLaws.{AnswersTellMachine, GeneratedClauseTells}
 use Rattle.bn_top.specs.TextLaws.{CompiledTextsReturn, BuiltTextsReturn, RealisedTextsReturn, MirroredTextsReturn}
 use Rattle.bn_top.specs.TextLaws.{FarmedTextsReturn}
+use Rattle.bn_top.specs.FoundLaws.{AnswersTellFound}
 
 abbrev pub AnswersAreOne : Type 0
 AnswersAreOne = (words : List (List ℕ)) (bytes : List ℕ) → IsOneAnswer (Answers words bytes)
@@ -27,6 +28,8 @@ pub record Laws : Type 0 where
   pub ends_give_clauses : EndsGiveClauses × ClausesGiveEnds
   -- The whole answer gives the headline by the machine alone.
   pub answers_tell_machine : AnswersTellMachine
+  -- The whole answer gives the headline for a window that is found.
+  pub answers_tell_found : AnswersTellFound
   -- The whole answer tells what `machine`, `bennett`, `step`, `back`, `inverse`, `build` and `drive` print, each in its
   -- own terms.
   pub answers_tell_commands : AnswersTellCommands
