@@ -1,6 +1,8 @@
 """The list of crates stands once, in crates.txt, and is the same wherever it is shown again.
 
-- crates.txt lists each folder of crates/ and no other, and no chain of crates is longer than MOST_CHAIN.
+- crates.txt lists each folder of crates/ and no other, at most MOST_CRATES, and no chain of crates is longer than
+  MOST_CHAIN.
+- The laws of a crate are fields of one record, or of two: no crate has more functions with an empty body.
 - The picture in docs/develop/architecture.md has the rooms of crates.txt with their crates; `bn_reply_*` stands
   for the crates whose names begin so. A crate uses its own room and those drawn below it, and where two columns of rooms
   stand side by side, none of the other column.
@@ -17,6 +19,7 @@ from places import TOP, crates, rooms, text_of
 
 ARCHITECTURE = "docs/develop/architecture.md"
 MOST_CHAIN = 14
+MOST_CRATES = 60
 PLACES = [
     "*.md",
     "docs/*.md",
@@ -107,6 +110,20 @@ def test_the_list_has_each_folder_and_no_other():
     assert {
         os.path.basename(os.path.dirname(path)) for path in glob.glob(os.path.join(TOP, "crates", "*", "src"))
     } == set(crates())
+
+
+def test_crates_are_few():
+    assert len(crates()) <= MOST_CRATES
+
+
+@pytest.mark.parametrize("crate", crates())
+def test_the_laws_of_a_crate_are_the_contracts_of_two_functions_at_most(crate):
+    code = "".join(
+        text_of(path)
+        for path in sorted(glob.glob(os.path.join(TOP, "crates", crate, "src", "**", "*.rt"), recursive=True))
+    )
+    empty = re.findall(r"^pub fn (\w+)\(\)\n(?:    [^\n]*\n)*\{(?:\s|//[^\n]*\n|\w+\(\);)*\}$", code, flags=re.M)
+    assert len(empty) <= 2, f"{crate}: {', '.join(empty)}"
 
 
 def test_no_chain_of_crates_makes_the_first_build_slow():
