@@ -17,6 +17,7 @@ use Rattle.bn_headline.specs.StuckLaws.{StopsAreNamed, NamedStopsAreEnds, StuckR
 use Rattle.bn_headline.specs.WindowLaws.{EndsAreFour, CellsGrow, ElementsGrow, NumbersStayLow, SearchEnds}
 use Rattle.bn_headline.specs.WindowLaws.{SearchIsShort, SearchIsOne, WindowsAreWhole, FoundComesOut, LargeIsTooLarge}
 
+-- Machines are in standard form and fit a table, but where a sentence says otherwise.
 pub record Laws : Type 0 where
   -- The replies of `machine` and `bennett` to a table whose machine is in standard form, and those of `step` and `back`
   -- to a text that spells a configuration: how the machine's own run comes out, the table of its reversible machine,
@@ -36,12 +37,13 @@ pub record Laws : Type 0 where
   pub increments_run : IncrementsRun
   -- What tells the outcome of the run of k increments tells that it halts after 10k + 1 steps with 11 + k.
   pub generated_tells_machine : GeneratedTellsMachine
-  -- A table in standard form, a word that fits and limits have an own run, and only one.
+  -- A table in standard form, a word that fits and limits that may be asked for have an own run, and only one.
   pub own_runs_are_one : OwnRunsAreOne
   -- The signal is inside below the cost and outside at it, and steps back lead back, from the exit to the start.
   pub boards_return : BoardsReturn
-  -- Two answers of which the headline without a greatest number of steps holds have one status, and one text, or two
-  -- that differ in the number of element steps alone.
+  -- Two answers to the same words and bytes, which ask for a run without a greatest number of steps and have an own
+  -- run, have one status, where the headline holds of both, and one text, or two that differ in the number of element
+  -- steps alone.
   pub headlines_agree : HeadlinesAgree
   -- What tells the headline of the boards tells that by the circuit.
   pub headline_tells_circuit : HeadlineTellsCircuit
@@ -55,7 +57,7 @@ pub record Laws : Type 0 where
   pub flattened_boards_run_to_their_exit : FlattenedBoardsRunToTheirExit
   -- Where the run of an assembled network stops, `stuck_of` names the machine's state and the symbol.
   pub stops_are_named : StopsAreNamed × NamedStopsAreEnds × StuckRunsAreNamed
-  -- The machine of a translation meets the control's condition.
+  -- The machine of a translation meets the control's condition, in standard form or not.
   pub translations_have_controls : TranslationsHaveControls
   -- The boards of the machine of k increments on 1011 have so many elements, which aren't too many, and are there.
   pub generated_boards_are_there : GeneratedControlsAreCounted × GeneratedBoardsAreCounted × GeneratedBoardsAreThere
@@ -65,7 +67,7 @@ pub record Laws : Type 0 where
   pub ends_are_four : EndsAreFour
   -- Each doubling adds at least one cell.
   pub cells_grow : CellsGrow
-  -- A board has at least 22 elements for each of its cells, and each doubling adds as many.
+  -- A board has at least 22 elements for each of its cells, and each doubling adds at least 22.
   pub elements_grow : ElementsGrow
   -- A window whose board isn't too large can be widened at each end.
   pub numbers_stay_low : NumbersStayLow
@@ -75,7 +77,8 @@ pub record Laws : Type 0 where
   pub search_is_short : SearchIsShort
   -- The search for a window has one finding, after one number of rounds.
   pub search_is_one : SearchIsOne
-  -- Each window on the way has numbers from 1 on and room for the word, and may be asked for.
+  -- Each window on the way has numbers from 1 on and room for the word, and may be asked for where the word is no
+  -- longer than a number may be.
   pub windows_are_whole : WindowsAreWhole
   -- A window that is found is one in which the machine halts or is stuck.
   pub found_comes_out : FoundComesOut

@@ -36,7 +36,8 @@ pub record Laws : Type 0 where
   -- What `generate` answers gives its own headline.
   pub generate_tells_machine : GeneratedClauseTells
   -- What the workbench prints may be given to it again: what `compile`, `build` or `realise` printed, given to `step E`
-  -- and that to `back E`, is printed again byte for byte, for every E; the mirror of what `mirror` printed is the first
-  -- text with no steps counted; and what `farm` printed, where it is within the limit of an input, undoes the schedule.
+  -- and that to `back E`, is printed again byte for byte, for every E that it takes; the mirror of what `mirror`
+  -- printed is the first text with no steps counted; and what `farm` printed, where it is within the limit of an input,
+  -- undoes the schedule.
   pub printed_texts_return :
       CompiledTextsReturn × BuiltTextsReturn × RealisedTextsReturn × MirroredTextsReturn × FarmedTextsReturn
