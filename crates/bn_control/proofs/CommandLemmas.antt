@@ -18,7 +18,7 @@ use Rattle.bn_control.specs.Commands.{line_of, sending_of, commands_by, read_com
 use Rattle.bn_control.specs.Commands.{write_commands, moves_by}
 use Rattle.bn_control.proofs.NamesLemmas.{NamedCommand, Going, command_of, going_of, read_names, shift_names}
 use Rattle.bn_control.proofs.NamesLemmas.{write_names, later_names, names_by, next_name, goings}
-use Rattle.bn_control.specs.States.{name_of}
+use Rattle.bn_control.specs.Names.{state_of}
 
 -- ---- the commands
 
@@ -82,17 +82,12 @@ pub moves_are : (last : Sending) (cs : List Command) → map going_of (moves_by 
     ≡ goings (sending_of last) (map command_of cs)
 moves_are last [] = refl
 moves_are last (c ∷ []) = refl
-moves_are last (c ∷ (d ∷ cs)) = ap (λ l. (name_of c.sending.state, line_of c.answer, sending_of d.sending) ∷ l)
+moves_are last (c ∷ (d ∷ cs)) = ap (λ l. (state_of c.sending.state, line_of c.answer, sending_of d.sending) ∷ l)
     (moves_are last (d ∷ cs))
 
--- ---- they are the control's
+-- ---- the moves along a quadruple, before this
 
-module _ (m : Quadruples) (n : ℕ) (r : Rule ℕ) (here : nth m.rules n ≡ Some r) (e : ControlMove)
-    (entry : IsEntry m r.to e) where
-  -- a move is one of the control
-  abbrev Goes : Going → Type 0
-  Goes g = ControlGoes m g.0 g.1 g.2
-
+module _ (n : ℕ) (r : Rule ℕ) (e : ControlMove) where
   next_write : (rest : List (ℕ × ℕ)) → next_name e (write_names r.to rest) ≡ to_writes e r.to rest
   next_write [] = refl
   next_write (p ∷ rest) = refl
@@ -106,51 +101,6 @@ module _ (m : Quadruples) (n : ℕ) (r : Rule ℕ) (here : nth m.rules n ≡ Som
       ≡ to_reads e n r before rest
   next_read before [] = next_shift (shifts_of r)
   next_read before (p ∷ rest) = refl
-
-  write_goes : (before rest : List (ℕ × ℕ)) → writes_of r ≡ before ++ rest → (g : Going)
-      → Has (goings e (write_names r.to rest)) g → Goes g
-  write_goes before [] split g h = absurd h
-  write_goes before (p ∷ rest) split g (inl is) =
-      let first : Goes (Writes r.to p.0 (symbols_read rest), Tape p.0 DoneWrite, next_name e (write_names r.to rest)) =
-      writes_on n r here e entry before rest p split refl refl (next_write rest) in
-      subst Goes (sym is) first
-  write_goes before (p ∷ rest) split g (inr h) = write_goes (before ++ (p ∷ [])) rest
-      (split ∙ sym (append_assoc before (p ∷ []) rest)) g h
-
-  shift_goes : (before rest : List (ℕ × Side)) → shifts_of r ≡ before ++ rest → (g : Going)
-      → Has (goings e (shift_names n rest ++ write_names r.to (writes_of r))) g → Goes g
-  shift_goes before [] split g h = write_goes [] (writes_of r) refl g h
-  shift_goes before (p ∷ rest) split g (inl is) =
-      let first : Goes (
-        Shifts n p.0,
-        Tape p.0 (done_line p.1),
-        next_name e
-            (shift_names n rest ++ write_names r.to (writes_of r)),
-      ) = shifts_on n r here e entry before rest p split refl
-      refl (next_shift rest) in
-      subst Goes (sym is) first
-  shift_goes before (p ∷ rest) split g (inr h) = shift_goes (before ++ (p ∷ [])) rest
-      (split ∙ sym (append_assoc before (p ∷ []) rest)) g h
-
-  read_goes : (before rest : List (ℕ × ℕ)) → reads_of r ≡ before ++ rest → (g : Going)
-      → Has (goings e (read_names r.from before rest ++ later_names n r)) g → Goes g
-  read_goes before [] split g h = shift_goes [] (shifts_of r) refl g h
-  read_goes before (p ∷ rest) split g (inl is) =
-      let first : Goes (
-        Reads r.from (symbols_read before),
-        Tape p.0 (Answer p.1),
-        next_name e
-            (read_names r.from (before ++ (p ∷ [])) rest ++ later_names n r),
-      ) = reads_on n r here e entry before rest p
-      split refl refl (next_read (before ++ (p ∷ [])) rest) in
-      subst Goes (sym is) first
-  read_goes before (p ∷ rest) split g (inr h) = read_goes (before ++ (p ∷ [])) rest
-      (split ∙ sym (append_assoc before (p ∷ []) rest)) g h
-
-  pub each_goes : (g : Going) → Has (goings e (names_by n r)) g → Goes g
-  each_goes g h = read_goes [] (reads_of r) refl g h
-
-  -- ---- and the control's moves along this quadruple are among them
 
   write_stands : (before rest : List (ℕ × ℕ)) (p : ℕ × ℕ) → Has (goings e (write_names r.to (before ++ (p ∷ rest))))
       (Writes r.to p.0 (symbols_read rest), Tape p.0 DoneWrite, to_writes e r.to rest)
@@ -177,8 +127,7 @@ module _ (m : Quadruples) (n : ℕ) (r : Rule ℕ) (here : nth m.rules n ≡ Som
       → Has (goings e (read_names r.from done (before ++ (p ∷ rest)) ++ later_names n r)) (
         Reads r.from (symbols_read (done ++ before)),
         Tape p.0 (Answer p.1),
-        to_reads e n r
-            ((done ++ before) ++ (p ∷ [])) rest,
+        to_reads e n r ((done ++ before) ++ (p ∷ [])) rest,
       )
   read_stands done [] rest p =
       let none = append-nil done in
@@ -197,8 +146,7 @@ module _ (m : Quadruples) (n : ℕ) (r : Rule ℕ) (here : nth m.rules n ≡ Som
       → Has (goings e (names_by n r)) (
         Reads r.from (symbols_read before),
         Tape p.0 (Answer p.1),
-        to_reads e n r
-            (before ++ (p ∷ [])) rest,
+        to_reads e n r (before ++ (p ∷ [])) rest,
       )
   reads_stand before rest p split =
       subst (λ l. Has (goings e (read_names r.from [] l ++ later_names n r))
@@ -222,3 +170,52 @@ module _ (m : Quadruples) (n : ℕ) (r : Rule ℕ) (here : nth m.rules n ≡ Som
         Tape p.0 DoneWrite,
         to_writes e r.to rest,
       )) (sym split) (write_stands before rest p)))
+
+-- ---- they are the control's
+
+module _ (m : Quadruples) (n : ℕ) (r : Rule ℕ) (here : nth m.rules n ≡ Some r) (e : ControlMove)
+    (entry : IsEntry m r.to e) where
+  -- a move is one of the control
+  abbrev Goes : Going → Type 0
+  Goes g = ControlGoes m g.0 g.1 g.2
+
+  write_goes : (before rest : List (ℕ × ℕ)) → writes_of r ≡ before ++ rest → (g : Going)
+      → Has (goings e (write_names r.to rest)) g → Goes g
+  write_goes before [] split g h = absurd h
+  write_goes before (p ∷ rest) split g (inl is) =
+      let first : Goes (Writes r.to p.0 (symbols_read rest), Tape p.0 DoneWrite, next_name e (write_names r.to rest)) =
+      writes_on n r here e entry before rest p split refl refl (next_write n r e rest) in
+      subst Goes (sym is) first
+  write_goes before (p ∷ rest) split g (inr h) = write_goes (before ++ (p ∷ [])) rest
+      (split ∙ sym (append_assoc before (p ∷ []) rest)) g h
+
+  shift_goes : (before rest : List (ℕ × Side)) → shifts_of r ≡ before ++ rest → (g : Going)
+      → Has (goings e (shift_names n rest ++ write_names r.to (writes_of r))) g → Goes g
+  shift_goes before [] split g h = write_goes [] (writes_of r) refl g h
+  shift_goes before (p ∷ rest) split g (inl is) =
+      let first : Goes (
+        Shifts n p.0,
+        Tape p.0 (done_line p.1),
+        next_name e (shift_names n rest ++ write_names r.to (writes_of r)),
+      ) = shifts_on n r here e entry before rest p split refl
+      refl (next_shift n r e rest) in
+      subst Goes (sym is) first
+  shift_goes before (p ∷ rest) split g (inr h) = shift_goes (before ++ (p ∷ [])) rest
+      (split ∙ sym (append_assoc before (p ∷ []) rest)) g h
+
+  read_goes : (before rest : List (ℕ × ℕ)) → reads_of r ≡ before ++ rest → (g : Going)
+      → Has (goings e (read_names r.from before rest ++ later_names n r)) g → Goes g
+  read_goes before [] split g h = shift_goes [] (shifts_of r) refl g h
+  read_goes before (p ∷ rest) split g (inl is) =
+      let first : Goes (
+        Reads r.from (symbols_read before),
+        Tape p.0 (Answer p.1),
+        next_name e (read_names r.from (before ++ (p ∷ [])) rest ++ later_names n r),
+      ) = reads_on n r here e entry before rest p
+      split refl refl (next_read n r e (before ++ (p ∷ [])) rest) in
+      subst Goes (sym is) first
+  read_goes before (p ∷ rest) split g (inr h) = read_goes (before ++ (p ∷ [])) rest
+      (split ∙ sym (append_assoc before (p ∷ []) rest)) g h
+
+  pub each_goes : (g : Going) → Has (goings e (names_by n r)) g → Goes g
+  each_goes g h = read_goes [] (reads_of r) refl g h

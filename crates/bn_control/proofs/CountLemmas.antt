@@ -129,8 +129,7 @@ decoded (Writes a t u) = refl
 states_same : (q r : ControlState) → (q ≡ r) ⊎ (q ≡ r → ⊥)
 states_same q r = elim (lists_same (code q) (code r)) [
   | inl e ↦ inl (sym (decoded q) ∙ ap decode e ∙ decoded r)
-  | inr ne
-      ↦ inr (λ e. ne (ap code e))
+  | inr ne ↦ inr (λ e. ne (ap code e))
 ]
 
 among : (q : ControlState) (l : List ControlState) → Has l q ⊎ (Has l q → ⊥)

@@ -8,21 +8,20 @@ use Rattle.bn_quad.specs.Quadruples.{Quadruples, final_state_of}
 use Rattle.bn_network.specs.declared.cell_line.CellLine.{CellLine}
 use Rattle.bn_network.specs.declared.cell_line.CellLine.TheVariants.{Read}
 use Rattle.bn_network.specs.Controls as control
-use Rattle.bn_network.specs.Controls.{ControlState, ControlLine, ControlMove, IsEntry, finishes, leaves, waits}
-use Rattle.bn_network.specs.Controls.{IsFirstOf, to_read, to_shift, reads_of, shifts_of, Occurs, is_begin, is_end}
-use Rattle.bn_network.specs.Controls.{is_open, is_read, is_shift, is_write, symbols_read, out_number, IsFirstKept}
-use Rattle.bn_network.specs.Controls.{final_kept, sent_kept}
+use Rattle.bn_network.specs.Controls.{ControlState, ControlMove, IsEntry, finishes, leaves, waits, IsFirstOf, reads_of}
+use Rattle.bn_network.specs.Controls.{shifts_of, Occurs, is_begin, is_end, is_open, is_read, is_shift, is_write}
+use Rattle.bn_network.specs.Controls.{symbols_read, out_number, IsFirstKept, final_kept, sent_kept}
 use Rattle.bn_network.proofs.EntryLemmas.{one_entry}
 use Rattle.bn_network.proofs.GoingLemmas.{end_entry}
 use Rattle.bn_network.proofs.RangeLemmas.{rule_in_range}
 use Rattle.bn_control.specs.declared.draft.Draft.{Draft}
 use Rattle.bn_control.specs.declared.line.Line.TheVariants.{Outside, Tape}
 use Rattle.bn_control.specs.declared.line.Sending.{Sending}
-use Rattle.bn_control.specs.declared.state.State.{State}
-use Rattle.bn_control.specs.declared.state.State.TheVariants.{Begin, End, Reads, Shifts, Writes}
-use Rattle.bn_control.specs.declared.state.Symbols.{Symbols}
-use Rattle.bn_control.specs.declared.state.Symbols.TheVariants.{Empty, Leading}
-use Rattle.bn_control.specs.States.{listed, name_of, IsProper}
+use Rattle.bn_control.specs.declared.name.StateName.{StateName}
+use Rattle.bn_control.specs.declared.name.StateName.TheVariants.{Begin, End, Reads, Shifts, Writes}
+use Rattle.bn_control.specs.declared.name.Symbols.{Symbols}
+use Rattle.bn_control.specs.declared.name.Symbols.TheVariants.{Empty, Leading}
+use Rattle.bn_control.specs.Names.{listed, state_of, IsProper}
 use Rattle.bn_control.specs.Commands.{line_of, sending_of}
 use Rattle.bn_control.specs.Controlled.{IsAwaiting}
 use Rattle.bn_control.specs.Entries.{IsFirstSent}
@@ -47,26 +46,31 @@ end_final m a k (waits other low none e) is = absurd (let f : control.Reads a []
     ≡ control.End = ap (λ (x : ControlMove). x.0) (sym e) ∙ is in cc)
 
 -- the end is kept as such
-is_end_name : (x : State) → name_of x ≡ control.End → x ≡ End
+is_end_name : (x : StateName) → state_of x ≡ control.End → x ≡ End
 is_end_name End e = refl
 is_end_name Begin e = absurd (cc)
 is_end_name (Reads a n s) e = absurd (cc)
 is_end_name (Shifts n t) e = absurd (cc)
 is_end_name (Writes a t u) e = absurd (cc)
 
+no_symbols : (s : Symbols) → 0 ≡ length (listed s) → listed s ≡ []
+no_symbols Empty e = refl
+no_symbols (Leading x None) e = absurd (omega arith)
+no_symbols (Leading x (Some y)) e = absurd (omega arith)
+
 module _ (m : Quadruples) (d : Draft) (draft : IsDraft m d) where
   pub final_first : (a : ℕ) (s : Sending) → IsFirstSent m a s → s.state ≡ End
-      → IsFirstKept m (map name_of d.states.items) a None
-  final_first a s sent is = final_kept (end_final m a (sending_of s) sent.entry (ap name_of is))
+      → IsFirstKept m (map state_of d.states.items) a None
+  final_first a s sent is = final_kept (end_final m a (sending_of s) sent.entry (ap state_of is))
 
   pub other_first : (a : ℕ) (s : Sending) (n o : ℕ) → IsFirstSent m a s → s.state ≢ End
-      → slice_get (map name_of d.states.items) n ≡ Some (name_of s.state) → o ≡ out_number m (line_of s.line)
-      → IsFirstKept m (map name_of d.states.items) a (Some (n, o))
+      → slice_get (map state_of d.states.items) n ≡ Some (state_of s.state) → o ≡ out_number m (line_of s.line)
+      → IsFirstKept m (map state_of d.states.items) a (Some (n, o))
   other_first a s n o sent other number line =
       let not_final : a ≢ final_state_of m.rules = λ e. other (is_end_name s.state
       (ap (λ (x : ControlMove). x.0) (one_entry m draft.uniform a (sending_of s) (control.End, control.Outside)
       sent.entry (finishes e refl)))) in
-      subst (λ v. IsFirstKept m (map name_of d.states.items) a (Some (n, v))) (sym line)
+      subst (λ v. IsFirstKept m (map state_of d.states.items) a (Some (n, v))) (sym line)
       (sent_kept not_final (sending_of s) n sent.entry number)
 
   pub entry_number : (a : ℕ) (s : Sending) → IsFirstSent m a s → HasNumber d.states.items s.state
@@ -116,7 +120,7 @@ module _ (m : Quadruples) (d : Draft) (draft : IsDraft m d) where
   kept_entry a s low = let count = draft.entries.counted in draft.entries.each a (get_or d.entries.items a s)
       (slice_get-get_or d.entries.items a s (omega arith))
 
-  pub awaiting_low : (a n : ℕ) (s : Symbols) → n ≡ 0 → IsProper (Reads a n s) → Occurs m (name_of (Reads a n s))
+  pub awaiting_low : (a n : ℕ) (s : Symbols) → n ≡ 0 → IsProper (Reads a n s) → Occurs m (state_of (Reads a n s))
       → a < length d.entries.items
   awaiting_low a n s none proper occurs =
       let first = awaits_first a (control.Reads a (listed s)) occurs
@@ -124,20 +128,10 @@ module _ (m : Quadruples) (d : Draft) (draft : IsDraft m d) where
       let low = first.low in
       let count = draft.entries.counted in
       omega arith
-    where
-      no_symbols : (s : Symbols) → 0 ≡ length (listed s) → listed s ≡ []
-      no_symbols Empty e = refl
-      no_symbols (Leading x None) e = absurd (omega arith)
-      no_symbols (Leading x (Some y)) e = absurd (omega arith)
-
-no_symbols : (s : Symbols) → 0 ≡ length (listed s) → listed s ≡ []
-no_symbols Empty e = refl
-no_symbols (Leading x None) e = absurd (omega arith)
-no_symbols (Leading x (Some y)) e = absurd (omega arith)
 
 module _ (m : Quadruples) (d : Draft) (draft : IsDraft m d) (a n : ℕ) (s : Symbols) (none : n ≡ 0)
-    (proper : IsProper (Reads a n s)) (occurs : Occurs m (name_of (Reads a n s))) (k : Sending) where
-  name_is : name_of (Reads a n s) ≡ control.Reads a []
+    (proper : IsProper (Reads a n s)) (occurs : Occurs m (state_of (Reads a n s))) (k : Sending) where
+  name_is : state_of (Reads a n s) ≡ control.Reads a []
   name_is = ap (control.Reads a) (no_symbols s (sym none ∙ proper))
 
   first_is : (first : Awaits m d draft a) → sending_of (get_or d.entries.items a k)
@@ -146,7 +140,7 @@ module _ (m : Quadruples) (d : Draft) (draft : IsDraft m d) (a n : ℕ) (s : Sym
       (control.Reads a [], control.Tape first.tape Read) (kept_entry m d draft a k first.low).entry first.entry
 
   the_first : Awaits m d draft a
-  the_first = awaits_first m d draft a (name_of (Reads a n s)) occurs name_is
+  the_first = awaits_first m d draft a (state_of (Reads a n s)) occurs name_is
 
   -- the line of a first read leads to a tape
   pub not_outside : (get_or d.entries.items a k).line ≡ Outside → ⊥
@@ -162,7 +156,7 @@ module _ (m : Quadruples) (d : Draft) (draft : IsDraft m d) (a n : ℕ) (s : Sym
       (within.0, within.1)
 
   pub tells_tape : (t : ℕ) (l : _) → (get_or d.entries.items a k).line ≡ Tape t l
-      → TellsAwaited m (name_of (Reads a n s)) (Some (a, t))
+      → TellsAwaited m (state_of (Reads a n s)) (Some (a, t))
   tells_tape t l e = record { tells = λ b v. (forth b v, back b v) }
     where
       line : control.Tape t l ≡ control.Tape the_first.tape Read
@@ -172,18 +166,18 @@ module _ (m : Quadruples) (d : Draft) (draft : IsDraft m d) (a n : ℕ) (s : Sym
       tape_is = let f = line in cc
 
       forth : (b v : ℕ) → ◌≡◌ {A = Option (ℕ × ℕ)} (Some (a, t)) (Some (b, v))
-          → IsAwaiting m (name_of (Reads a n s)) b v
+          → IsAwaiting m (state_of (Reads a n s)) b v
       forth b v h =
           let parts = some_pair_parts a b t v h in
-          subst (λ x. IsAwaiting m (name_of (Reads a n s)) x v) parts.0
-          (subst (λ y. IsAwaiting m (name_of (Reads a n s)) a y) parts.1
+          subst (λ x. IsAwaiting m (state_of (Reads a n s)) x v) parts.0
+          (subst (λ y. IsAwaiting m (state_of (Reads a n s)) a y) parts.1
           (record {
             state = name_is;
-            entry = subst (λ y. IsEntry m a (control.Reads a [], control.Tape y Read))
-                (sym tape_is) the_first.entry;
+            entry = subst (λ y. IsEntry m a (control.Reads a [], control.Tape y Read)) (sym tape_is) the_first.entry;
           }))
 
-      back : (b v : ℕ) → IsAwaiting m (name_of (Reads a n s)) b v → ◌≡◌ {A = Option (ℕ × ℕ)} (Some (a, t)) (Some (b, v))
+      back : (b v : ℕ) → IsAwaiting m (state_of (Reads a n s)) b v
+          → ◌≡◌ {A = Option (ℕ × ℕ)} (Some (a, t)) (Some (b, v))
       back b v h =
           let state : control.Reads a [] ≡ control.Reads b [] = sym name_is ∙ h.state in
           let same : a ≡ b = cc in
@@ -194,11 +188,6 @@ module _ (m : Quadruples) (d : Draft) (draft : IsDraft m d) (a n : ℕ) (s : Sym
           let tapes : the_first.tape ≡ v = cc in
           λ i. Some (same i, (tape_is ∙ tapes) i)
 
--- another state awaits no first read
-pub tells_none : (m : Quadruples) (x : State) → ((a : ℕ) → name_of x ≡ control.Reads a [] → ⊥)
-    → TellsAwaited m (name_of x) None
-tells_none m x other = record { tells = λ a t. ((λ e. absurd (cc)), λ h. absurd (other a h.state)) }
-
 -- ---- lists, one element more
 
 pushed : {A : Type 0} (xs : List A) (x y : A) (n : ℕ) → slice_get (xs ++ x ∷ []) n ≡ Some y
@@ -208,26 +197,23 @@ pushed [] x y (suc n) e = absurd (cc)
 pushed (z ∷ xs) x y zero e = inl e
 pushed (z ∷ xs) x y (suc n) e = elim (pushed xs x y n e) [ inl old ↦ inl old | inr new ↦ inr (ap suc new.0, new.1) ]
 
-pub one_first : (m : Quadruples) (ss : List State) (k : ℕ) (fs gs : List (Option (ℕ × ℕ))) (f : Option (ℕ × ℕ))
-    → gs ≡ fs ++ f ∷ [] → IsFirstKept m (map name_of ss) k f → AreFirsts m ss k fs → AreFirsts m ss (k + 1) gs
+pub one_first : (m : Quadruples) (ss : List StateName) (k : ℕ) (fs gs : List (Option (ℕ × ℕ))) (f : Option (ℕ × ℕ))
+    → gs ≡ fs ++ f ∷ [] → IsFirstKept m (map state_of ss) k f → AreFirsts m ss k fs → AreFirsts m ss (k + 1) gs
 one_first m ss k fs gs f is kept far = subst (AreFirsts m ss (k + 1)) (sym is)
     (record { counted = counted; each = each })
   where
     counted : length (fs ++ f ∷ []) ≡ k + 1
     counted = let count = far.counted in omega (arith, length-append fs (f ∷ []))
 
-    each : (a : ℕ) (g : Option (ℕ × ℕ)) → slice_get (fs ++ f ∷ []) a ≡ Some g → IsFirstKept m (map name_of ss) a g
+    each : (a : ℕ) (g : Option (ℕ × ℕ)) → slice_get (fs ++ f ∷ []) a ≡ Some g → IsFirstKept m (map state_of ss) a g
     each a g e = elim (pushed fs f g a e) [
       | inl old ↦ far.each a g old
-      | inr new ↦ subst (λ n. IsFirstKept m (map name_of ss) n g) (sym (new.0 ∙ far.counted))
-          (subst (IsFirstKept m (map name_of ss) k) new.1 kept)
+      | inr new ↦ subst (λ n. IsFirstKept m (map state_of ss) n g) (sym (new.0 ∙ far.counted))
+          (subst (IsFirstKept m (map state_of ss) k) new.1 kept)
     ]
 
-pub no_awaited : (m : Quadruples) (os : List (Option (ℕ × ℕ))) → os ≡ [] → AreAwaited m [] os
-no_awaited m os is = subst (AreAwaited m []) (sym is) (record { counted = refl; each = λ n x o e d. absurd (cc) })
-
-pub one_awaited : (m : Quadruples) (ss : List State) (k : ℕ) (d : State) (os ps : List (Option (ℕ × ℕ)))
-    (o : Option (ℕ × ℕ)) → k < length ss → ps ≡ os ++ o ∷ [] → TellsAwaited m (name_of (get_or ss k d)) o
+pub one_awaited : (m : Quadruples) (ss : List StateName) (k : ℕ) (d : StateName) (os ps : List (Option (ℕ × ℕ)))
+    (o : Option (ℕ × ℕ)) → k < length ss → ps ≡ os ++ o ∷ [] → TellsAwaited m (state_of (get_or ss k d)) o
     → AreAwaited m (take k ss) os → AreAwaited m (take (k + 1) ss) ps
 one_awaited m ss k d os ps o low is tells far = subst (λ l. AreAwaited m l ps) (sym (take_more ss k d low))
     (subst (AreAwaited m (take k ss ++ get_or ss k d ∷ [])) (sym is) (record { counted = counted; each = each }))
@@ -236,23 +222,22 @@ one_awaited m ss k d os ps o low is tells far = subst (λ l. AreAwaited m l ps) 
     counted = let count = far.counted in omega (
       arith,
       length-append os (o ∷ []),
-      length-append (take k ss)
-          (get_or ss k d ∷ []),
+      length-append (take k ss) (get_or ss k d ∷ []),
     )
 
-    each : (n : ℕ) (x : State) (p : Option (ℕ × ℕ)) → slice_get (take k ss ++ get_or ss k d ∷ []) n ≡ Some x
-        → slice_get (os ++ o ∷ []) n ≡ Some p → TellsAwaited m (name_of x) p
+    each : (n : ℕ) (x : StateName) (p : Option (ℕ × ℕ)) → slice_get (take k ss ++ get_or ss k d ∷ []) n ≡ Some x
+        → slice_get (os ++ o ∷ []) n ≡ Some p → TellsAwaited m (state_of x) p
     each n x p e f = by (pushed (take k ss) (get_or ss k d) x n e) (pushed os o p n f)
       where
         by : (slice_get (take k ss) n ≡ Some x) ⊎ ((n ≡ length (take k ss)) × (get_or ss k d ≡ x))
-            → (slice_get os n ≡ Some p) ⊎ ((n ≡ length os) × (o ≡ p)) → TellsAwaited m (name_of x) p
+            → (slice_get os n ≡ Some p) ⊎ ((n ≡ length os) × (o ≡ p)) → TellsAwaited m (state_of x) p
         by (inl a) (inl b) = far.each n x p a b
         by (inl a) (inr b) = let low = slice_get_within (take k ss) n x a in let at = b.0 in let count =
             far.counted in absurd (omega arith)
         by (inr a) (inl b) = let low = slice_get_within os n p b in let at = a.0 in let count =
             far.counted in absurd (omega arith)
-        by (inr a) (inr b) = subst (TellsAwaited m (name_of x)) b.1
-            (subst (λ y. TellsAwaited m (name_of y) o) a.1 tells)
+        by (inr a) (inr b) = subst (TellsAwaited m (state_of x)) b.1
+            (subst (λ y. TellsAwaited m (state_of y) o) a.1 tells)
 
 -- the first command at a place of a draft
 pub entry_at : (m : Quadruples) (d : Draft) → IsDraft m d → (k : ℕ) (s : Sending) → k < length d.entries.items
@@ -261,28 +246,27 @@ entry_at m d draft k s low = draft.entries.each k (get_or d.entries.items k s)
     (slice_get-get_or d.entries.items k s low)
 
 -- the state at a place
-pub state_at : (m : Quadruples) (d : Draft) → IsDraft m d → (k : ℕ) (x : State) → k < length d.states.items
-    → Occurs m (name_of (get_or d.states.items k x)) × IsProper (get_or d.states.items k x)
+pub state_at : (m : Quadruples) (d : Draft) → IsDraft m d → (k : ℕ) (x : StateName) → k < length d.states.items
+    → Occurs m (state_of (get_or d.states.items k x)) × IsProper (get_or d.states.items k x)
 state_at m d draft k x low =
     let here = slice_get-get_or d.states.items k x low in (
-      draft.ordered.numbering.only k (name_of (get_or d.states.items k x))
+      draft.ordered.numbering.only k (state_of (get_or d.states.items k x))
           (named_at d.states.items k (get_or d.states.items k x) here),
-      draft.ordered.proper k (get_or d.states.items k x)
-          here,
+      draft.ordered.proper k (get_or d.states.items k x) here,
     )
 
 -- the same where a state is kept so
-module _ (m : Quadruples) (d : Draft) (draft : IsDraft m d) (x : State) (a n : ℕ) (s : Symbols) (is : x ≡ Reads a n s)
-    (none : n ≡ 0) (k : Sending) (value : k ≡ get_or d.entries.items a k) (occurs : Occurs m (name_of x))
-    (proper : IsProper x) where
+module _ (m : Quadruples) (d : Draft) (draft : IsDraft m d) (x : StateName) (a n : ℕ) (s : Symbols)
+    (is : x ≡ Reads a n s) (none : n ≡ 0) (k : Sending) (value : k ≡ get_or d.entries.items a k)
+    (occurs : Occurs m (state_of x)) (proper : IsProper x) where
   proper_read : IsProper (Reads a n s)
   proper_read = subst IsProper is proper
 
-  occurs_read : Occurs m (name_of (Reads a n s))
-  occurs_read = subst (λ y. Occurs m (name_of y)) is occurs
+  occurs_read : Occurs m (state_of (Reads a n s))
+  occurs_read = subst (λ y. Occurs m (state_of y)) is occurs
 
-  pub read_tells : (t : ℕ) (l : CellLine) → k.line ≡ Tape t l → TellsAwaited m (name_of x) (Some (a, t))
-  read_tells t l e = subst (λ y. TellsAwaited m (name_of y) (Some (a, t))) (sym is)
+  pub read_tells : (t : ℕ) (l : CellLine) → k.line ≡ Tape t l → TellsAwaited m (state_of x) (Some (a, t))
+  read_tells t l e = subst (λ y. TellsAwaited m (state_of y) (Some (a, t))) (sym is)
       (tells_tape m d draft a n s none proper_read occurs_read k t l (ap (λ (y : Sending). y.line) (sym value) ∙ e))
 
   pub read_tape : (t : ℕ) (l : CellLine) → k.line ≡ Tape t l → (1 ≤ t) × (t ≤ 3)
@@ -293,7 +277,7 @@ module _ (m : Quadruples) (d : Draft) (draft : IsDraft m d) (x : State) (a n : �
   read_inside e = not_outside m d draft a n s none proper_read occurs_read k
       (ap (λ (y : Sending). y.line) (sym value) ∙ e)
 
-pub read_low : (m : Quadruples) (d : Draft) → IsDraft m d → (x : State) (a n : ℕ) (s : Symbols) → x ≡ Reads a n s
-    → n ≡ 0 → Occurs m (name_of x) → IsProper x → a < length d.entries.items
+pub read_low : (m : Quadruples) (d : Draft) → IsDraft m d → (x : StateName) (a n : ℕ) (s : Symbols) → x ≡ Reads a n s
+    → n ≡ 0 → Occurs m (state_of x) → IsProper x → a < length d.entries.items
 read_low m d draft x a n s is none occurs proper = awaiting_low m d draft a n s none (subst IsProper is proper)
-    (subst (λ y. Occurs m (name_of y)) is occurs)
+    (subst (λ y. Occurs m (state_of y)) is occurs)

@@ -70,16 +70,14 @@ module _ (m : Quadruples) where
               cases : (n : ℕ) → n ≤ k + 1 → (n ≤ k) ⊎ (n ≡ k + 1)
               cases n low = elim (eqb_tells n (k + 1)) [
                 | inl same ↦ inr same.1
-                | inr not
-                    ↦ (let ne = not.1 in inl (omega arith))
+                | inr not ↦ (let ne = not.1 in inl (omega arith))
               ]
 
   -- after all of them
   pub all_done : (k : ℕ) (es : List Sending) → length m.rules ≤ k → AreSoFar m k es → AreEntries m es
   all_done k es all far = record {
     counted = far.counted;
-    each = λ a s e. done a s (slice_get_within es a s e)
-        (far.each a s e);
+    each = λ a s e. done a s (slice_get_within es a s e) (far.each a s e);
   }
     where
       done : (a : ℕ) (s : Sending) → a < length es → IsSoFar m k a s → IsFirstSent m a s

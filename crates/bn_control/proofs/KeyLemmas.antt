@@ -1,4 +1,4 @@
--- The order of states as the program keeps them is that of their names.
+-- The order of names is that of the states.
 use Rattle.std.proofs.Common.{◌≡◌, ℕ, ◌-◌, ◌≤◌, length, Some, None, refl, ap, ◌∙◌, arith}
 use Rattle.std.proofs.lemmas.Bool.Decides.{nat_tests}
 use Rattle.std.specs.Cmp.Lexicographic.{slice_cmp}
@@ -6,15 +6,15 @@ use Rattle.std.specs.Ordering.{nat_cmp, ordering_then}
 use Rattle.std.specs.declared.cmp.Ordering.{Ordering}
 use Rattle.std.specs.declared.cmp.Ordering.TheVariants.{Less, Equal, Greater}
 use Rattle.bn_network.proofs.KeyLemmas.{by_key}
-use Rattle.bn_control.specs.contracts.state.StateOrd.TheImpl as impl
-use Rattle.bn_control.specs.contracts.state.SymbolsOrd.TheImpl as symbols
-use Rattle.bn_control.specs.declared.state.Symbols.{Symbols}
-use Rattle.bn_control.specs.declared.state.Symbols.TheVariants.{Empty, Leading}
-use Rattle.bn_control.specs.declared.state.State.{State}
-use Rattle.bn_control.specs.declared.state.State.TheVariants.{Begin, End, Reads, Shifts, Writes}
-use Rattle.bn_control.specs.States.{listed, name_of, IsProper}
+use Rattle.bn_control.specs.contracts.name.StateNameOrd.TheImpl as impl
+use Rattle.bn_control.specs.contracts.name.SymbolsOrd.TheImpl as symbols
+use Rattle.bn_control.specs.declared.name.Symbols.{Symbols}
+use Rattle.bn_control.specs.declared.name.Symbols.TheVariants.{Empty, Leading}
+use Rattle.bn_control.specs.declared.name.StateName.{StateName}
+use Rattle.bn_control.specs.declared.name.StateName.TheVariants.{Begin, End, Reads, Shifts, Writes}
+use Rattle.bn_control.specs.Names.{listed, state_of, IsProper}
 
-abbrev pub cmp : State → State → Ordering
+abbrev pub cmp : StateName → StateName → Ordering
 cmp = impl.cmp-value.it
 
 abbrev cmp_symbols : Symbols → Symbols → Ordering
@@ -39,7 +39,7 @@ same_symbols (Leading a (Some c)) (Leading b (Some d)) = ap (ordering_then (nat_
 falling : (t v : ℕ) → t ≤ 3 → v ≤ 3 → nat_cmp v t ≡ nat_cmp (3 - t) (3 - v)
 falling t v low few = grind (arith, nat_tests)
 
-pub same_order : (x y : State) → IsProper x → IsProper y → cmp x y ≡ by_key (name_of x) (name_of y)
+pub same_order : (x y : StateName) → IsProper x → IsProper y → cmp x y ≡ by_key (state_of x) (state_of y)
 same_order Begin Begin h k = refl
 same_order Begin End h k = refl
 same_order Begin (Reads b m v) h k = refl

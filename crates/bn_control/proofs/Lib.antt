@@ -2,13 +2,14 @@ pub mod EntriesSoFar
 pub mod MovesSoFar
 pub mod NamesLemmas
 pub mod StuckLemmas
-pub mod OrderedLemmas
+pub mod TieLemmas
 pub mod CommandLemmas
 pub mod RuleLemmas
 pub mod EntryLemmas
 pub mod NamedLemmas
 pub mod KeyLemmas
 pub mod SearchLemmas
+pub mod OrderedLemmas
 pub mod StatesLemmas
 pub mod NumberedLemmas
 pub mod WithinLemmas
@@ -18,7 +19,5 @@ pub mod MadeLemmas
 pub mod CountLemmas
 pub mod ShownLemmas
 pub mod OpenLemmas
-pub mod NameKeyLemmas
 pub mod NameShownLemmas
 pub mod StateNameLemmas
-mod NameTieLemmas

@@ -19,8 +19,8 @@ use Rattle.bn_control.specs.declared.command.Command.{Command}
 use Rattle.bn_control.specs.declared.line.Line.TheVariants.{Outside}
 use Rattle.bn_control.specs.declared.line.Sending.{Sending}
 use Rattle.bn_control.specs.declared.named.NamedMove.{NamedMove}
-use Rattle.bn_control.specs.declared.state.State.TheVariants.{Begin}
-use Rattle.bn_control.specs.States.{IsProper}
+use Rattle.bn_control.specs.declared.name.StateName.TheVariants.{Begin}
+use Rattle.bn_control.specs.Names.{IsProper}
 use Rattle.bn_control.specs.Commands.{sending_of, commands_by, moves_by}
 use Rattle.bn_control.proofs.NamesLemmas.{Going, going_of, names_by, goings}
 use Rattle.bn_control.specs.Entries.{IsFirstSent, AreEntries}
@@ -28,18 +28,9 @@ use Rattle.bn_control.specs.Named.{IsGoing, IsKeptAmong, AreMoves}
 use Rattle.bn_control.proofs.MovesSoFar.{AreMovesSoFar}
 use Rattle.bn_control.proofs.CommandLemmas.{commands_are, moves_are, each_goes, reads_stand, shifts_stand, writes_stand}
 use Rattle.bn_control.proofs.RuleLemmas.{AreProper, commands_proper, commands_few, rule_at}
+use Rattle.bn_lists.proofs.ApartLemmas.{mapped, from_mapped}
 
 -- ---- members by names
-
-pub mapped : {A B : Type 0} (f : A → B) (l : List A) (x : A) → Has l x → Has (map f l) (f x)
-mapped f [] x h = h
-mapped f (y ∷ l) x (inl e) = inl (ap f e)
-mapped f (y ∷ l) x (inr h) = inr (mapped f l x h)
-
-pub from_mapped : {A B : Type 0} (f : A → B) (l : List A) (y : B) → Has (map f l) y → (x : A) × Has l x × (f x ≡ y)
-from_mapped f [] y h = absurd h
-from_mapped f (x ∷ l) y (inl e) = (x, inl refl, sym e)
-from_mapped f (x ∷ l) y (inr h) = let more = from_mapped f l y h in (more.0, inr more.1, more.2)
 
 -- a move by names that a list has
 kept_going : (xs : List NamedMove) (x : NamedMove) (g : Going) → Has xs x → going_of x ≡ g → IsKeptAmong xs g.0 g.1 g.2
@@ -47,8 +38,7 @@ kept_going xs x g h e = record {
   move = x;
   member = h;
   state = ap (λ (v : Going). v.0) e;
-  line = ap (λ (v : Going). v.1)
-      e;
+  line = ap (λ (v : Going). v.1) e;
   to = ap (λ (v : Going). v.2) e;
 }
 
@@ -177,8 +167,7 @@ module _ (m : Quadruples) (u : IsUniformMachine m) where
         move = h.move;
         member = h.member;
         state = h.state ∙ sym a;
-        line = h.line
-            ∙ sym b;
+        line = h.line ∙ sym b;
         to = h.to ∙ sym c;
       }
 
@@ -187,13 +176,13 @@ module _ (m : Quadruples) (u : IsUniformMachine m) where
           { move = h.move; member = h.member; state = h.state ∙ sym isq; line = h.line ∙ sym isi; to = h.to }
       each q i v (reads_on n r here e entry before rest p split isq isi isk) =
           named q i v _ isq isi isk (far.each n r e _ (low n r here) here entry
-          (reads_stand m n r here e entry before rest p split))
+          (reads_stand n r e before rest p split))
       each q i v (shifts_on n r here e entry before rest p split isq isi isk) =
           named q i v _ isq isi isk (far.each n r e _ (low n r here) here entry
-          (shifts_stand m n r here e entry before rest p split))
+          (shifts_stand n r e before rest p split))
       each q i v (writes_on n r here e entry before rest p split isq isi isk) =
           named q i v _ isq isi isk (far.each n r e _ (low n r here) here entry
-          (writes_stand m n r here e entry before rest p split))
+          (writes_stand n r e before rest p split))
 
 -- ---- the same for the quadruples as they are kept
 

@@ -7,7 +7,7 @@ use Rattle.bn_network.specs.Controls.{ControlState, ControlLine, ControlMove, Ta
 use Rattle.bn_network.specs.Controls.{to_read, to_shift, to_write, done_line}
 use Rattle.bn_control.specs.declared.command.Command.{Command}
 use Rattle.bn_control.specs.declared.named.NamedMove.{NamedMove}
-use Rattle.bn_control.specs.States.{name_of}
+use Rattle.bn_control.specs.Names.{state_of}
 use Rattle.bn_control.specs.Commands.{line_of, sending_of}
 
 -- a command by names: what is sent, and the line of the answer
@@ -22,7 +22,7 @@ abbrev pub command_of : Command → NamedCommand
 command_of c = (sending_of c.sending, line_of c.answer)
 
 abbrev pub going_of : NamedMove → Going
-going_of x = (name_of x.state, line_of x.line, sending_of x.to)
+going_of x = (state_of x.state, line_of x.line, sending_of x.to)
 
 -- the reads of state a after these, the shifts, the writes on the way into state a
 abbrev pub read_names : ℕ → List (ℕ × ℕ) → List (ℕ × ℕ) → List NamedCommand

@@ -6,13 +6,10 @@ use Rattle.bn_lists.specs.Lists.{Has}
 use Rattle.bn_lists.proofs.MemberLemmas.{in_front, behind, of_two}
 use Rattle.bn_control.specs.declared.named.NamedMove.{NamedMove}
 use Rattle.bn_control.specs.declared.numbered.Move.{Move}
-use Rattle.bn_control.specs.declared.state.State.{State}
+use Rattle.bn_control.specs.declared.name.StateName.{StateName}
 use Rattle.bn_control.specs.Numbered.{IsNumbered, AreNumbered}
 
-module _ (m : Quadruples) (ss : List State) where
-  pub none_numbered : (vs : List Move) → vs ≡ [] → AreNumbered m ss [] vs
-  none_numbered vs is = subst (AreNumbered m ss []) (sym is) (record { only = λ v h. absurd h; each = λ x h. absurd h })
-
+module _ (m : Quadruples) (ss : List StateName) where
   pub one_numbered : (xs : List NamedMove) (vs : List Move) (x : NamedMove) (v : Move) → AreNumbered m ss xs vs
       → IsNumbered m ss x v → AreNumbered m ss (xs ++ x ∷ []) (vs ++ v ∷ [])
   one_numbered xs vs x v far here = record { only = only; each = each }

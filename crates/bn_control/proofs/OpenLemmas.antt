@@ -18,7 +18,7 @@ use Rattle.bn_lists.proofs.ApartLemmas.{split_at}
 use Rattle.bn_control.specs.Shown.{IsCount, IsShiftState, ShowsRead, ShowsShift, ShowsWrite, Shows, IsShownBefore}
 use Rattle.bn_control.specs.Shown.{IsOpenBelow, IsLeftBy}
 use Rattle.bn_control.proofs.ShownLemmas.{only_read, read_from, not_zero}
-use Rattle.bn_control.proofs.CountLemmas.{none_count, one_count, same_count, both_count, numbering_count}
+use Rattle.bn_control.proofs.CountLemmas.{one_count, same_count, both_count, numbering_count}
 
 -- ---- quadruples as they are kept
 
@@ -50,10 +50,6 @@ module _ (m : Quadruples) (quads : List Quad) (kept : quads ≡ map quad_of m.ru
   pub left : (a : ℕ) → IsLeftBy quads a → IsNotLeft m a → ⊥
   left a h none = let found = rule_at h.index h.quad h.stands in none.none (suc h.index) found.0 found.1
       (ap (λ (q : Quad). q.state) (sym found.2) ∙ h.from)
-
--- so far none, and one more or not
-pub open_none : (m : Quadruples) → IsCount (IsOpenBelow m 0) 0
-open_none m = none_count (IsOpenBelow m 0) (λ q h. let low = h.low in omega arith)
 
 pub open_more : (m : Quadruples) (k n : ℕ) → (k ≡ final_state_of m.rules → ⊥) → IsNotLeft m k
     → IsCount (IsOpenBelow m k) n → IsCount (IsOpenBelow m (suc k)) (n + 1)

@@ -1,9 +1,9 @@
 -- The quadruples of a machine as the program keeps them, one by one, and their commands.
 use Rattle.std.proofs.Common.{◌≡◌, get_or, ℕ, suc, ◌+◌, ◌<◌, ◌≤◌, List, [], ◌∷◌, ◌++◌, length, map, Option, Some, None}
-use Rattle.std.proofs.Common.{refl, sym, ap, subst, ◌∙◌, arith, length-append}
+use Rattle.std.proofs.Common.{inl, inr, refl, sym, ap, subst, ◌∙◌, arith, length-append}
 use Rattle.std.proofs.lemmas.List.{length-map, get_or-map}
 use Rattle.std.proofs.lemmas.Option.{slice_get-get_or}
-use Rattle.bn_lists.specs.Lists.{nth}
+use Rattle.bn_lists.specs.Lists.{nth, Has}
 use Rattle.bn_machine.specs.declared.quint.Shift.TheVariants as way
 use Rattle.bn_machine.specs.declared.quint.Side.{Side}
 use Rattle.bn_quad.specs.Quadruples.{Move, Rule, Quadruples}
@@ -15,10 +15,11 @@ use Rattle.bn_quad.specs.declared.quad.Act.TheVariants.{Write, Shift}
 use Rattle.bn_network.specs.Controls.{leaves, IsFirstOf, reads_of, shifts_of, writes_of}
 use Rattle.bn_network.proofs.UniformLemmas.{silent}
 use Rattle.bn_control.specs.declared.command.Command.{Command}
-use Rattle.bn_control.specs.declared.state.Symbols.{Symbols}
-use Rattle.bn_control.specs.States.{IsProper, symbols_of}
+use Rattle.bn_control.specs.declared.name.Symbols.{Symbols}
+use Rattle.bn_control.specs.Names.{IsProper, symbols_of}
 use Rattle.bn_control.specs.Commands.{sending_of, commands_by, read_command, read_commands, shift_command}
-use Rattle.bn_control.specs.Commands.{shift_commands, write_command, write_commands, written}
+use Rattle.bn_control.specs.Commands.{shift_commands, write_command, write_commands}
+use Rattle.bn_control.specs.Shown.{written}
 use Rattle.bn_control.specs.Entries.{IsFirstSent}
 use Rattle.bn_control.proofs.NamesLemmas.{NamedCommand, command_of, read_names, shift_names, write_names}
 use Rattle.bn_control.proofs.CommandLemmas.{commands_are}
@@ -29,7 +30,7 @@ pub record IsRuleAt (m : Quadruples) (i : ℕ) (q : Quad) : Type 0 where
   pub stands : nth m.rules (i + 1) ≡ Some rule
   pub kept : q ≡ quad_of rule
 
-no_rule : Rule ℕ
+pub no_rule : Rule ℕ
 no_rule = record { from = 0; one = Move way.Stay; two = Move way.Stay; three = Move way.Stay; to = 0 }
 
 pub rule_at : (m : Quadruples) (quads : List Quad) (i : ℕ) (d : Quad) → quads ≡ map quad_of m.rules → i < length quads
@@ -90,6 +91,11 @@ commands_proper n r =
     ++ write_command r.to sa 1 (act_of r.one)) (write_proper r.to wc 3 (act_of r.three) (omega arith))
     (joined (write_command r.to wb 2 (act_of r.two)) (write_command r.to sa 1 (act_of r.one))
     (write_proper r.to wb 2 (act_of r.two) (omega arith)) (write_proper r.to sa 1 (act_of r.one) (omega arith)))))
+
+pub each_proper : (cs : List Command) → AreProper cs → (c : Command) → Has cs c → IsProper c.sending.state
+each_proper [] ps c h = absurd h
+each_proper (d ∷ cs) ps c (inl e) = subst (λ (y : Command). IsProper y.sending.state) (sym e) ps.0
+each_proper (d ∷ cs) ps c (inr h) = each_proper cs ps.1 c h
 
 -- ---- how many commands there are
 

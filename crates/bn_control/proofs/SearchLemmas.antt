@@ -12,24 +12,24 @@ use Rattle.std.proofs.lemmas.Option.{slice_get-map, slice_get-get_or, slice_get_
 use Rattle.bn_network.specs.Controls.{ControlState, Occurs}
 use Rattle.bn_quad.specs.Quadruples.{Quadruples}
 use Rattle.bn_network.proofs.KeyLemmas.{by_key, keys_ordered, ties_one}
-use Rattle.bn_control.specs.declared.state.State.{State}
-use Rattle.bn_control.specs.States.{name_of, IsProper}
+use Rattle.bn_control.specs.declared.name.StateName.{StateName}
+use Rattle.bn_control.specs.Names.{state_of, IsProper}
 use Rattle.bn_control.specs.Ordered.{AreOrdered}
 use Rattle.bn_control.proofs.KeyLemmas.{cmp, same_order}
 
 -- the state that is kept at a number
-pub named_at : (ss : List State) (n : ℕ) (x : State) → slice_get ss n ≡ Some x
-    → slice_get (map name_of ss) n ≡ Some (name_of x)
-named_at ss n x e = slice_get-map name_of ss n ∙ ap (option_map name_of) e
+pub named_at : (ss : List StateName) (n : ℕ) (x : StateName) → slice_get ss n ≡ Some x
+    → slice_get (map state_of ss) n ≡ Some (state_of x)
+named_at ss n x e = slice_get-map state_of ss n ∙ ap (option_map state_of) e
 
 -- and the other way
-pub kept_at : (ss : List State) (n : ℕ) (q : ControlState) → slice_get (map name_of ss) n ≡ Some q
-    → (x : State) × (slice_get ss n ≡ Some x) × (name_of x ≡ q)
+pub kept_at : (ss : List StateName) (n : ℕ) (q : ControlState) → slice_get (map state_of ss) n ≡ Some q
+    → (x : StateName) × (slice_get ss n ≡ Some x) × (state_of x ≡ q)
 kept_at ss n q e = by (slice_get ss n) refl
   where
-    by : (o : Option State) → slice_get ss n ≡ o → (x : State) × (slice_get ss n ≡ Some x) × (name_of x ≡ q)
-    by None f = absurd (let g = sym e ∙ slice_get-map name_of ss n ∙ ap (option_map name_of) f in cc)
-    by (Some x) f = (x, f, (let g = sym (slice_get-map name_of ss n ∙ ap (option_map name_of) f) ∙ e in cc))
+    by : (o : Option StateName) → slice_get ss n ≡ o → (x : StateName) × (slice_get ss n ≡ Some x) × (state_of x ≡ q)
+    by None f = absurd (let g = sym e ∙ slice_get-map state_of ss n ∙ ap (option_map state_of) f in cc)
+    by (Some x) f = (x, f, (let g = sym (slice_get-map state_of ss n ∙ ap (option_map state_of) f) ∙ e in cc))
 
 most : (o : Ordering) → ordering_index o ≤ 2
 most Less = omega arith
@@ -45,10 +45,10 @@ index_rises x y z h = by (by_key y z) refl
     by Equal e = let low = sym (alike_right keys_ordered y z x e) ∙ h in rw (low, e) (omega arith)
     by Greater e = rw e (most (by_key x z))
 
-module _ (m : Quadruples) (ss : List State) (ordered : AreOrdered m ss) (x : State) (occurs : Occurs m (name_of x))
-    (proper : IsProper x) where
+module _ (m : Quadruples) (ss : List StateName) (ordered : AreOrdered m ss) (x : StateName)
+    (occurs : Occurs m (state_of x)) (proper : IsProper x) where
   -- what a look-up compares
-  same_at : (n : ℕ) (y : State) → slice_get ss n ≡ Some y → cmp y x ≡ by_key (name_of y) (name_of x)
+  same_at : (n : ℕ) (y : StateName) → slice_get ss n ≡ Some y → cmp y x ≡ by_key (state_of y) (state_of x)
   same_at n y e = same_order y x (ordered.proper n y e) proper
 
   -- the answers of a search rise along the states
@@ -57,32 +57,33 @@ module _ (m : Quadruples) (ss : List State) (ordered : AreOrdered m ss) (x : Sta
     | inl before ↦ (
         let here = slice_get-get_or ss i d (omega arith) in
         let there = slice_get-get_or ss j d few in
-        let less = ordered.numbering.rising_keys i j (name_of (get_or ss i d)) (name_of (get_or ss j d)) before
+        let less = ordered.numbering.rising_keys i j (state_of (get_or ss i d)) (state_of (get_or ss j d)) before
         (named_at ss i (get_or ss i d) here) (named_at ss j (get_or ss j d) there) in
         rw (same_at i (get_or ss i d) here, same_at j (get_or ss j d) there)
-        (index_rises (name_of (get_or ss i d)) (name_of (get_or ss j d)) (name_of x) less))
+        (index_rises (state_of (get_or ss i d)) (state_of (get_or ss j d)) (state_of x) less))
     | inr not ↦ (let same : i ≡ j = omega arith in rw same (omega arith))
   ]
 
   -- what is found is the state
   pub found : (n : ℕ) → n < length ss → HoldsAt (λ y. cmp y x ≡ Equal) ss n
-      → slice_get (map name_of ss) n ≡ Some (name_of x)
+      → slice_get (map state_of ss) n ≡ Some (state_of x)
   found n few tie =
       let here = slice_get-get_or ss n x few in
       let y = get_or ss n x in
-      let equal : by_key (name_of (get_or ss n x)) (name_of x) ≡ Equal = sym (same_at n (get_or ss n x) here) ∙ tie x in
-      let same = ties_one m (name_of (get_or ss n x)) (name_of x)
-      (ordered.numbering.only n (name_of (get_or ss n x)) (named_at ss n (get_or ss n x) here)) occurs equal in
+      let equal : by_key (state_of (get_or ss n x)) (state_of x) ≡ Equal =
+      sym (same_at n (get_or ss n x) here) ∙ tie x in
+      let same = ties_one m (state_of (get_or ss n x)) (state_of x)
+      (ordered.numbering.only n (state_of (get_or ss n x)) (named_at ss n (get_or ss n x) here)) occurs equal in
       named_at ss n (get_or ss n x) here ∙ ap (λ q. Some q) same
 
   -- and it is found
   pub not_missing : (n : ℕ) → n ≤ length ss → (IsNonDecreasingBy (λ y. ordering_index (cmp y x)) ss
       → IsPartitionPoint (λ y. cmp y x ≡ Less) (λ y. cmp y x ≡ Greater) ss n) → ⊥
   not_missing n few apart =
-      let there = ordered.numbering.each (name_of x) occurs in
-      let kept = kept_at ss there.0 (name_of x) there.1 in
-      let equal : cmp kept.0 x ≡ Equal = same_at there.0 kept.0 kept.1 ∙ ap (λ q. by_key q (name_of x)) kept.2
-      ∙ tied_itself keys_ordered (name_of x) in
+      let there = ordered.numbering.each (state_of x) occurs in
+      let kept = kept_at ss there.0 (state_of x) there.1 in
+      let equal : cmp kept.0 x ≡ Equal = same_at there.0 kept.0 kept.1 ∙ ap (λ q. by_key q (state_of x)) kept.2
+      ∙ tied_itself keys_ordered (state_of x) in
       let value = get_or_from_slice_get ss there.0 kept.0 x kept.1 in
       let at = apart rising in
       let low = slice_get_within ss there.0 kept.0 kept.1 in

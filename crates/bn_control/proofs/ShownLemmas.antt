@@ -232,32 +232,21 @@ writes_count quads k to one two three u v w a b c first second third =
     far q h (inr g) = let x = ap tape_of (one_write _ _ _ _ q h) in let y =
         ap tape_of (one_write _ _ _ _ q g) in omega arith
 
-pub writes_at : (quads : List Quad) (k : ℕ) (quad : Quad) (d : Act) (a b c : ℕ) (one two three : Option ℕ)
-    (u v w : List ℕ) → length quad.act ≡ 3
-    → one ≡ written (get_or quad.act 0 d) → two ≡ written (get_or quad.act 1 d) → three ≡ written (get_or quad.act 2 d)
-    → u ≡ [] → v ≡ in_row one None → w ≡ in_row two one
-    → IsCount (IsNew quads k (IsWriteState quad.next 1 u one)) a
-    → IsCount (IsNew quads k (IsWriteState quad.next 2 v two)) b
-    → IsCount (IsNew quads k (IsWriteState quad.next 3 w three)) c
-    → IsCount (IsNew quads k (ShowsWrite quad)) (a + b + c)
-writes_at quads k quad d a b c one two three u v w long x y z f g h first second third =
+-- what a quadruple shows on the way into this state, by what its acts write
+pub writes_same : (quad : Quad) (d : Act) (to : ℕ) (one two three : Option ℕ) (u v w : List ℕ) → length quad.act ≡ 3
+    → quad.next ≡ to → one ≡ written (get_or quad.act 0 d) → two ≡ written (get_or quad.act 1 d)
+    → three ≡ written (get_or quad.act 2 d) → u ≡ [] → v ≡ in_row one None → w ≡ in_row two one
+    → ◌≡◌ {A = ControlState → Type 0} (λ q. IsWriteState to 1 u one q
+    ⊎ (IsWriteState to 2 v two q ⊎ IsWriteState to 3 w three q)) (ShowsWrite quad)
+writes_same quad d to one two three u v w long next x y z f g h =
     let x' : one ≡ written (act_at quad 0) = x ∙ ap written (same_at quad.act 0 d (Shift way.Stay) (omega arith)) in
     let y' : two ≡ written (act_at quad 1) = y ∙ ap written (same_at quad.act 1 d (Shift way.Stay) (omega arith)) in
     let z' : three ≡ written (act_at quad 2) = z ∙ ap written (same_at quad.act 2 d (Shift way.Stay) (omega arith)) in
     let g' : v ≡ in_row (written (act_at quad 0)) None = g ∙ ap (λ o. in_row o None) x' in
     let h' : w ≡ in_row (written (act_at quad 1)) (written (act_at quad 0)) = h ∙ (λ i. in_row (y' i) (x' i)) in
-    writes_count quads k quad.next (written (act_at quad 0)) (written (act_at quad 1)) (written (act_at quad 2)) []
-    (in_row (written (act_at quad 0)) None) (in_row (written (act_at quad 1)) (written (act_at quad 0))) a b c
-    (turn 1 u [] one (written (act_at quad 0)) a f x' first)
-    (turn 2 v (in_row (written (act_at quad 0)) None) two (written (act_at quad 1)) b g' y' second)
-    (turn 3 w (in_row (written (act_at quad 1)) (written (act_at quad 0))) three (written (act_at quad 2)) c h' z'
-    third)
-  where
-    turn : (t : ℕ) (p q : List ℕ) (o r : Option ℕ) (m : ℕ) → p ≡ q → o ≡ r
-        → IsCount (IsNew quads k (IsWriteState quad.next t p o)) m
-        → IsCount (IsNew quads k (IsWriteState quad.next t q r)) m
-    turn t p q o r m e d count = subst (λ s. IsCount (IsNew quads k (IsWriteState quad.next t q s)) m) d
-        (subst (λ s. IsCount (IsNew quads k (IsWriteState quad.next t s o)) m) e count)
+    let to' : to ≡ quad.next = sym next in
+    λ i q. IsWriteState (to' i) 1 (f i) (x' i) q
+    ⊎ (IsWriteState (to' i) 2 (g' i) (y' i) q ⊎ IsWriteState (to' i) 3 (h' i) (z' i) q)
 
 -- the reads differ by how many symbols they come after
 abbrev after : ControlState → ℕ
@@ -294,6 +283,16 @@ reads_count quads k a one two three l m n first second third =
     ⊎ IsReadState a (in_row one two) three q) l (m + n) (first_far a one two three) first
     (both_new quads k (IsReadState a (in_row one None) two) (IsReadState a (in_row one two) three) m n
     (second_far a one two three) second third))
+
+-- what a quadruple of this state shows at its reads
+pub reads_same : (quad : Quad) (from : ℕ) (u v w : List ℕ) → quad.state ≡ from → u ≡ []
+    → v ≡ in_row (read_at quad 0) None → w ≡ in_row (read_at quad 0) (read_at quad 1)
+    → ◌≡◌ {A = ControlState → Type 0} (λ q. IsReadState from u (read_at quad 0) q
+    ⊎ (IsReadState from v (read_at quad 1) q ⊎ IsReadState from w (read_at quad 2) q)) (ShowsRead quad)
+reads_same quad from u v w state f g h =
+    let from' : from ≡ quad.state = sym state in
+    λ i q. IsReadState (from' i) (f i) (read_at quad 0) q
+    ⊎ (IsReadState (from' i) (g i) (read_at quad 1) q ⊎ IsReadState (from' i) (h i) (read_at quad 2) q)
 
 pub reads_at : (quads : List Quad) (k : ℕ) (quad : Quad) (l m n : ℕ) (u v w : List ℕ)
     → u ≡ [] → v ≡ in_row (read_at quad 0) None → w ≡ in_row (read_at quad 0) (read_at quad 1)
@@ -349,9 +348,6 @@ states_count quads k quad l m n first second third =
     far q h (inr g) = let x = read_kind quad q h in let y = write_kind quad q g in omega arith
 
 -- ---- all of them
-
-pub shown_none : (quads : List Quad) → IsCount (IsShownBefore quads 0) 0
-shown_none quads = none_count (IsShownBefore quads 0) (λ q h. let low = h.low in omega arith)
 
 pub shown_more : (quads : List Quad) (k : ℕ) (quad : Quad) (n l : ℕ) → slice_get quads k ≡ Some quad
     → IsCount (IsShownBefore quads k) n → IsCount (IsNew quads k (Shows (suc k) quad)) l

@@ -1,34 +1,26 @@
--- The names of all quadruples, the names of a control's states, and these in order.
+-- The names of all quadruples, and the names of a control's states.
 use Rattle.std.proofs.Common.{◌≡◌, ◌⊎◌, inl, inr, get_or, slice_get, ℕ, zero, suc, ◌+◌, ◌<◌, List, [], ◌∷◌, ◌++◌, map}
-use Rattle.std.proofs.Common.{length, drop, Option, Some, None, option_map, refl, sym, ap, subst, ◌∙◌, arith}
-use Rattle.std.proofs.Common.{append_assoc, Contains}
-use Rattle.std.specs.List.{Any}
-use Rattle.std.specs.List.Sorted.{IsStrictlySortedBy}
-use Rattle.std.specs.declared.cmp.Ordering.TheVariants.{Less, Equal}
+use Rattle.std.proofs.Common.{length, drop, Some, refl, sym, ap, subst, ◌∙◌, arith, append_assoc}
 use Rattle.std.proofs.lemmas.Bool.Decides.{eqb_tells}
 use Rattle.std.proofs.lemmas.List.{drop_more, get_or-map, length-map}
-use Rattle.std.proofs.lemmas.Map.Keys.{Less-from_sorted}
-use Rattle.std.proofs.lemmas.Option.{slice_get-map, slice_get-get_or, slice_get_within, get_or_from_slice_get}
 use Rattle.bn_lists.specs.Lists.{nth, Has}
-use Rattle.bn_lists.proofs.MemberLemmas.{place_of, member_at, in_front, of_two}
-use Rattle.bn_machine.specs.declared.quint.Shift.TheVariants as way
-use Rattle.bn_quad.specs.Quadruples.{Quadruples, Rule, Move, final_state_of}
+use Rattle.bn_lists.proofs.MemberLemmas.{in_front, of_two}
+use Rattle.bn_quad.specs.Quadruples.{Quadruples, Rule, final_state_of}
 use Rattle.bn_quad.specs.Kept.{quad_of}
 use Rattle.bn_quad.specs.declared.quad.Quad.{Quad}
 use Rattle.bn_network.specs.Controls as control
 use Rattle.bn_network.specs.Controls.{IsNotLeft}
 use Rattle.bn_network.specs.Controls.{ControlState, Occurs, is_begin, is_end, is_open, is_read, is_shift, is_write}
-use Rattle.bn_network.proofs.KeyLemmas.{by_key, ties_one}
 use Rattle.bn_control.specs.Shown.{IsOpenBelow}
 use Rattle.bn_control.specs.declared.name.StateName.{StateName}
 use Rattle.bn_control.specs.declared.name.StateName.TheVariants.{Begin, End, Reads}
 use Rattle.bn_control.specs.declared.name.Symbols.TheVariants.{Empty}
 use Rattle.bn_control.specs.Names.{state_of, IsProper}
-use Rattle.bn_control.specs.Listed.{rule_names, names_from, AreNames, AreOpen}
-use Rattle.bn_network.specs.Controls.{IsNumbering}
-use Rattle.bn_control.proofs.NameKeyLemmas.{cmp, same_order}
-use Rattle.bn_control.proofs.NameShownLemmas.{IsNamed, named_front, named_behind, one_proper, rule_proper, each_read}
+use Rattle.bn_control.specs.Listed.{rule_names, names_from, AreOpen}
+use Rattle.bn_control.specs.Ordered.{AreNames}
+use Rattle.bn_control.proofs.NameShownLemmas.{IsNamed, named_front, named_behind, names_proper, each_read}
 use Rattle.bn_control.proofs.NameShownLemmas.{each_shift, each_write, only_these}
+use Rattle.bn_control.proofs.RuleLemmas.{no_rule}
 
 -- ---- all quadruples
 
@@ -46,8 +38,7 @@ from_all k (r ∷ rs) x h = elim (of_two (rule_names k r) (names_from (suc k) rs
     place = 0;
     rule = r;
     stands = refl;
-    has = subst
-        (λ n. Has (rule_names n r) x) e here;
+    has = subst (λ n. Has (rule_names n r) x) e here;
   })
   | inr later ↦ (let more = from_all (suc k) rs x later in let e : suc k + more.place
       ≡ k + suc more.place = omega arith in record {
@@ -72,9 +63,6 @@ to_all k (s ∷ rs) (suc i) r q e h =
     (subst (λ v. IsNamed (rule_names v r) q) n h))
 
 -- one quadruple more
-no_rule : Rule ℕ
-no_rule = record { from = 0; one = Move way.Stay; two = Move way.Stay; three = Move way.Stay; to = 0 }
-
 pub next_quad : (quads : List Quad) (rs : List (Rule ℕ)) (i : ℕ) (d : Quad) (old now new : List StateName)
     → quads ≡ map quad_of rs → i < length quads
     → now ++ names_from (i + 1) (drop i rs) ≡ old → ((r : Rule ℕ) → get_or quads i d ≡ quad_of r
@@ -98,8 +86,7 @@ pub none_open : (m : Quadruples) → AreOpen m 0 []
 none_open m = record {
   proper = λ x h. absurd h;
   only = λ x h. absurd h;
-  each = λ q h. absurd
-      (let low = h.low in omega arith);
+  each = λ q h. absurd (let low = h.low in omega arith);
 }
 
 longer : (m : Quadruples) (k : ℕ) (q : ControlState) → IsOpenBelow m k q → IsOpenBelow m (k + 1) q
@@ -118,8 +105,7 @@ more_open m k l going none waiting = record { proper = proper; only = only; each
     proper : (x : StateName) → Has (l ++ (Reads k 0 Empty ∷ [])) x → IsProper x
     proper x h = elim (of_two l (Reads k 0 Empty ∷ []) x h) [
       | inl a ↦ waiting.proper x a
-      | inr b
-          ↦ elim b [ inl e ↦ subst IsProper (sym e) refl | inr f ↦ absurd f ]
+      | inr b ↦ elim b [ inl e ↦ subst IsProper (sym e) refl | inr f ↦ absurd f ]
     ]
 
     here : IsOpenBelow m (k + 1) (state_of (Reads k 0 Empty))
@@ -136,8 +122,7 @@ more_open m k l going none waiting = record { proper = proper; only = only; each
       | inl same ↦ named_behind l (Reads k 0 Empty ∷ []) q (
         Reads k 0 Empty,
         inl refl,
-        sym
-            (h.awaits ∙ ap (λ a. control.Reads a []) same.1),
+        sym (h.awaits ∙ ap (λ a. control.Reads a []) same.1),
       )
       | inr other ↦ (let low = h.low in let ne = other.1 in named_front l (Reads k 0 Empty ∷ []) q
           (waiting.each q (record {
@@ -153,8 +138,7 @@ pub same_open : (m : Quadruples) (k : ℕ) (l : List StateName) → (k ≡ final
     → AreOpen m k l → AreOpen m (k + 1) l
 same_open m k l closed waiting = record {
   proper = waiting.proper;
-  only = λ x h. longer m k (state_of x)
-      (waiting.only x h);
+  only = λ x h. longer m k (state_of x) (waiting.only x h);
   each = λ q h. waiting.each q (back q h);
 }
   where
@@ -212,85 +196,19 @@ module _ (m : Quadruples) (opened : List StateName) (waiting : AreOpen m m.state
       (named_behind (Begin ∷ End ∷ []) opened q (waiting.each q
       (record { state = a; low = low; going = other; none = none; awaits = e })))
   each q (is_read n r here before rest p split e) = in_all n r q here
-      (subst (IsNamed (rule_names n r)) (sym e) (each_read m n r here before rest p split))
+      (subst (IsNamed (rule_names n r)) (sym e) (each_read n r before rest p split))
   each q (is_shift n r here before rest p split e) = in_all n r q here
-      (subst (IsNamed (rule_names n r)) (sym e) (each_shift m n r here before rest p split))
+      (subst (IsNamed (rule_names n r)) (sym e) (each_shift n r before rest p split))
   each q (is_write n r here before rest p split e) = in_all n r q here
-      (subst (IsNamed (rule_names n r)) (sym e) (each_write m n r here before rest p split))
+      (subst (IsNamed (rule_names n r)) (sym e) (each_write n r before rest p split))
 
   pub all_names : AreNames m gathered
   all_names = record {
-    proper = on_each IsProper tt tt waiting.proper (λ x f. one_proper (rule_names (1 + f.place) f.rule)
-        (rule_proper (1 + f.place) f.rule) x f.has);
+    proper = on_each IsProper tt tt waiting.proper (λ x f. names_proper (1 + f.place) f.rule x f.has);
     only = on_each (λ x. Occurs m (state_of x)) (is_begin refl) (is_end refl)
         (λ x h. open_occurs (state_of x) (waiting.only x h)) (λ x f. only_these m (1 + f.place) f.rule (rule_here x f) x
         f.has);
     each = each;
-  }
-
--- ---- put in order
-
-from_contained : {A : Type 0} (xs : List A) (x : A) → Contains xs x → Has xs x
-from_contained xs x h = member_at xs h.0 x (slice_get-get_or xs h.0 x h.1 ∙ ap (λ y. Some y) h.2)
-
-contained : {A : Type 0} (xs : List A) (x : A) → Has xs x → Contains xs x
-contained xs x h = let at = place_of xs x h in (
-  at.0,
-  slice_get_within xs at.0 x at.1,
-  get_or_from_slice_get xs at.0 x x
-      at.1,
-)
-
-named_at : (ss : List StateName) (n : ℕ) (x : StateName) → slice_get ss n ≡ Some x
-    → slice_get (map state_of ss) n ≡ Some (state_of x)
-named_at ss n x e = slice_get-map state_of ss n ∙ ap (option_map state_of) e
-
-kept_at : (ss : List StateName) (n : ℕ) (q : ControlState) → slice_get (map state_of ss) n ≡ Some q
-    → (x : StateName) × (slice_get ss n ≡ Some x) × (state_of x ≡ q)
-kept_at ss n q e = by (slice_get ss n) refl
-  where
-    by : (o : Option StateName) → slice_get ss n ≡ o → (x : StateName) × (slice_get ss n ≡ Some x) × (state_of x ≡ q)
-    by None f = absurd (let g = sym e ∙ slice_get-map state_of ss n ∙ ap (option_map state_of) f in cc)
-    by (Some x) f = (x, f, (let g = sym (slice_get-map state_of ss n ∙ ap (option_map state_of) f) ∙ e in cc))
-
-module _ (m : Quadruples) (raw ss : List StateName) (names : AreNames m raw) (strict : IsStrictlySortedBy cmp ss)
-    (all : (x : StateName) → Contains raw x → Any (λ y. cmp x y ≡ Equal) ss)
-    (only : (x : StateName) → Contains ss x → Contains raw x) where
-  among : (n : ℕ) (x : StateName) → slice_get ss n ≡ Some x → Has raw x
-  among n x e = from_contained raw x (only x (contained ss x (member_at ss n x e)))
-
-  at_place : (q : ControlState) → Occurs m q → (n : ℕ) × (slice_get (map state_of ss) n ≡ Some q)
-  at_place q occurs =
-      let kept = names.each q occurs in
-      let tie = all kept.0 (contained raw kept.0 kept.1) in
-      let here : slice_get ss tie.0 ≡ Some tie.1 = slice_get-get_or ss tie.0 tie.1 tie.2 ∙ ap (λ y. Some y) tie.3 in
-      let there = among tie.0 tie.1 here in
-      let equal : by_key (state_of kept.0) (state_of tie.1) ≡ Equal =
-      sym (same_order kept.0 tie.1 (names.proper kept.0 kept.1) (names.proper tie.1 there)) ∙ tie.4 in
-      let same = ties_one m (state_of kept.0) (state_of tie.1) (names.only kept.0 kept.1) (names.only tie.1 there) equal
-      in
-      (tie.0, named_at ss tie.0 tie.1 here ∙ ap (λ r. Some r) (sym same ∙ kept.2))
-
-  rising : (i j : ℕ) (q r : ControlState) → i < j → slice_get (map state_of ss) i ≡ Some q
-      → slice_get (map state_of ss) j ≡ Some r → by_key q r ≡ Less
-  rising i j q r low e d =
-      let a = kept_at ss i q e in
-      let b = kept_at ss j r d in
-      let few = slice_get_within ss j b.0 b.1 in
-      let less = Less-from_sorted cmp ss i j a.0 strict low few in
-      let first : get_or ss i a.0 ≡ a.0 = get_or_from_slice_get ss i a.0 a.0 a.1 in
-      let second : get_or ss j a.0 ≡ b.0 = get_or_from_slice_get ss j b.0 a.0 b.1 in
-      let less' : cmp a.0 b.0 ≡ Less = (λ v. cmp (sym first v) (sym second v)) ∙ less in
-      let keys = sym (same_order a.0 b.0 (names.proper a.0 (among i a.0 a.1)) (names.proper b.0 (among j b.0 b.1)))
-      ∙ less' in
-      (λ v. by_key (sym a.2 v) (sym b.2 v)) ∙ keys
-
-  pub in_their_order : IsNumbering m (map state_of ss)
-  in_their_order = record {
-    each = at_place;
-    only = λ n q e. (let kept = kept_at ss n q e in subst (Occurs m) kept.2
-        (names.only kept.0 (among n kept.0 kept.1)));
-    rising_keys = rising;
   }
 
 -- what is pushed one after the other

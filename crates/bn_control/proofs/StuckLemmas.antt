@@ -29,8 +29,7 @@ module _ (v : Controlled) (n j from tape : ℕ) (is : slice_get v.awaited n ≡ 
     λ e. let parts = some_pair_parts from a symbol c e in record {
       tape = tape;
       awaits = is ∙ ap (λ x. Some (Some (x, tape))) parts.0;
-      answers = (some c).0
-          (ap (λ x. Some x) parts.1);
+      answers = (some c).0 (ap (λ x. Some x) parts.1);
       none = none;
     },
     λ s. let who = awaits a s.tape s.awaits in let same : symbol ≡ c =

@@ -26,14 +26,14 @@ use Rattle.bn_control.specs.contracts.numbered.MoveOrd.TheImpl as impl
 use Rattle.bn_control.specs.contracts.numbered.MoveOrd.TheImpl.Laws.{total-law}
 use Rattle.bn_control.specs.declared.named.NamedMove.{NamedMove}
 use Rattle.bn_control.specs.declared.numbered.Move.{Move}
-use Rattle.bn_control.specs.declared.state.State.{State}
-use Rattle.bn_control.specs.States.{name_of}
+use Rattle.bn_control.specs.declared.name.StateName.{StateName}
+use Rattle.bn_control.specs.Names.{state_of}
 use Rattle.bn_control.specs.Commands.{line_of, sending_of}
 use Rattle.bn_control.specs.Named.{AreMoves}
 use Rattle.bn_control.specs.Ordered.{AreOrdered}
 use Rattle.bn_control.specs.Numbered.{AreNumbered, rsm_move}
-use Rattle.bn_control.proofs.NamedLemmas.{mapped, from_mapped}
-use Rattle.bn_control.proofs.StatesLemmas.{from_contained, contained}
+use Rattle.bn_lists.proofs.ApartLemmas.{from_mapped, mapped}
+use Rattle.bn_control.proofs.OrderedLemmas.{from_contained, contained}
 
 -- the order of moves
 abbrev pub cmp_moves : Move → Move → Ordering
@@ -72,12 +72,12 @@ apart_by (v ∷ vs) far = (heads, apart_by vs (λ i j x y low e d. far (suc i) (
         subst (LeaveApart (rsm_move v)) found.2 (far 0 (suc at.0) v found.0 (omega arith) refl at.1)
 
 module _ (m : Quadruples) (u : IsUniformMachine m) (is : IsQuadMachine m) (xs : List NamedMove) (moves : AreMoves m xs)
-    (ss : List State) (ordered : AreOrdered m ss)
+    (ss : List StateName) (ordered : AreOrdered m ss)
     (raw vs : List Move) (numbers : AreNumbered m ss xs raw)
     (strict : IsStrictlySortedBy cmp_moves vs) (all : (v : Move) → Contains raw v → Any (λ w. cmp_moves v w ≡ Equal) vs)
     (only : (v : Move) → Contains vs v → Contains raw v) where
   abbrev names : List ControlState
-  names = map name_of ss
+  names = map state_of ss
 
   -- the control's table
   there : (t : Table) × IsControlTable m names t
@@ -89,7 +89,7 @@ module _ (m : Quadruples) (u : IsUniformMachine m) (is : IsQuadMachine m) (xs : 
       let kept = numbers.only v (from_contained raw v (only v (contained vs v h))) in
       let going = moves.only kept.0 kept.1 in
       record {
-        state = name_of kept.0.state;
+        state = state_of kept.0.state;
         line = line_of kept.0.line;
         move = sending_of kept.0.to;
         goes = going.goes;
@@ -112,11 +112,11 @@ module _ (m : Quadruples) (u : IsUniformMachine m) (is : IsQuadMachine m) (xs : 
       let kept = moves.each g.state g.line g.move g.goes in
       let number = numbers.each kept.move kept.member in
       let v = number.0 in
-      let state : number.0.state ≡ n = one_number number.0.state n (name_of kept.move.state) g.state number.2.state
+      let state : number.0.state ≡ n = one_number number.0.state n (state_of kept.move.state) g.state number.2.state
       g.from kept.state in
       let line : number.0.line ≡ j = number.2.line ∙ ap (in_number m) kept.line ∙ g.enters in
-      let next : number.0.next ≡ r = one_number number.0.next r (name_of kept.move.to.state) g.move.0 number.2.next g.to
-      (ap (λ k. k.0) kept.to) in
+      let next : number.0.next ≡ r = one_number number.0.next r (state_of kept.move.to.state) g.move.0 number.2.next
+      g.to (ap (λ k. k.0) kept.to) in
       let out : number.0.out ≡ o = number.2.out ∙ ap (λ k. out_number m k.1) kept.to ∙ g.exits in
       let tie = all number.0 (contained raw number.0 number.1) in
       let here : slice_get vs tie.0 ≡ Some tie.1 = slice_get-get_or vs tie.0 tie.1 tie.2 ∙ ap (λ y. Some y) tie.3 in
@@ -153,7 +153,7 @@ module _ (m : Quadruples) (u : IsUniformMachine m) (is : IsQuadMachine m) (xs : 
   pub control_sound : (n : ℕ) (k : ℕ) (ms : List RsmMove) → n ≡ length ss → k ≡ control_lines m → ms ≡ map rsm_move vs
       → AreSound n k ms
   control_sound n k ms states lines value =
-      let count : there.0.states ≡ n = there.1.states ∙ length-map ss name_of ∙ sym states in
+      let count : there.0.states ≡ n = there.1.states ∙ length-map ss state_of ∙ sym states in
       let wide : there.0.inputs ≡ k = there.1.inputs ∙ sym lines in
       let all_sound = moves_sound there.0 there.1.reversible (map rsm_move vs) (there.1.outputs ∙ sym there.1.inputs)
       are_moves in
@@ -164,7 +164,7 @@ module _ (m : Quadruples) (u : IsUniformMachine m) (is : IsQuadMachine m) (xs : 
   pub control_table : (r : Machine) (n : ℕ) (k : ℕ) (ms : List RsmMove) → n ≡ length ss → k ≡ control_lines m
       → ms ≡ map rsm_move vs → IsMadeOf r n k ms → IsControlTable m names (machine_table r)
   control_table r n k ms states lines value made = record {
-    states = made.states ∙ states ∙ sym (length-map ss name_of);
+    states = made.states ∙ states ∙ sym (length-map ss state_of);
     inputs = made.lines ∙ lines;
     outputs = made.lines ∙ lines;
     goes = λ q i x o. (

@@ -11,8 +11,8 @@ use Rattle.bn_lists.proofs.MemberLemmas.{member_at}
 use Rattle.bn_control.specs.declared.line.Line.{Line}
 use Rattle.bn_control.specs.declared.line.Line.TheVariants.{Outside, Tape}
 use Rattle.bn_control.specs.declared.named.NamedMove.{NamedMove}
-use Rattle.bn_control.specs.declared.state.State.{State}
-use Rattle.bn_control.specs.States.{name_of}
+use Rattle.bn_control.specs.declared.name.StateName.{StateName}
+use Rattle.bn_control.specs.Names.{state_of}
 use Rattle.bn_control.specs.Commands.{line_of, sending_of}
 use Rattle.bn_control.specs.Named.{AreMoves}
 use Rattle.bn_control.specs.Ordered.{AreOrdered}
@@ -55,12 +55,12 @@ in_within m three x h = line_within m.symbols IsReply reply_line three x h
 pub out_within : (m : Quadruples) → length m.symbols ≡ 3 → (x : Line) → IsOutLine m (line_of x) → IsWithin m.symbols x
 out_within m three x h = line_within m.symbols IsCommand command_line three x h
 
-module _ (m : Quadruples) (is : IsQuadMachine m) (ss : List State) (ordered : AreOrdered m ss) where
+module _ (m : Quadruples) (is : IsQuadMachine m) (ss : List StateName) (ordered : AreOrdered m ss) where
   pub move_numbers : (xs : List NamedMove) → AreMoves m xs → (n : ℕ) (x : NamedMove) → slice_get xs n ≡ Some x
       → HasNumbers ss m.symbols x
   move_numbers xs moves n x e =
       let going = moves.only x (member_at xs n x e) in
-      let one = sound m is (name_of x.state) (line_of x.line) (sending_of x.to) going.goes in
+      let one = sound m is (state_of x.state) (line_of x.line) (sending_of x.to) going.goes in
       record {
         state = record { machine = m; ordered = ordered; occurs = one.occurs; proper = going.from };
         line = in_within m is.tapes x.line one.line;

@@ -9,15 +9,16 @@ use Rattle.bn_quad.specs.declared.quad.Act.TheVariants.{Write, Shift}
 use Rattle.bn_network.specs.Controls as control
 use Rattle.bn_network.specs.declared.cell_line.CellLine.{CellLine}
 use Rattle.bn_network.specs.declared.cell_line.CellLine.TheVariants as line
-use Rattle.bn_control.specs.declared.state.State.{State}
-use Rattle.bn_control.specs.declared.state.State.TheVariants.{Reads, Shifts, Writes}
-use Rattle.bn_control.specs.declared.state.Symbols.{Symbols}
+use Rattle.bn_control.specs.declared.name.StateName.{StateName}
+use Rattle.bn_control.specs.declared.name.StateName.TheVariants.{Reads, Shifts, Writes}
+use Rattle.bn_control.specs.declared.name.Symbols.{Symbols}
 use Rattle.bn_control.specs.declared.line.Line.{Line}
 use Rattle.bn_control.specs.declared.line.Line.TheVariants.{Outside, Tape}
 use Rattle.bn_control.specs.declared.line.Sending.{Sending}
 use Rattle.bn_control.specs.declared.command.Command.{Command}
 use Rattle.bn_control.specs.declared.named.NamedMove.{NamedMove}
-use Rattle.bn_control.specs.States.{listed, symbols_of, name_of}
+use Rattle.bn_control.specs.Names.{listed, symbols_of, state_of}
+use Rattle.bn_control.specs.Shown.{written}
 
 -- the line, and the state and the line, that are kept so
 abbrev pub line_of : Line → control.ControlLine
@@ -25,10 +26,10 @@ line_of Outside = control.Outside
 line_of (Tape t l) = control.Tape t l
 
 abbrev pub sending_of : Sending → control.ControlMove
-sending_of s = (name_of s.state, line_of s.line)
+sending_of s = (state_of s.state, line_of s.line)
 
 -- the command that is sent to a tape, awaited in a state
-abbrev pub command : State → ℕ → CellLine → CellLine → Command
+abbrev pub command : StateName → ℕ → CellLine → CellLine → Command
 command q t sent answer = record { sending = record { state = q; line = Tape t sent }; answer = Tape t answer }
 
 -- the read of a tape, if it is read
@@ -50,10 +51,6 @@ shift_command n t (Shift s) = shift_by n t s
 abbrev pub write_command : ℕ → Symbols → ℕ → Act → List Command
 write_command a rest t (Write c) = command (Writes a (record { 0 = t }) rest) t (line.Write c) line.DoneWrite ∷ []
 write_command a rest t (Shift s) = []
-
-abbrev pub written : Act → Option ℕ
-written (Write c) = Some c
-written (Shift s) = None
 
 -- the reads by rising tape, the shifts by rising tape, the writes by falling tape
 abbrev pub read_commands : Rule ℕ → List Command

@@ -3,11 +3,11 @@ use Rattle.std.specs.Prelude.{◌≡◌, ℕ, ◌==◌, List, length, Some, slic
 use Rattle.bn_quad.specs.Quadruples.{Quadruples}
 use Rattle.bn_network.specs.Controls.{IsEntry}
 use Rattle.bn_network.specs.declared.cell_line.CellLine.TheVariants as line
-use Rattle.bn_control.specs.declared.state.State.TheVariants.{End, Reads}
-use Rattle.bn_control.specs.declared.state.Symbols.TheVariants.{Empty}
+use Rattle.bn_control.specs.declared.name.StateName.TheVariants.{End, Reads}
+use Rattle.bn_control.specs.declared.name.Symbols.TheVariants.{Empty}
 use Rattle.bn_control.specs.declared.line.Line.TheVariants.{Outside, Tape}
 use Rattle.bn_control.specs.declared.line.Sending.{Sending}
-use Rattle.bn_control.specs.States.{IsProper}
+use Rattle.bn_control.specs.Names.{IsProper}
 use Rattle.bn_control.specs.Commands.{sending_of}
 
 -- what is sent first in a state that no quadruple leaves

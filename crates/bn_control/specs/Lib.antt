@@ -1,11 +1,10 @@
 pub mod Controlled
-pub mod States
+pub mod Names
+pub mod Shown
 pub mod Commands
 pub mod Entries
 pub mod Named
 pub mod Ordered
 pub mod Numbered
 pub mod Made
-pub mod Shown
-pub mod Names
 pub mod Listed

@@ -6,8 +6,8 @@ use Rattle.bn_network.specs.Controls.{ControlState, Occurs, IsFirstKept}
 use Rattle.bn_control.specs.declared.draft.Draft.{Draft}
 use Rattle.bn_control.specs.declared.line.Sending.{Sending}
 use Rattle.bn_network.specs.declared.limits.TheConstants.{MOST_SYMBOLS}
-use Rattle.bn_control.specs.declared.state.State.{State}
-use Rattle.bn_control.specs.States.{name_of, IsProper}
+use Rattle.bn_control.specs.declared.name.StateName.{StateName}
+use Rattle.bn_control.specs.Names.{state_of, IsProper}
 use Rattle.bn_control.specs.Entries.{AreEntries, IsFirstSent}
 use Rattle.bn_control.specs.Named.{AreMoves}
 use Rattle.bn_control.specs.Ordered.{AreOrdered}
@@ -38,23 +38,23 @@ pub record IsSomeEntry (d : Draft) (s : Sending) : Type 0 where
   pub sent : IsFirstSent machine state s
 
 -- the state is one of that machine's control
-pub record OccursInDraft (d : Draft) (q : State) : Type 0 where
+pub record OccursInDraft (d : Draft) (q : StateName) : Type 0 where
   pub machine : Quadruples
   pub is : IsDraft machine d
-  pub occurs : Occurs machine (name_of q)
+  pub occurs : Occurs machine (state_of q)
   pub proper : IsProper q
 
 -- what a control keeps of the first commands of the first n states of the machine
-pub record AreFirsts (m : Quadruples) (ss : List State) (n : ℕ) (fs : List (Option (ℕ × ℕ))) : Type 0 where
+pub record AreFirsts (m : Quadruples) (ss : List StateName) (n : ℕ) (fs : List (Option (ℕ × ℕ))) : Type 0 where
   pub counted : length fs ≡ n
-  pub each : (a : ℕ) (f : Option (ℕ × ℕ)) → slice_get fs a ≡ Some f → IsFirstKept m (map name_of ss) a f
+  pub each : (a : ℕ) (f : Option (ℕ × ℕ)) → slice_get fs a ≡ Some f → IsFirstKept m (map state_of ss) a f
 
 -- this tells whose first read a state of the control awaits, if it awaits one
 pub record TellsAwaited (m : Quadruples) (q : ControlState) (o : Option (ℕ × ℕ)) : Type 0 where
   pub tells : (a t : ℕ) → (o ≡ Some (a, t)) ↔ IsAwaiting m q a t
 
 -- so do these for as many states as there are of them
-pub record AreAwaited (m : Quadruples) (ss : List State) (os : List (Option (ℕ × ℕ))) : Type 0 where
+pub record AreAwaited (m : Quadruples) (ss : List StateName) (os : List (Option (ℕ × ℕ))) : Type 0 where
   pub counted : length os ≡ length ss
-  pub each : (n : ℕ) (x : State) (o : Option (ℕ × ℕ)) → slice_get ss n ≡ Some x → slice_get os n ≡ Some o
-      → TellsAwaited m (name_of x) o
+  pub each : (n : ℕ) (x : StateName) (o : Option (ℕ × ℕ)) → slice_get ss n ≡ Some x → slice_get os n ≡ Some o
+      → TellsAwaited m (state_of x) o

@@ -4,12 +4,12 @@ use Rattle.bn_quad.specs.Quadruples.{Quadruples}
 use Rattle.bn_network.specs.Controls.{ControlState, ControlLine, ControlMove, ControlGoes}
 use Rattle.bn_lists.specs.Lists.{Has}
 use Rattle.bn_control.specs.declared.named.NamedMove.{NamedMove}
-use Rattle.bn_control.specs.States.{name_of, IsProper}
+use Rattle.bn_control.specs.Names.{state_of, IsProper}
 use Rattle.bn_control.specs.Commands.{line_of, sending_of}
 
 -- this is a move of the control
 pub record IsGoing (m : Quadruples) (x : NamedMove) : Type 0 where
-  pub goes : ControlGoes m (name_of x.state) (line_of x.line) (sending_of x.to)
+  pub goes : ControlGoes m (state_of x.state) (line_of x.line) (sending_of x.to)
   pub from : IsProper x.state
   pub to : IsProper x.to.state
 
@@ -17,7 +17,7 @@ pub record IsGoing (m : Quadruples) (x : NamedMove) : Type 0 where
 pub record IsKeptAmong (xs : List NamedMove) (q : ControlState) (i : ControlLine) (k : ControlMove) : Type 0 where
   pub move : NamedMove
   pub member : Has xs move
-  pub state : name_of move.state ≡ q
+  pub state : state_of move.state ≡ q
   pub line : line_of move.line ≡ i
   pub to : sending_of move.to ≡ k
 

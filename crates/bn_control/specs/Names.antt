@@ -1,5 +1,5 @@
 -- The states of a control by their names as the program gives them, and what they stand for.
-use Rattle.std.specs.Prelude.{◌≡◌, ℕ, ◌≤◌, List, [], ◌∷◌, length, Some, None}
+use Rattle.std.specs.Prelude.{◌≡◌, ℕ, ◌≤◌, List, [], ◌∷◌, length, Option, Some, None}
 use Rattle.bn_network.specs.Controls as control
 use Rattle.bn_control.specs.declared.name.Symbols.{Symbols}
 use Rattle.bn_control.specs.declared.name.Symbols.TheVariants.{Empty, Leading}
@@ -11,6 +11,12 @@ abbrev pub listed : Symbols → List ℕ
 listed Empty = []
 listed (Leading a None) = a ∷ []
 listed (Leading a (Some b)) = a ∷ b ∷ []
+
+-- those of two symbols that are there
+abbrev pub symbols_of : Option ℕ → Option ℕ → Symbols
+symbols_of (Some a) b = Leading a b
+symbols_of None (Some b) = Leading b None
+symbols_of None None = Empty
 
 -- the control's state of this name
 abbrev pub state_of : StateName → control.ControlState

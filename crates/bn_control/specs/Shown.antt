@@ -1,5 +1,5 @@
 -- The control's states that a quadruple shows, as the program keeps it, and how many states there are.
-use Rattle.std.specs.Prelude.{◌≡◌, ◌≢◌, ◌⊎◌, ℕ, suc, ◌<◌, List, [], ◌∷◌, length, Option, Some, None, slice_get}
+use Rattle.std.specs.Prelude.{◌≡◌, ◌≢◌, ◌⊎◌, ℕ, suc, ◌<◌, List, [], length, Option, Some, None, slice_get}
 use Rattle.bn_machine.specs.declared.quint.Shift.{Shift as HeadShift}
 use Rattle.bn_machine.specs.declared.quint.Shift.TheVariants as way
 use Rattle.bn_quad.specs.Quadruples.{Quadruples, final_state_of}
@@ -8,8 +8,7 @@ use Rattle.bn_quad.specs.declared.quad.Quad.{Quad}
 use Rattle.bn_quad.specs.declared.quad.Act.{Act}
 use Rattle.bn_quad.specs.declared.quad.Act.TheVariants.{Write, Shift}
 use Rattle.bn_network.specs.Controls.{ControlState, Reads, Shifts, Writes, IsNotLeft}
-use Rattle.bn_control.specs.declared.shown.Word.{Word}
-use Rattle.bn_control.specs.declared.shown.Word.TheVariants.{Empty, One, Two}
+use Rattle.bn_control.specs.Names.{listed, symbols_of}
 
 -- exactly so many states are of this kind
 pub record IsCount (P : ControlState → Type 0) (n : ℕ) : Type 0 where
@@ -21,18 +20,9 @@ pub record IsCount (P : ControlState → Type 0) (n : ℕ) : Type 0 where
 
 -- ---- symbols
 
--- some symbols as a list
-abbrev pub listed : Word → List ℕ
-listed Empty = []
-listed (One a) = a ∷ []
-listed (Two a b) = a ∷ b ∷ []
-
 -- those of two symbols that are there
 abbrev pub in_row : Option ℕ → Option ℕ → List ℕ
-in_row (Some a) (Some b) = a ∷ b ∷ []
-in_row (Some a) None = a ∷ []
-in_row None (Some b) = b ∷ []
-in_row None None = []
+in_row a b = listed (symbols_of a b)
 
 -- the symbol that an act writes
 abbrev pub written : Act → Option ℕ

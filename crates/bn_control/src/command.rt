@@ -2,12 +2,12 @@
 ghost use Rattle.std.specs.Prelude.{◌≡◌, ℕ, ◌++◌, ◌∷◌, [], Option, IfOk, OnOk};
 ghost use Rattle.bn_quad.specs.Quadruples.{Rule};
 ghost use Rattle.bn_quad.specs.Kept.{quad_of};
-ghost use Rattle.bn_control.specs.States.{symbols_of};
 ghost use Rattle.bn_control.specs.Commands.{commands_by, read_commands, shift_commands, write_commands, read_command};
-ghost use Rattle.bn_control.specs.Commands.{shift_command, write_command, written};
+ghost use Rattle.bn_control.specs.Commands.{shift_command, write_command};
 
 use crate::line::{Line, Sending};
-use crate::state::{State, Symbols};
+use crate::name::{StateName, Symbols};
+use crate::shown::{symbols, written};
 use bn_machine::Shift;
 use bn_network::CellLine;
 use bn_quad::{Act, Quad};
@@ -76,18 +76,18 @@ fn push_writes(commands: &mut Vec<Command>, quad: &Quad) -> Result<(), AllocErro
 // The read of a tape, if it is read, after these symbols.
 fn push_read(
     commands: &mut Vec<Command>,
-    from: u32,
+    state: u32,
     before: Symbols,
     tape: u32,
     read: Option<u32>,
 ) -> Result<(), AllocError>
-    ensures { OnOk result (commands.new.items ≡ commands.old.items ++ read_command from before tape read) }
+    ensures { OnOk result (commands.new.items ≡ commands.old.items ++ read_command state before tape read) }
 {
     if let Some(symbol) = read {
         commands.push(Command {
             sending: Sending {
-                state: State::Reads {
-                    from,
+                state: StateName::Reads {
+                    state,
                     count: before.len(),
                     before,
                 },
@@ -100,8 +100,13 @@ fn push_read(
 }
 
 // The shift of a tape, if it is shifted other than by 0.
-fn push_shift(commands: &mut Vec<Command>, quad: u32, tape: u32, act: Act) -> Result<(), AllocError>
-    ensures { OnOk result (commands.new.items ≡ commands.old.items ++ shift_command quad tape act) }
+fn push_shift(
+    commands: &mut Vec<Command>,
+    quadruple: u32,
+    tape: u32,
+    act: Act,
+) -> Result<(), AllocError>
+    ensures { OnOk result (commands.new.items ≡ commands.old.items ++ shift_command quadruple tape act) }
 {
     let (command, answer) = match act {
         Act::Shift(Shift::Left) => (CellLine::ShiftLeft, CellLine::DoneLeft),
@@ -110,7 +115,7 @@ fn push_shift(commands: &mut Vec<Command>, quad: u32, tape: u32, act: Act) -> Re
     };
     commands.push(Command {
         sending: Sending {
-            state: State::Shifts { quad, tape },
+            state: StateName::Shifts { quadruple, tape },
             line: Line::Tape(tape, command),
         },
         answer: Line::Tape(tape, answer),
@@ -121,18 +126,18 @@ fn push_shift(commands: &mut Vec<Command>, quad: u32, tape: u32, act: Act) -> Re
 // The write on a tape, if it is written, with these symbols to come.
 fn push_write(
     commands: &mut Vec<Command>,
-    to: u32,
+    state: u32,
     rest: Symbols,
     tape: u32,
     act: Act,
 ) -> Result<(), AllocError>
-    ensures { OnOk result (commands.new.items ≡ commands.old.items ++ write_command to rest tape act) }
+    ensures { OnOk result (commands.new.items ≡ commands.old.items ++ write_command state rest tape act) }
 {
     if let Act::Write(symbol) = act {
         commands.push(Command {
             sending: Sending {
-                state: State::Writes {
-                    to,
+                state: StateName::Writes {
+                    state,
                     tape: Reverse(tape),
                     rest,
                 },
@@ -142,25 +147,4 @@ fn push_write(
         })?;
     }
     Ok(())
-}
-
-// The symbol that an act writes.
-fn written(act: Act) -> Option<u32>
-    ensures { result ≡ written act }
-{
-    match act {
-        Act::Write(symbol) => Some(symbol),
-        Act::Shift(_) => None,
-    }
-}
-
-// Those of two symbols that are there, in a row.
-fn symbols(first: Option<u32>, second: Option<u32>) -> Symbols
-    ensures { result ≡ symbols_of first second }
-{
-    match (first, second) {
-        (Some(first), second) => Symbols::Leading(first, second),
-        (None, Some(second)) => Symbols::Leading(second, None),
-        (None, None) => Symbols::Empty,
-    }
 }

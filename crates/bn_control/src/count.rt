@@ -1,16 +1,15 @@
 //! The count: each state at the first quadruple that shows it.
-ghost use Rattle.std.specs.Prelude.{◌≡◌, ◌<◌, ◌≤◌, ◌+◌, ◌*◌, ℕ, suc, length, List, Bool, true, false, Some, slice_get};
-ghost use Rattle.bn_lists.specs.Lists.{nth};
-ghost use Rattle.bn_quad.specs.Kept.{read_at, act_at};
-ghost use Rattle.bn_quad.specs.Quadruples.{IsQuadMachine};
+ghost use Rattle.std.specs.Prelude.{◌≡◌, ◌<◌, ◌≤◌, ◌+◌, ◌*◌, ℕ, suc, length, List, Some, slice_get};
 ghost use Rattle.bn_network.specs.Controls.{ControlState, IsNumbering};
 ghost use Rattle.bn_control.specs.Controlled.{IsWithinLimits};
-ghost use Rattle.bn_control.specs.Shown.{listed, IsCount, IsReadState, IsWriteState, shifts_in, ShowsRead};
+ghost use Rattle.bn_control.specs.Names.{listed};
+ghost use Rattle.bn_control.specs.Shown.{IsCount, IsReadState, IsWriteState, shifts_in, ShowsRead};
 ghost use Rattle.bn_control.specs.Shown.{ShowsShift, ShowsWrite, Shows, IsShownBefore, IsNew, IsOpenBelow};
-ghost use Rattle.bn_control.specs.Shown.{IsLeftBy};
 
 use crate::make::MOST_QUADRUPLES;
-use crate::shown::{Word, is_read_before, is_written_before, symbols, written};
+use crate::name::Symbols;
+use crate::names::is_left;
+use crate::shown::{is_read_before, is_written_before, symbols, written};
 use bn_machine::Shift;
 use bn_quad::{Act, Quad, QuadMachine};
 
@@ -35,19 +34,6 @@ fn open_count(machine: &QuadMachine) -> u32
         }
     }
     count
-}
-
-// Whether a quadruple leaves this state.
-fn is_left(quads: &[Quad], state: u32) -> bool
-    ensures yes { result ≡ true → IsLeftBy quads.now state }
-    ensures no { result ≡ false → IsLeftBy quads.now state → ⊥ }
-{
-    for index in 0..quads.len() {
-        if quads[index].state == state {
-            return true;
-        }
-    }
-    false
 }
 
 // How many states the quadruples show.
@@ -87,7 +73,7 @@ fn new_reads(quads: &[Quad], index: usize, quad: &Quad) -> u32
 }
 
 // One for a read that is new.
-fn new_read(quads: &[Quad], index: usize, from: u32, before: Word, read: Option<u32>) -> u32
+fn new_read(quads: &[Quad], index: usize, from: u32, before: Symbols, read: Option<u32>) -> u32
     requires inside { index < length quads.now }
     ensures new { IsCount (IsNew quads.now index (IsReadState from (listed before) read)) result }
     ensures few { result ≤ 1 }
@@ -137,7 +123,7 @@ fn new_write(
     index: usize,
     to: u32,
     tape: u32,
-    rest: Word,
+    rest: Symbols,
     written: Option<u32>,
 ) -> u32
     requires inside { index < length quads.now }

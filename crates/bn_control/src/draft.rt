@@ -3,10 +3,10 @@ ghost use Rattle.std.specs.Prelude.{◌≡◌};
 
 use crate::finite::lines_before;
 use crate::line::{Line, Sending};
+use crate::name::StateName;
 use crate::named::NamedMove;
 use crate::numbered::{in_numbers, rsm_moves};
 use crate::order::in_order;
-use crate::state::State;
 use crate::states::number_of;
 use bn_rsm::{NoMemory, Rsm};
 use std::alloc::{AllocError, Global};
@@ -18,7 +18,7 @@ pub(crate) struct Draft {
     pub(crate) symbols: [u32; 3],
     pub(crate) entries: Vec<Sending>,
     pub(crate) moves: Vec<NamedMove>,
-    pub(crate) states: Vec<State>,
+    pub(crate) states: Vec<StateName>,
 }
 
 impl Draft {
@@ -29,7 +29,7 @@ impl Draft {
     ghost use Rattle.bn_control.specs.Controlled.{IsTapeAwaited};
     ghost use Rattle.bn_network.specs.Controls.{IsFirstKept};
     ghost use Rattle.bn_control.specs.Entries.{IsFirstSent};
-    ghost use Rattle.bn_control.specs.States.{name_of, IsProper};
+    ghost use Rattle.bn_control.specs.Names.{state_of, IsProper};
     ghost use Rattle.bn_control.specs.Made.{IsDraft, IsSomeDraft, IsSomeEntry, OccursInDraft, AreFirsts, AreAwaited};
     ghost use Rattle.bn_control.specs.Made.{TellsAwaited};
 
@@ -37,7 +37,7 @@ impl Draft {
     pub(crate) fn rsm(&self, alloc: Global) -> Result<Rsm, NoMemory>
         requires { IsSomeDraft self.now }
         ensures { (m : Quadruples) → IsDraft m self.now
-            → IfOk result (λ r. IsControlTable m (map name_of self.now.states.items) (machine_table r)) }
+            → IfOk result (λ r. IsControlTable m (map state_of self.now.states.items) (machine_table r)) }
     {
         let states = self.states.as_slice();
         let numbered = in_numbers(alloc, states, &self.symbols, self.moves.as_slice())?;
@@ -65,10 +65,10 @@ impl Draft {
     fn first(&self, entry: &Sending) -> Option<(u32, u32)>
         requires { IsSomeEntry self.now entry.now }
         ensures { (m : Quadruples) (a : ℕ) → IsDraft m self.now → IsFirstSent m a entry.now
-            → IsFirstKept m (map name_of self.now.states.items) a result }
+            → IsFirstKept m (map state_of self.now.states.items) a result }
     {
         match entry.state {
-            State::End => None,
+            StateName::End => None,
             state => {
                 let number = number_of(self.states.as_slice(), state);
                 Some((number, entry.line.out_number(&self.symbols)))
@@ -91,14 +91,18 @@ impl Draft {
     }
 
     // The state of the machine and the tape whose first read this state awaits.
-    fn awaited_by(&self, state: State) -> Option<(u32, u32)>
+    fn awaited_by(&self, state: StateName) -> Option<(u32, u32)>
         requires { OccursInDraft self.now state }
-        ensures tells { (m : Quadruples) → IsDraft m self.now → Occurs m (name_of state) → IsProper state
-            → TellsAwaited m (name_of state) result }
+        ensures tells { (m : Quadruples) → IsDraft m self.now → Occurs m (state_of state) → IsProper state
+            → TellsAwaited m (state_of state) result }
         ensures tape { IsTapeAwaited result }
     {
         match state {
-            State::Reads { from, count: 0, .. } => match self.entries[from as usize].line {
+            StateName::Reads {
+                state: from,
+                count: 0,
+                ..
+            } => match self.entries[from as usize].line {
                 Line::Tape(tape, _) => Some((from, tape)),
                 Line::Outside => None,
             },

@@ -7,7 +7,7 @@ ghost use Rattle.bn_control.specs.Entries.{AreEntries, waiting};
 
 use crate::command::commands_of;
 use crate::line::{Line, Sending};
-use crate::state::{State, Symbols};
+use crate::name::{StateName, Symbols};
 use bn_network::CellLine;
 use bn_quad::QuadMachine;
 use std::alloc::{AllocError, Global};
@@ -41,13 +41,13 @@ fn waiting(final_state: u32, state: u32) -> Sending
 {
     if state == final_state {
         Sending {
-            state: State::End,
+            state: StateName::End,
             line: Line::Outside,
         }
     } else {
         Sending {
-            state: State::Reads {
-                from: state,
+            state: StateName::Reads {
+                state,
                 count: 0,
                 before: Symbols::Empty,
             },

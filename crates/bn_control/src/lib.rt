@@ -7,17 +7,14 @@ mod count;
 mod draft;
 mod entries;
 mod finite;
-mod gather;
 mod line;
 mod make;
 mod name;
-mod name_order;
 mod named;
 mod names;
 mod numbered;
 mod order;
 mod shown;
-mod state;
 mod states;
 
 pub use bn_network::MOST_SYMBOLS;

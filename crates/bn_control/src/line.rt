@@ -1,7 +1,7 @@
 //! The lines of a control, and what it sends by them.
 
 use crate::finite::lines_before;
-use crate::state::State;
+use crate::name::StateName;
 use bn_network::{CellLine, MOST_SYMBOLS};
 
 /// A line of a control, in or out.
@@ -17,7 +17,7 @@ pub(crate) enum Line {
 #[derive(Clone, Copy, PartialEq, Eq, Debug)]
 pub(crate) struct Sending {
     /// The state in which the answer is awaited.
-    pub(crate) state: State,
+    pub(crate) state: StateName,
     /// The output line.
     pub(crate) line: Line,
 }

@@ -1,5 +1,5 @@
 //! Controls are made here.
-ghost use Rattle.std.specs.Prelude.{◌≡◌, ℕ, List, IfOk};
+ghost use Rattle.std.specs.Prelude.{◌≡◌, ℕ, List, IfOk, OnOk};
 ghost use Rattle.bn_quad.specs.Quadruples.{IsQuadMachine};
 ghost use Rattle.bn_quad.specs.Calls.{IsUniformMachine};
 ghost use Rattle.bn_network.specs.Controls.{ControlState};
@@ -28,10 +28,11 @@ pub fn most_quadruples_are_stated()
 {}
 
 /// The finite control of a uniform machine of quadruples, with its states in their order and its lines tape by tape.
-/// `Err` comes only for want of memory.
+/// `Err` comes only for want of memory. Its contract also tells what the machine keeps.
 pub fn control(alloc: Global, machine: &Uniform) -> Result<Control, NoMemory>
     requires { IsWithinLimits machine.now }
-    ensures { IfOk result (λ c. (names : List ControlState) × IsControlOf machine.now names c) }
+    ensures made { IfOk result (λ c. (names : List ControlState) × IsControlOf machine.now names c) }
+    ensures valid { OnOk result (IsQuadMachine machine.now) }
 {
     let machine = machine.machine();
     let draft = draft_of(alloc, machine)?;

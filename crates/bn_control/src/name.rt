@@ -49,7 +49,7 @@ impl Symbols {
     ghost use Rattle.std.specs.Prelude.{◌≡◌, length};
     ghost use Rattle.bn_control.specs.Names.{listed};
 
-    // How many there are.
+    /// How many there are.
     pub(crate) fn len(self) -> u32
         ensures { result ≡ length (listed self) }
     {

@@ -7,7 +7,7 @@ ghost use Rattle.bn_control.specs.Named.{AreMoves};
 
 use crate::command::{Command, commands_of};
 use crate::line::{Line, Sending};
-use crate::state::State;
+use crate::name::StateName;
 use bn_quad::QuadMachine;
 use std::alloc::{AllocError, Global};
 
@@ -15,7 +15,7 @@ use std::alloc::{AllocError, Global};
 #[derive(Clone, Copy, PartialEq, Eq, Debug)]
 pub(crate) struct NamedMove {
     /// The state in which the move is made.
-    pub(crate) state: State,
+    pub(crate) state: StateName,
     /// The input line by which the signal comes.
     pub(crate) line: Line,
     /// What is sent.
@@ -36,7 +36,7 @@ pub(crate) fn named_moves(
     let quads = machine.quads();
     let mut moves = Vec::new(alloc);
     moves.push(NamedMove {
-        state: State::Begin,
+        state: StateName::Begin,
         line: Line::Outside,
         to: entries[machine.initial_state() as usize],
     })?;

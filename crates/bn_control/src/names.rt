@@ -1,15 +1,15 @@
 //! The names of a control's states in their order.
 ghost use Rattle.std.specs.Prelude.{◌≡◌, ℕ, ◌++◌, ◌<◌, ◌^◌, List, map, length, true, false, IfOk, OnOk};
-ghost use Rattle.bn_quad.specs.Quadruples.{Rule, Quadruples};
+ghost use Rattle.bn_quad.specs.Quadruples.{Rule};
 ghost use Rattle.bn_quad.specs.Kept.{quad_of};
 ghost use Rattle.bn_network.specs.Controls.{IsNumbering};
 ghost use Rattle.bn_control.specs.Shown.{IsLeftBy};
 ghost use Rattle.bn_control.specs.Names.{state_of};
 ghost use Rattle.bn_control.specs.Listed.{names_from, AreOpen};
 
-use crate::gather::push_quad;
+use crate::command::{Command, commands_of};
 use crate::name::{StateName, Symbols};
-use crate::name_order::in_order;
+use crate::order::in_order;
 use bn_lists::NoMemory;
 use bn_quad::{Quad, QuadMachine};
 use std::alloc::{AllocError, Global};
@@ -23,7 +23,7 @@ pub fn state_names(alloc: Global, machine: &QuadMachine) -> Result<Vec<StateName
     names.push(StateName::Begin)?;
     names.push(StateName::End)?;
     push_open(&mut names, machine)?;
-    push_quads(&mut names, machine.quads())?;
+    push_quads(alloc, &mut names, machine.quads())?;
     let ordered = in_order(names)?;
     Ok(ordered)
 }
@@ -45,8 +45,8 @@ fn push_open(names: &mut Vec<StateName>, machine: &QuadMachine) -> Result<(), Al
     Ok(())
 }
 
-// Whether a quadruple leaves this state.
-fn is_left(quads: &[Quad], state: u32) -> bool
+/// Whether a quadruple leaves this state.
+pub(crate) fn is_left(quads: &[Quad], state: u32) -> bool
     ensures yes { result ≡ true → IsLeftBy quads.now state }
     ensures no { result ≡ false → IsLeftBy quads.now state → ⊥ }
 {
@@ -59,13 +59,24 @@ fn is_left(quads: &[Quad], state: u32) -> bool
 }
 
 // The names of the states that the quadruples show.
-fn push_quads(names: &mut Vec<StateName>, quads: &[Quad]) -> Result<(), AllocError>
+fn push_quads(alloc: Global, names: &mut Vec<StateName>, quads: &[Quad]) -> Result<(), AllocError>
     requires { length quads.now < 2 ^ 32 }
     ensures { (rs : List (Rule ℕ)) → quads.now ≡ map quad_of rs
         → OnOk result (names.new.items ≡ names.old.items ++ names_from 1 rs) }
 {
     for (index, quad) in quads.iter().enumerate() {
-        push_quad(names, index as u32 + 1, quad)?;
+        let commands = commands_of(alloc, index as u32 + 1, quad)?;
+        push_states(names, commands.as_slice())?;
+    }
+    Ok(())
+}
+
+// The names of the states that await the answers to these commands.
+fn push_states(names: &mut Vec<StateName>, commands: &[Command]) -> Result<(), AllocError>
+    ensures { OnOk result (names.new.items ≡ names.old.items ++ map (λ c. c.sending.state) commands.now) }
+{
+    for command in commands {
+        names.push(command.sending.state)?;
     }
     Ok(())
 }

@@ -1,18 +1,12 @@
 //! The moves of a control in numbers.
 ghost use Rattle.std.specs.Prelude.{◌≡◌, ℕ, ◌^◌, ◌<◌, ◌≤◌, map, length, slice_get, Some, All, IfOk};
-ghost use Rattle.bn_quad.specs.Quadruples.{Quadruples, IsQuadMachine};
-ghost use Rattle.bn_quad.specs.Calls.{IsUniformMachine};
-ghost use Rattle.bn_rsm.specs.Machines.{machine_table};
-ghost use Rattle.bn_network.specs.Controls.{IsControlTable};
-ghost use Rattle.bn_control.specs.States.{name_of};
-ghost use Rattle.bn_control.specs.Named.{AreMoves};
-ghost use Rattle.bn_control.specs.Ordered.{AreOrdered};
+ghost use Rattle.bn_quad.specs.Quadruples.{Quadruples};
 ghost use Rattle.bn_control.specs.Numbered.{HasNumbers, AreNumbered, rsm_move};
 ghost use Rattle.bn_control.specs.declared.named.NamedMove.{NamedMove};
 
 use crate::finite::lines_before;
+use crate::name::StateName;
 use crate::named::NamedMove;
-use crate::state::State;
 use crate::states::number_of;
 use bn_network::MOST_SYMBOLS;
 use bn_rsm::RsmMove;
@@ -34,7 +28,7 @@ pub(crate) struct Move {
 /// The moves in numbers, in the order in which they are given.
 pub(crate) fn in_numbers(
     alloc: Global,
-    states: &[State],
+    states: &[StateName],
     symbols: &[u32; 3],
     moves: &[NamedMove],
 ) -> Result<Vec<Move>, AllocError>

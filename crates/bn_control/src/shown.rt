@@ -1,31 +1,21 @@
 //! The control's states that a quadruple shows, and whether an earlier quadruple shows them.
-ghost use Rattle.std.specs.Prelude.{◌≡◌, ◌≤◌, ℕ, length, Bool, true, false};
-ghost use Rattle.bn_quad.specs.Kept.{read_at, act_at};
+ghost use Rattle.std.specs.Prelude.{◌≡◌, ◌≤◌, ℕ, length, true, false};
 ghost use Rattle.bn_network.specs.Controls.{Reads, Writes};
-ghost use Rattle.bn_control.specs.Shown.{in_row, listed, written, IsWriteState, ShowsRead, ShowsWrite};
+ghost use Rattle.bn_control.specs.Names.{listed, symbols_of};
+ghost use Rattle.bn_control.specs.Shown.{written, IsReadState, IsWriteState, ShowsRead, ShowsWrite};
 ghost use Rattle.bn_control.specs.Shown.{IsShownBefore};
 
+use crate::name::Symbols;
 use bn_quad::{Act, Quad};
 
-/// At most two symbols, in a row.
-#[derive(Clone, Copy, PartialEq, Eq)]
-pub(crate) enum Word {
-    /// No symbol.
-    Empty,
-    /// One symbol.
-    One(u32),
-    /// Two symbols.
-    Two(u32, u32),
-}
-
 /// Those of two symbols that are there, in a row.
-pub(crate) fn symbols(first: Option<u32>, second: Option<u32>) -> Word
-    ensures { listed result ≡ in_row first second }
+pub(crate) fn symbols(first: Option<u32>, second: Option<u32>) -> Symbols
+    ensures { result ≡ symbols_of first second }
 {
     match (first, second) {
-        (Some(first), Some(second)) => Word::Two(first, second),
-        (Some(one), None) | (None, Some(one)) => Word::One(one),
-        (None, None) => Word::Empty,
+        (Some(first), second) => Symbols::Leading(first, second),
+        (None, Some(second)) => Symbols::Leading(second, None),
+        (None, None) => Symbols::Empty,
     }
 }
 
@@ -39,20 +29,28 @@ pub(crate) fn written(act: Act) -> Option<u32>
     }
 }
 
+// Whether this is a read, after these symbols.
+fn is_read(lower: Symbols, read: Option<u32>, before: Symbols) -> bool
+    ensures yes { (from : ℕ) → result ≡ true → IsReadState from (listed lower) read (Reads from (listed before)) }
+    ensures no { (from : ℕ) → result ≡ false → IsReadState from (listed lower) read (Reads from (listed before)) → ⊥ }
+{
+    read.is_some() && lower == before
+}
+
 // Whether a quadruple of this state has a read after these symbols.
-fn shows_read(quad: &Quad, from: u32, before: Word) -> bool
+fn shows_read(quad: &Quad, from: u32, before: Symbols) -> bool
     ensures yes { result ≡ true → ShowsRead quad.now (Reads from (listed before)) }
     ensures no { result ≡ false → ShowsRead quad.now (Reads from (listed before)) → ⊥ }
 {
     let [one, two, three] = quad.read;
     quad.state == from
-        && (one.is_some() && before == symbols(None, None)
-            || two.is_some() && before == symbols(one, None)
-            || three.is_some() && before == symbols(one, two))
+        && (is_read(symbols(None, None), one, before)
+            || is_read(symbols(one, None), two, before)
+            || is_read(symbols(one, two), three, before))
 }
 
 // Whether this is a write, on this tape and before these symbols.
-fn is_write(slot: u32, lower: Word, written: Option<u32>, tape: u32, rest: Word) -> bool
+fn is_write(slot: u32, lower: Symbols, written: Option<u32>, tape: u32, rest: Symbols) -> bool
     ensures yes { (to : ℕ) → result ≡ true
         → IsWriteState to slot (listed lower) written (Writes to tape (listed rest)) }
     ensures no { (to : ℕ) → result ≡ false → IsWriteState to slot (listed lower) written (Writes to tape (listed rest))
@@ -62,7 +60,7 @@ fn is_write(slot: u32, lower: Word, written: Option<u32>, tape: u32, rest: Word)
 }
 
 // Whether a quadruple into this state has a write on this tape before these symbols.
-fn shows_write(quad: &Quad, to: u32, tape: u32, rest: Word) -> bool
+fn shows_write(quad: &Quad, to: u32, tape: u32, rest: Symbols) -> bool
     ensures yes { result ≡ true → ShowsWrite quad.now (Writes to tape (listed rest)) }
     ensures no { result ≡ false → ShowsWrite quad.now (Writes to tape (listed rest)) → ⊥ }
 {
@@ -75,7 +73,7 @@ fn shows_write(quad: &Quad, to: u32, tape: u32, rest: Word) -> bool
 }
 
 /// Whether one of the first quadruples, so many, has a read in this state after these symbols.
-pub(crate) fn is_read_before(quads: &[Quad], count: usize, from: u32, before: Word) -> bool
+pub(crate) fn is_read_before(quads: &[Quad], count: usize, from: u32, before: Symbols) -> bool
     requires { count ≤ length quads.now }
     ensures yes { result ≡ true → IsShownBefore quads.now count (Reads from (listed before)) }
     ensures no { result ≡ false → IsShownBefore quads.now count (Reads from (listed before)) → ⊥ }
@@ -95,7 +93,7 @@ pub(crate) fn is_written_before(
     count: usize,
     to: u32,
     tape: u32,
-    rest: Word,
+    rest: Symbols,
 ) -> bool
     requires { count ≤ length quads.now }
     ensures yes { result ≡ true → IsShownBefore quads.now count (Writes to tape (listed rest)) }

@@ -2,15 +2,15 @@
 ghost use Rattle.std.specs.Prelude.{◌≡◌, ◌+◌, ◌^◌, ◌<◌, ◌≤◌, ◌++◌, map, length, Some, slice_get, IfOk, OnOk};
 ghost use Rattle.bn_quad.specs.Quadruples.{Quadruples, IsQuadMachine};
 ghost use Rattle.bn_quad.specs.Calls.{IsUniformMachine};
-ghost use Rattle.bn_control.specs.States.{name_of};
+ghost use Rattle.bn_control.specs.Names.{state_of};
 ghost use Rattle.bn_control.specs.Entries.{AreEntries};
 ghost use Rattle.bn_control.specs.Named.{AreMoves};
 ghost use Rattle.bn_control.specs.Ordered.{AreOrdered, HasNumber};
 
 use crate::line::Sending;
+use crate::name::StateName;
 use crate::named::NamedMove;
 use crate::order::in_order;
-use crate::state::State;
 use std::alloc::{AllocError, Global};
 
 /// The states of the control of a machine with these first commands and moves, each at its number.
@@ -18,14 +18,14 @@ pub(crate) fn states_of(
     alloc: Global,
     entries: &[Sending],
     moves: &[NamedMove],
-) -> Result<Vec<State>, AllocError>
+) -> Result<Vec<StateName>, AllocError>
     ensures ordered { (m : Quadruples) → IsUniformMachine m → IsQuadMachine m → AreEntries m entries.now
         → AreMoves m moves.now
         → IfOk result (λ v. AreOrdered m v.items) }
     ensures few { IfOk result (λ v. length v.items ≤ 1 + length entries.now + length moves.now) }
 {
     let mut states = Vec::new(alloc);
-    states.push(State::End)?;
+    states.push(StateName::End)?;
     push_awaiting(&mut states, entries)?;
     push_moving(&mut states, moves)?;
     let ordered = in_order(states)?;
@@ -33,7 +33,7 @@ pub(crate) fn states_of(
 }
 
 // The states that await the answers to first commands.
-fn push_awaiting(states: &mut Vec<State>, entries: &[Sending]) -> Result<(), AllocError>
+fn push_awaiting(states: &mut Vec<StateName>, entries: &[Sending]) -> Result<(), AllocError>
     ensures { OnOk result (states.new.items ≡ states.old.items ++ map (λ s. s.state) entries.now) }
 {
     for entry in entries {
@@ -43,7 +43,7 @@ fn push_awaiting(states: &mut Vec<State>, entries: &[Sending]) -> Result<(), All
 }
 
 // The states in which there are moves.
-fn push_moving(states: &mut Vec<State>, moves: &[NamedMove]) -> Result<(), AllocError>
+fn push_moving(states: &mut Vec<StateName>, moves: &[NamedMove]) -> Result<(), AllocError>
     ensures { OnOk result (states.new.items ≡ states.old.items ++ map (λ x. x.state) moves.now) }
 {
     for step in moves {
@@ -53,10 +53,10 @@ fn push_moving(states: &mut Vec<State>, moves: &[NamedMove]) -> Result<(), Alloc
 }
 
 /// The number of a state, counted from 0.
-pub(crate) fn number_of(states: &[State], state: State) -> u32
+pub(crate) fn number_of(states: &[StateName], state: StateName) -> u32
     requires known { HasNumber states.now state }
     requires few { length states.now < 2 ^ 32 }
-    ensures { slice_get (map name_of states.now) result ≡ Some (name_of state) }
+    ensures { slice_get (map state_of states.now) result ≡ Some (state_of state) }
 {
     match states.binary_search(&state) {
         Ok(number) => number as u32,

@@ -1,5 +1,5 @@
 use Rattle.std.proofs.Common.{sym, ◌∙◌}
-use Rattle.bn_control.specs.Shown.{listed}
+use Rattle.bn_control.specs.Names.{listed}
 use Rattle.bn_control.proofs.ShownLemmas.{read_new, read_old, read_none}
 use Rattle.bn_control.proofs.count.new_read.Goals.{else-is_some-via-then-is_some+else-not-is_read_before}
 use Rattle.bn_control.proofs.count.new_read.Goals.{else-is_some-via-else-is_some}

@@ -5,7 +5,7 @@ use Rattle.bn_control.specs.Commands.{moves_by}
 use Rattle.bn_control.specs.declared.line.Line.TheVariants.{Outside}
 use Rattle.bn_control.specs.declared.line.Sending.{Sending}
 use Rattle.bn_control.specs.declared.named.NamedMove.{NamedMove}
-use Rattle.bn_control.specs.declared.state.State.TheVariants.{Begin}
+use Rattle.bn_control.specs.declared.name.StateName.TheVariants.{Begin}
 use Rattle.bn_control.proofs.NamedLemmas.{initial_low, move_first, next_low, moves_more, moves_few, all_moves}
 use Rattle.bn_control.proofs.named.named_moves.Goals as goal
 

@@ -5,6 +5,5 @@ use Rattle.bn_control.proofs.named.named_moves.Given as goal
 abbrev pub invariant-loop-index : goal.invariant-loop-index
 invariant-loop-index l = record {
   moves : AreMovesSoFar l.machine l.index l.moves.items;
-  few : length l.moves.items
-      ≤ 1 + 9 * l.index;
+  few : length l.moves.items ≤ 1 + 9 * l.index;
 }

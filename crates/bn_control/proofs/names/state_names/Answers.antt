@@ -1,6 +1,7 @@
 use Rattle.std.proofs.Common.{sym, subst}
-use Rattle.bn_control.specs.Listed.{AreNames}
-use Rattle.bn_control.proofs.StateNameLemmas.{all_names, in_their_order, pushed}
+use Rattle.bn_control.specs.Ordered.{AreNames}
+use Rattle.bn_control.proofs.OrderedLemmas.{in_their_order}
+use Rattle.bn_control.proofs.StateNameLemmas.{all_names, pushed}
 use Rattle.bn_control.proofs.names.state_names.Goals as goal
 
 pub returns : goal.returns
@@ -12,5 +13,5 @@ returns c =
     c.in_ok-push.ensures.items c.in_ok-push-2.ensures.items c.in_ok-push_open.ensures.2
     (c.in_ok-push_quads.ensures m.rules c.quads.ensures.value) in
     let names = subst (AreNames m) (sym raw) (all_names m opened c.in_ok-push_open.ensures.1) in
-    in_their_order m c.push_quads.new.names.items c.in_ok-ordered.ordered.items names c.in_ok-ordered.ensures.rising
-    c.in_ok-ordered.ensures.each c.in_ok-ordered.ensures.only
+    (in_their_order m c.push_quads.new.names.items c.in_ok-ordered.ordered.items names c.in_ok-ordered.ensures.rising
+    c.in_ok-ordered.ensures.each c.in_ok-ordered.ensures.only).numbering

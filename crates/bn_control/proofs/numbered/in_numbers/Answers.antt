@@ -3,7 +3,7 @@ use Rattle.std.proofs.lemmas.Option.{slice_get-get_or}
 use Rattle.std.proofs.Math.Seq.{take-length}
 use Rattle.bn_control.specs.declared.line.Line.TheVariants.{Outside}
 use Rattle.bn_control.specs.declared.named.NamedMove.{NamedMove}
-use Rattle.bn_control.specs.declared.state.State.TheVariants.{Begin}
+use Rattle.bn_control.specs.declared.name.StateName.TheVariants.{Begin}
 use Rattle.bn_control.specs.Numbered.{AreNumbered}
 use Rattle.bn_control.proofs.NumberedLemmas.{next_numbered}
 use Rattle.bn_control.proofs.numbered.in_numbers.Goals as goal

@@ -1,7 +1,7 @@
 use Rattle.std.proofs.lemmas.List.Filters.{dedup_is}
 use Rattle.std.proofs.lemmas.List.Kept.{Any-dedup, Contains-from_dedup, IsStrictlySortedBy-dedup}
 use Rattle.std.proofs.lemmas.List.Sorted.{Contains-permutation, IsPermutation-sym}
-use Rattle.bn_control.proofs.OrderedLemmas.{any_tied}
+use Rattle.bn_control.proofs.TieLemmas.{any_tied}
 use Rattle.bn_control.proofs.order.in_order.Goals as goal
 
 pub returns-clause-rising : goal.returns-clause-rising

@@ -1,5 +1,5 @@
 use Rattle.bn_network.specs.Controls.{Reads}
-use Rattle.bn_control.specs.Shown.{listed}
+use Rattle.bn_control.specs.Names.{listed}
 use Rattle.std.proofs.Common.{refl, arith, add-one, inl, suc, get_or}
 use Rattle.bn_control.proofs.ShownLemmas.{shown_here, shown_longer, not_shown, empty, only_read, stands_at}
 use Rattle.bn_control.proofs.shown.is_read_before.Goals as goal

@@ -1,5 +1,6 @@
 use Rattle.bn_network.specs.Controls.{Reads}
-use Rattle.bn_control.specs.Shown.{listed, IsShownBefore}
+use Rattle.bn_control.specs.Names.{listed}
+use Rattle.bn_control.specs.Shown.{IsShownBefore}
 use Rattle.bn_control.proofs.shown.is_read_before.Given as goal
 
 abbrev pub invariant-loop-index : goal.invariant-loop-index

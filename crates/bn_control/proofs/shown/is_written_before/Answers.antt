@@ -1,5 +1,5 @@
 use Rattle.bn_network.specs.Controls.{Writes}
-use Rattle.bn_control.specs.Shown.{listed}
+use Rattle.bn_control.specs.Names.{listed}
 use Rattle.std.proofs.Common.{refl, arith, add-one, inr, suc, get_or}
 use Rattle.bn_control.proofs.ShownLemmas.{shown_here, shown_longer, not_shown, empty, only_write, stands_at}
 use Rattle.bn_control.proofs.shown.is_written_before.Goals as goal

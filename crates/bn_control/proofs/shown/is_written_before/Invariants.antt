@@ -1,5 +1,6 @@
 use Rattle.bn_network.specs.Controls.{Writes}
-use Rattle.bn_control.specs.Shown.{listed, IsShownBefore}
+use Rattle.bn_control.specs.Names.{listed}
+use Rattle.bn_control.specs.Shown.{IsShownBefore}
 use Rattle.bn_control.proofs.shown.is_written_before.Given as goal
 
 abbrev pub invariant-loop-index : goal.invariant-loop-index

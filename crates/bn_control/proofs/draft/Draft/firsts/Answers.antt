@@ -1,7 +1,7 @@
 use Rattle.std.proofs.Common.{◌≡◌, ◌<◌, List, length, get_or, ap, subst, sym, arith}
 use Rattle.bn_control.specs.declared.line.Line.TheVariants.{Outside}
 use Rattle.bn_control.specs.declared.line.Sending.{Sending}
-use Rattle.bn_control.specs.declared.state.State.TheVariants.{Begin}
+use Rattle.bn_control.specs.declared.name.StateName.TheVariants.{Begin}
 use Rattle.bn_control.specs.Entries.{IsFirstSent}
 use Rattle.bn_control.specs.Made.{IsSomeEntry, AreFirsts}
 use Rattle.bn_control.proofs.DraftLemmas.{entry_at, one_first}

@@ -4,6 +4,5 @@ use Rattle.bn_control.proofs.draft.Draft.firsts.Given as goal
 
 abbrev pub invariant-loop-entry : goal.invariant-loop-entry
 invariant-loop-entry l = record {
-  firsts : (m : Quadruples) → IsDraft m l.self
-      → AreFirsts m l.self.states.items l.entry-index l.firsts.items;
+  firsts : (m : Quadruples) → IsDraft m l.self → AreFirsts m l.self.states.items l.entry-index l.firsts.items;
 }
