@@ -15,8 +15,7 @@ pub apart-faultless : (ts : List Table) (ws : List Wire) → AreApart ws
 apart-faultless ts ws apart within n below w h = rw (
   within n w h,
   earlier_target ws n w apart h,
-  earlier_source ws n w
-      apart h,
+  earlier_source ws n w apart h,
 ) refl
 
 -- wires of a relation that leads from output lines to input lines

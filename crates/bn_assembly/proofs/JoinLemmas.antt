@@ -85,10 +85,6 @@ module _ (m : Quadruples) (l : Limits) (v : Controlled) (items : List Module) (a
   two_count = let count = are.second.count in let before = one_count in ap (λ (xs : List Module). length xs) two_is
       ∙ (let e = length-append are.one are.second.row in omega arith)
 
-  pub whole_count : length items ≡ 1 + cells_in l 1 + cells_in l 2 + cells_in l 3
-  whole_count = let count = are.third.count in let before = two_count in ap (λ (xs : List Module). length xs)
-      are.third.is ∙ (let e = length-append are.two are.third.row in omega arith)
-
   -- the tables of all modules
   pub tables_are : map module_table items ≡ module_tables m l (machine_table v.machine)
   tables_are =

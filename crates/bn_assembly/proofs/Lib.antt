@@ -1,6 +1,5 @@
 pub mod SymbolLemmas
 pub mod WireLemmas
-pub mod PushLemmas
 pub mod StartLemmas
 pub mod FaultLemmas
 pub mod JoinLemmas

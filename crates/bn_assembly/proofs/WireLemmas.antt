@@ -58,8 +58,7 @@ bundle_wires e i f j (suc n) =
       | inr more ↦ (let low = h.low in let same : h.at ≡ n = omega arith in
           inr (record {
             leaves = h.leaves ∙ ap (λ x. line_at e (i + x)) same;
-            ends = h.ends
-                ∙ ap (λ x. line_at f (j + x)) same;
+            ends = h.ends ∙ ap (λ x. line_at f (j + x)) same;
           }))
     ]
 
@@ -89,26 +88,22 @@ leaves_joint : (e z : ℕ) (from to : Line) → IsJoint e z from to
     → ((from.element ≡ e) × (from.line < z + 4)) ⊎ ((from.element ≡ e + 1) × (z + 4 ≤ from.line))
 leaves_joint e z from to (inl h) = let low = h.low in inl (
   ap (λ (x : Line). x.element) h.leaves,
-  let line : from.line
-      ≡ 0 + h.at = ap (λ (x : Line). x.line) h.leaves in omega arith,
+  let line : from.line ≡ 0 + h.at = ap (λ (x : Line). x.line) h.leaves in omega arith,
 )
 leaves_joint e z from to (inr h) = inr (
   ap (λ (x : Line). x.element) h.leaves,
-  let line : from.line
-      ≡ z + 4 + h.at = ap (λ (x : Line). x.line) h.leaves in omega arith,
+  let line : from.line ≡ z + 4 + h.at = ap (λ (x : Line). x.line) h.leaves in omega arith,
 )
 
 ends_joint : (e z : ℕ) (from to : Line) → IsJoint e z from to
     → ((to.element ≡ e + 1) × (to.line < z + 4)) ⊎ ((to.element ≡ e) × (z + 4 ≤ to.line))
 ends_joint e z from to (inl h) = let low = h.low in inl (
   ap (λ (x : Line). x.element) h.ends,
-  let line : to.line
-      ≡ 0 + h.at = ap (λ (x : Line). x.line) h.ends in omega arith,
+  let line : to.line ≡ 0 + h.at = ap (λ (x : Line). x.line) h.ends in omega arith,
 )
 ends_joint e z from to (inr h) = inr (
   ap (λ (x : Line). x.element) h.ends,
-  let line : to.line
-      ≡ z + 4 + h.at = ap (λ (x : Line). x.line) h.ends in omega arith,
+  let line : to.line ≡ z + 4 + h.at = ap (λ (x : Line). x.line) h.ends in omega arith,
 )
 
 joins_wires : (f z n : ℕ) → AreWiresOf (IsJoined f z n) (joints f z n)
@@ -119,25 +114,21 @@ joins_wires f z (suc n) =
     (λ from to line h k. let low = h.low in elim (leaves_joint (f + h.at) z from to h.joint) [
       | inl a ↦ elim (leaves_joint (f + n) z from line k) [
         | inl b ↦ (let x = a.0 in let y = b.0 in omega arith)
-        | inr b
-            ↦ (let x = a.0 in let y = b.0 in omega arith)
+        | inr b ↦ (let x = a.0 in let y = b.0 in omega arith)
       ]
       | inr a ↦ elim (leaves_joint (f + n) z from line k) [
         | inl b ↦ (let x = a.1 in let y = b.1 in omega arith)
-        | inr b
-            ↦ (let x = a.0 in let y = b.0 in omega arith)
+        | inr b ↦ (let x = a.0 in let y = b.0 in omega arith)
       ]
     ])
     (λ from to line h k. let low = h.low in elim (ends_joint (f + h.at) z from to h.joint) [
       | inl a ↦ elim (ends_joint (f + n) z line to k) [
         | inl b ↦ (let x = a.0 in let y = b.0 in omega arith)
-        | inr b
-            ↦ (let x = a.1 in let y = b.1 in omega arith)
+        | inr b ↦ (let x = a.1 in let y = b.1 in omega arith)
       ]
       | inr a ↦ elim (ends_joint (f + n) z line to k) [
         | inl b ↦ (let x = a.0 in let y = b.0 in omega arith)
-        | inr b
-            ↦ (let x = a.0 in let y = b.0 in omega arith)
+        | inr b ↦ (let x = a.0 in let y = b.0 in omega arith)
       ]
     ])
     (λ from to h. let low = h.low in record { at = h.at; low = omega arith; joint = h.joint })
@@ -181,16 +172,14 @@ module _ (b f n z : ℕ) (some : 0 < f) (cells : 0 < n) where
           let first : from.element ≡ 0 = ap (λ (x : Line). x.element) h.leaves in
           elim (leaves_joint (f + k.at) z from line k.joint) [
             | inl a ↦ (let x = a.0 in omega arith)
-            | inr a
-                ↦ (let x = a.0 in omega arith)
+            | inr a ↦ (let x = a.0 in omega arith)
           ]
       no_from from to line (inr h) k =
           let first : from.element ≡ f = ap (λ (x : Line). x.element) h.leaves in
           let second : from.line ≡ z + 4 + h.at = ap (λ (x : Line). x.line) h.leaves in
           elim (leaves_joint (f + k.at) z from line k.joint) [
             | inl a ↦ (let x = a.1 in omega arith)
-            | inr a
-                ↦ (let x = a.0 in omega arith)
+            | inr a ↦ (let x = a.0 in omega arith)
           ]
 
       no_to : (from to line : Line) → IsBundled 0 b f 0 (z + 3) from to ⊎ IsBundled f (z + 4) 0 b (z + 3) from to
@@ -201,15 +190,13 @@ module _ (b f n z : ℕ) (some : 0 < f) (cells : 0 < n) where
           let low = h.low in
           elim (ends_joint (f + k.at) z line to k.joint) [
             | inl a ↦ (let x = a.0 in omega arith)
-            | inr a
-                ↦ (let x = a.1 in omega arith)
+            | inr a ↦ (let x = a.1 in omega arith)
           ]
       no_to from to line (inr h) k =
           let first : to.element ≡ 0 = ap (λ (x : Line). x.element) h.ends in
           elim (ends_joint (f + k.at) z line to k.joint) [
             | inl a ↦ (let x = a.0 in omega arith)
-            | inr a
-                ↦ (let x = a.0 in omega arith)
+            | inr a ↦ (let x = a.0 in omega arith)
           ]
 
   leaves_tape : (from to : Line) → IsTaped b f n z from to → IsOfTape b f n z from
@@ -297,8 +284,7 @@ reply_at z n low = elim (cases_lt n z) [
       kind = tt;
       valid = tt;
       number = omega arith;
-      offset = omega
-          arith;
+      offset = omega arith;
     }
     by_rest (suc (suc zero)) e few = record {
       line = DoneLeft;
@@ -436,8 +422,7 @@ module _ (m : Quadruples) (l : Limits) (t : ℕ) (tape : IsTape t) where
         at = line_number z c;
         low = low.0;
         leaves = leaves ∙ ap (line_at 0) at;
-        ends = ends
-            ∙ ap (line_at f) zero_at;
+        ends = ends ∙ ap (line_at f) zero_at;
       }))
 
   reply_taped : (c : CellLine) (from to : Line) → IsReply c → IsLineOf z c → from ≡ line_at f (line_number z c)
@@ -457,8 +442,7 @@ module _ (m : Quadruples) (l : Limits) (t : ℕ) (tape : IsTape t) where
         joint = inl (record {
           at = line_number z c;
           low = right_low z c kind valid;
-          leaves = leaves
-              ∙ ap (line_at (f + p)) zero_at;
+          leaves = leaves ∙ ap (line_at (f + p)) zero_at;
           ends = ends ∙ (λ i. line_at (next i) (zero_at i));
         });
       })
@@ -475,8 +459,7 @@ module _ (m : Quadruples) (l : Limits) (t : ℕ) (tape : IsTape t) where
           at = past.rest;
           low = past.few;
           leaves = leaves ∙ (λ i. line_at (next i) (past.is i));
-          ends = ends
-              ∙ ap (line_at (f + p)) past.is;
+          ends = ends ∙ ap (line_at (f + p)) past.is;
         });
       })
 

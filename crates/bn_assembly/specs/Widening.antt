@@ -34,16 +34,14 @@ widened w (suc (suc zero)) Right = record {
   left = w.left;
   right = w.right;
   steps = w.steps + w.steps;
-  output =
-      w.output;
+  output = w.output;
 }
 widened w (suc (suc (suc zero))) Left = w
 widened w (suc (suc (suc zero))) Right = record {
   left = w.left;
   right = w.right;
   steps = w.steps;
-  output =
-      w.output + w.output;
+  output = w.output + w.output;
 }
 widened w (suc (suc (suc (suc t)))) side = w
 

@@ -77,8 +77,6 @@ pub fn assemble_words(
 {
     let control = control(alloc, machine)?;
     let machine = machine.machine();
-    // (for the prover: the contract of this call tells what the type keeps.)
-    let _ = machine.quads();
     let count = count_elements(machine, windows, control.rsm().states());
     if count > MOST_ELEMENTS {
         return Err(AssembleRefusal::Elements { count });

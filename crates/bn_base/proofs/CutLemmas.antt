@@ -102,8 +102,7 @@ line_looked bytes front left line behind looked begins in_line no_mark =
 pub mark_looked : (bytes front left script : List ℕ) → IsLooked bytes front left → left ≡ 37 ∷ 10 ∷ script
     → IsCut bytes front script
 mark_looked bytes front left script looked begins = record {
-  cut = looked.split
-      ∙ ap (λ l. front ++ l) begins;
+  cut = looked.split ∙ ap (λ l. front ++ l) begins;
   begins = looked.begins;
   least = looked.first;
 }

@@ -26,16 +26,14 @@ line_or_none (b ∷ bytes) = by_byte (cases_eq b 10) (line_or_none bytes)
     by_byte (inl ends) rest = inl (record {
       line = [];
       behind = bytes;
-      begins = λ i. ends i
-          ∷ bytes;
+      begins = λ i. ends i ∷ bytes;
       in_line = λ i d inside. absurd (omega (arith, inside));
     })
     by_byte (inr apart) (inl h) =
         inl (record {
           line = b ∷ h.line;
           behind = h.behind;
-          begins = λ i. b
-              ∷ h.begins i;
+          begins = λ i. b ∷ h.begins i;
           in_line = with_byte h.line apart h.in_line;
         })
     by_byte (inr apart) (inr none) = inr (with_byte bytes apart none)

@@ -139,8 +139,7 @@ number_of-leading_zero digits =
     (nat_lt greatest (digits_value 10 digits)) (digits_value 10 digits) in (
       λ e. leads digits (t.0 e).1,
       λ h. t.1 (
-        is_some digits (λ e. let l : length digits
-            ≡ 0 = ap length e in absurd (let m = h.0 in omega arith)),
+        is_some digits (λ e. let l : length digits ≡ 0 = ap length e in absurd (let m = h.0 in omega arith)),
         leads_test digits h,
       ),
     )

@@ -86,8 +86,7 @@ module _ (p : Program) (t : Translation) (h : IsTranslation p t) where
       state = ends_named i;
       one = word_tape word;
       two = blank_tape;
-      three = word_tape
-          y;
+      three = word_tape y;
     }
 
     -- a configuration that is named as the end is the end
@@ -136,8 +135,7 @@ module _ (p : Program) (t : Translation) (h : IsTranslation p t) where
             found.1,
             found.2,
             found.3,
-            same_ending word found.1 c
-                (subst (IsIn (states_in t.machine.rules)) (sym final) ends_inside) found.4,
+            same_ending word found.1 c (subst (IsIn (states_in t.machine.rules)) (sym final) ends_inside) found.4,
           )
 
       -- ---- within limits
@@ -196,8 +194,7 @@ module _ (p : Program) (t : Translation) (h : IsTranslation p t) where
             n,
             found.0,
             found.1,
-            subst (λ (y : Configuration Name). IsAfter i n y.state y.two.head y.three.head) found.2
-                after,
+            subst (λ (y : Configuration Name). IsAfter i n y.state y.two.head y.three.head) found.2 after,
           )
 
       ends_back : (l : Limits) (i : ℕ) (o : Outcome) → MachineEndsAs t word l i o → EndsAs p word l i o

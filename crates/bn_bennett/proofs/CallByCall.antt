@@ -7,14 +7,13 @@ use Rattle.bn_machine.specs.Window.{IsBetween, Room, Windowed, with_tape, within
 use Rattle.std.specs.Prelude.{pos}
 use Rattle.bn_machine.specs.Outcome as outcome
 use Rattle.bn_machine.specs.Outcome.{Limits, Outcome}
-use Rattle.bn_quad.specs.Quadruples.{AreAllowed, Configuration, QuadruplesRunTo, Quadruples, Rooms, final_state_of}
-use Rattle.bn_quad.specs.Quadruples.{initial_of}
+use Rattle.bn_quad.specs.Quadruples.{AreAllowed, Configuration, QuadruplesRunTo, Quadruples, final_state_of, initial_of}
 use Rattle.bn_quad.specs.Overlap.{IsDeterministic}
 use Rattle.bn_quad.specs.Calls.{AreSameWindows, configuration, rooms_of}
 use Rattle.bn_quad.specs.declared.tapes.Tapes.{Tapes}
 use Rattle.bn_bennett_laws.proofs.NumberLemmas.{ends_leaving, ends_stuck, leaving_ends, run_of_goes, stuck_ends}
 use Rattle.bn_bennett_laws.specs.Stages.{rooms_of as rooms_in}
-use Rattle.bn_bennett_laws.specs.Steps.{EndsAt, Exit, Finished, Leaving, Stopped, finishes, leaves, stops}
+use Rattle.bn_bennett_laws.specs.Steps.{EndsAt, Exit, Finished, Leaving, Stopped, finishes}
 use Rattle.bn_bennett_laws.proofs.StageStepLemmas.{run_allowed}
 use Rattle.bn_bennett.specs.Translation.{Translation}
 use Rattle.bn_bennett.specs.Runs.{CallsEndAs, Comes, MachineEndsAs, Moves, Stand, beginning_of, ending_of, new_tapes}
@@ -34,8 +33,7 @@ rooms_same w v same =
     λ i. record {
       one = one w.one v.one same.one i;
       two = one w.two v.two same.two i;
-      three = one w.three v.three
-          same.three i;
+      three = one w.three v.three same.three i;
     }
 
 same_on : (w v x : Windowed) → v ≡ with_tape w v.tape → x ≡ with_tape v x.tape → x ≡ with_tape w x.tape
@@ -44,8 +42,7 @@ same_on w v x e f = f ∙ ap (λ (z : Windowed). with_tape z x.tape) e
 pub windows_on : (w v x : Tapes) → AreSameWindows w v → AreSameWindows v x → AreSameWindows w x
 windows_on w v x e f = record {
   one = same_on w.one v.one x.one e.one f.one;
-  two = same_on w.two v.two x.two e.two
-      f.two;
+  two = same_on w.two v.two x.two e.two f.two;
   three = same_on w.three v.three x.three e.three f.three;
 }
 
@@ -57,8 +54,7 @@ module _ (q : Quadruples) where
       × AreSameWindows a.tapes b.tapes
   run_of_moves zero a b run = (
     ap (λ (s : Stand). configuration s.state s.tapes) run,
-    subst
-        (λ (s : Stand). AreSameWindows a.tapes s.tapes) run (record { one = refl; two = refl; three = refl }),
+    subst (λ (s : Stand). AreSameWindows a.tapes s.tapes) run (record { one = refl; two = refl; three = refl }),
   )
   run_of_moves (suc n) a b run =
       let m = run.0 in
@@ -80,12 +76,6 @@ module _ (q : Quadruples) where
   moves_of_run (suc n) a d run =
       let m = stand run.0.state (put a.tapes run.0) in
       (m, (run.1.0, (run.1.1, record { one = refl; two = refl; three = refl })), moves_of_run n m d run.2)
-
-  ends_final : (rooms : Rooms) (c : Configuration ℕ) (e : Exit) → e ≡ Finished
-      → EndsAt rooms q.rules (final_state_of q.rules) c e → c.state ≡ final_state_of q.rules
-  ends_final rooms c e is (finishes final why) = final
-  ends_final rooms c e is (stops going none why) = absurd (cc)
-  ends_final rooms c e is (leaves tape side d going follows out why) = absurd (cc)
 
 -- ---- the calls end as the run does
 
@@ -153,8 +143,7 @@ module _ (t : Translation) (word : List ℕ) (apart : IsDeterministic t.machine.
   calls_back i (outcome.Halted y) (all, a) = (all, comes _ _ Finished a.moved (finishes a.answers.0 refl))
   calls_back i (outcome.Stuck state symbol) (b, a, at, symbols, none) = (
     configuration b.state b.tapes,
-    comes _ b Stopped a.moved
-        (stuck_ends (rooms_of b.tapes) t.machine (configuration b.state b.tapes) a.answers.0),
+    comes _ b Stopped a.moved (stuck_ends (rooms_of b.tapes) t.machine (configuration b.state b.tapes) a.answers.0),
     at,
     symbols,
     none,
@@ -162,8 +151,7 @@ module _ (t : Translation) (word : List ℕ) (apart : IsDeterministic t.machine.
   calls_back i (outcome.Outside tape side) (n, b, a, after) = (
     n,
     configuration b.state b.tapes,
-    comes n b (Leaving tape side) a.moved
-        (leaving_ends t.machine b.state b.tapes tape side a.answers.0),
+    comes n b (Leaving tape side) a.moved (leaving_ends t.machine b.state b.tapes tape side a.answers.0),
     after,
   )
 

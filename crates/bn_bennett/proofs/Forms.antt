@@ -1,20 +1,18 @@
 -- The printed names are in their forms.
 use Rattle.std.proofs.Common.{◌≡◌, ◌≤◌, ◌<◌, ◌+◌, ◌∷◌, ◌++◌, ◌∙◌, ◌&&◌, ℕ, suc, zero, Bool, true, false, List, []}
-use Rattle.std.proofs.Common.{length, Some, slice_get, refl, sym, ap, subst, arith, map, length-append, decimal}
+use Rattle.std.proofs.Common.{length, Some, slice_get, refl, sym, ap, arith, map, length-append, decimal}
 use Rattle.std.specs.Prelude.{nat_le}
 use Rattle.std.specs.List.{list_all, range_with_len}
 use Rattle.std.proofs.lemmas.Bool.Decides.{nat_tests}
 use Rattle.std.proofs.lemmas.Fmt.{decimal_nonempty, length-decimal-le}
 use Rattle.std.proofs.lemmas.List.{length-map}
 use Rattle.std.proofs.lemmas.List.Folds.{list_all-append}
-use Rattle.std.proofs.lemmas.Option.{slice_get-get_or}
 use Rattle.bn_base.specs.Number.{AreDigits}
 use Rattle.bn_csv.specs.Forms.{is_name_byte, is_state_name, is_symbol, is_symbol_byte}
-use Rattle.bn_csv.proofs.FormsLemmas.{all-at}
 use Rattle.bn_csv.proofs.NumberingLemmas.{both_true}
 use Rattle.bn_machine.specs.Machine.{IsMachine}
 use Rattle.bn_lists.specs.Lists.{nth}
-use Rattle.bn_qtable.specs.Named.{AreNamed, HasNames}
+use Rattle.bn_qtable.specs.Named.{HasNames}
 use Rattle.bn_bennett_laws.specs.Laws.{ListHasNames}
 use Rattle.bn_bennett_laws.specs.declared.name.Name.{Name}
 use Rattle.bn_bennett_laws.specs.declared.name.Name.TheVariants.{Compute, ComputeWithin, GoRight, CopyLetter, GoLeft}
@@ -24,6 +22,7 @@ use Rattle.bn_bennett.specs.Printed.{mark, translation_names, number_names, one_
 use Rattle.bn_bennett.specs.Translation.{IsTranslation, Translation}
 use Rattle.bn_bennett.proofs.Printable.{name_bound}
 use Rattle.bn_bennett.proofs.Texts.{decimal_digits, length-number_names}
+use Rattle.bn_qtable.proofs.RowsLemmas.{all_named as named_all}
 
 -- ---- digits
 
@@ -75,8 +74,7 @@ state_form name low =
     rw (
       letter_byte name,
       list_all-append is_name_byte (decimal n) (mark p),
-      name_digits (decimal n)
-          (decimal_digits n (omega arith)),
+      name_digits (decimal n) (decimal_digits n (omega arith)),
       (name_mark p).0,
     ) refl
     in
@@ -114,19 +112,6 @@ pub numbers_form : (count : ℕ) → count ≤ 4000 → list_all is_symbol (numb
 numbers_form count h = range_form 1 count (omega arith)
 
 -- ---- so each has its name
-
-named_all : (form : List ℕ → Bool) (names : List (List ℕ)) (count : ℕ) → count ≡ length names
-    → list_all form names ≡ true → AreNamed form names count
-named_all form names count e all =
-    let P : ℕ → Type 0 = AreNamed form names in
-    subst P (sym e) (record {
-      each = λ n h. (
-        _,
-        slice_get-get_or names n [] h,
-        all-at form names n _ all
-            (slice_get-get_or names n [] h),
-      );
-    })
 
 some_once : {m n : ℕ} → Some m ≡ Some n → m ≡ n
 some_once e = cc

@@ -25,18 +25,15 @@ pub translations_are_uniform : TranslationsAreUniform
 translations_are_uniform = λ p t standard h.
     let all = numbers_pass_tests p standard (name_of t) t.machine.rules h.rules in (
       record { deterministic = all.0; reversible = all.1; uniform = all.2 },
-      begins_named p t h standard
-          numbers_pass_tests,
+      begins_named p t h standard numbers_pass_tests,
       ends_named p t h standard numbers_pass_tests,
       names_apart p t h,
     )
 
 pub translations_halt_alike : TranslationsHaltAlike
 translations_halt_alike = λ p t word standard h letters. (
-  halts_forth p t h standard numbers_pass_tests numbers_run_alike word bennetts_theorem
-      letters,
-  halts_back p t h standard numbers_pass_tests numbers_run_alike word bennetts_theorem
-      letters,
+  halts_forth p t h standard numbers_pass_tests numbers_run_alike word bennetts_theorem letters,
+  halts_back p t h standard numbers_pass_tests numbers_run_alike word bennetts_theorem letters,
 )
 
 pub translations_end_alike : TranslationsEndAlike

@@ -120,6 +120,5 @@ pub own_counts : (m u : Quadruples) (states rules : ℕ) → u ≡ m → m.state
     → (u.states ≡ states) × (length u.rules ≡ rules)
 own_counts m u states rules e a b = (
   ap (λ (q : Quadruples). q.states) e ∙ a,
-  ap (λ (q : Quadruples). length q.rules) e
-      ∙ b,
+  ap (λ (q : Quadruples). length q.rules) e ∙ b,
 )

@@ -58,6 +58,5 @@ translations_are_one p t u h k =
     λ i. record {
       names = names i;
       final_state = final i;
-      machine = record
-          { rules = rules i; states = states i; symbols = symbols i };
+      machine = record { rules = rules i; states = states i; symbols = symbols i };
     }

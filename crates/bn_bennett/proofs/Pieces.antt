@@ -74,9 +74,6 @@ length-two pair two (x ∷ xs) =
 
 module _ (pair : ℕ × Quint → List (Rule Name)) (two : (e : ℕ × Quint) → length (pair e) ≡ 2) (a b : Draft)
     (qs : List Quint) (i : ℕ) where
-  pub start_forth : IsDraft a → Grows a (flat_map pair (take 0 (numbered_quints qs))) a
-  start_forth h = grows_none a h
-
   pub room_forth : i ≤ length qs → Grows a (flat_map pair (take i (numbered_quints qs))) b
       → length (drafted b) ≡ length (drafted a) + 2 * i
   room_forth h g =

@@ -1,13 +1,9 @@
 -- The names of a translation can be printed.
-use Rattle.std.proofs.Common.{◌≡◌, ◌<◌, ◌≤◌, ◌+◌, ℕ, length, Some, slice_get, subst, arith, inl, inr, suc}
-use Rattle.std.proofs.lemmas.Option.{get_or_from_slice_get, slice_get_within}
-use Rattle.std.proofs.Common.{zero}
-use Rattle.bn_machine.specs.Machine.{Program, IsInRange, IsMachine}
-use Rattle.bn_lists.specs.Lists.{nth}
-use Rattle.bn_machine.specs.declared.quint.Quint.{Quint}
+use Rattle.std.proofs.Common.{◌≡◌, ◌≤◌, ◌+◌, ℕ, length, Some, slice_get, arith}
+use Rattle.bn_machine.specs.Machine.{Program, IsMachine}
 use Rattle.bn_bennett_laws.specs.Laws.{ListCountsNames, ListHasNames}
 use Rattle.bn_bennett_laws.specs.List.{bennett}
-use Rattle.bn_bennett_laws.specs.Names.{IsNameOf, Mentions, NumbersStates}
+use Rattle.bn_bennett_laws.specs.Names.{IsNameOf, NumbersStates}
 use Rattle.bn_bennett_laws.specs.declared.name.Name.{Name}
 use Rattle.bn_bennett_laws.specs.declared.name.Name.TheVariants.{Compute, ComputeWithin, GoRight, CopyLetter, GoLeft}
 use Rattle.bn_bennett_laws.specs.declared.name.Name.TheVariants.{PassLetter, Retrace, RetraceWithin}
@@ -15,26 +11,7 @@ use Rattle.bn_table.specs.Rows.{FitsTable}
 use Rattle.bn_bennett.specs.Printed.{ArePrintable, print_of}
 use Rattle.bn_bennett.specs.Translation.{IsTranslation, Translation}
 use Rattle.bn_bennett.proofs.Counting.{each_mentioned, numbers_states}
-
--- a quintuple of a machine is in range
-quint_in_range : (p : Program) (m : ℕ) (q : Quint) → IsMachine p → nth p.quints m ≡ Some q
-    → IsInRange p.states p.symbols q
-quint_in_range p m q machine e = by_place m e
-  where
-    by_place : (m : ℕ) → nth p.quints m ≡ Some q → IsInRange p.states p.symbols q
-    by_place zero e = absurd (cc)
-    by_place (suc k) e =
-        let P : Quint → Type 0 = IsInRange p.states p.symbols in
-        subst P (get_or_from_slice_get p.quints k q q e) (machine.in_range k q (slice_get_within p.quints k q e))
-
-mentioned_below : (p : Program) (j : ℕ) → IsMachine p → Mentions p.quints j → j < p.states
-mentioned_below p j machine h =
-    let range = quint_in_range p h.number h.quint machine h.stands in
-    elim h.names [
-      | inl from ↦ subst (λ i. i < p.states) from range.state
-      | inr to
-          ↦ subst (λ i. i < p.states) to range.next
-    ]
+use Rattle.bn_bennett_laws.proofs.Counts.{mentioned_below}
 
 -- ---- the number with which a name is printed
 

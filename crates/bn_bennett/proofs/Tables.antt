@@ -138,8 +138,7 @@ module _ (text : ℕ → List ℕ) (most : ℕ) (once : (j k : ℕ) → j < most
       let one : firsts (xs ++ text 0 ∷ []) ≡ firsts xs = firsts-stay bytes_eq bytes_eq-Decides xs (text 0 ∷ [])
       (λ y h. elim (in_cases (text 0) y [] h) [
         | inl same ↦ subst (IsIn xs) same zero_in
-        | inr none
-            ↦ absurd (not_in_empty y none)
+        | inr none ↦ absurd (not_in_empty y none)
       ]) in
       let new : IsIn (xs ++ text 0 ∷ []) (text a) → ⊥ = λ h. old a xs (omega arith) e one h in
       let two : firsts ((xs ++ text 0 ∷ []) ++ text a ∷ []) ≡ map text (range_with_len 0 (a + 1)) =
@@ -326,8 +325,7 @@ only_first names k (q ∷ qs) y h = elim (in_cases (get_or names 0 []) y _ h) [
   | inl same ↦ same
   | inr more ↦ elim (in_cases (get_or names 0 []) y _ more) [
     | inl same ↦ same
-    | inr further
-        ↦ only_first names (k + 1) qs y further
+    | inr further ↦ only_first names (k + 1) qs y further
   ]
 ]
 

@@ -19,7 +19,7 @@ use Rattle.bn_base.proofs.NumberLemmas.{read_number-again}
 use Rattle.bn_table.specs.Rows.{IsTable, Named, blank}
 use Rattle.bn_table.proofs.Bounds.{few-letters}
 use Rattle.bn_table.proofs.RowsLemmas.{one_symbol}
-use Rattle.bn_quad.specs.Names.{Naming, naming_of, symbols_on, with_state, with_symbol}
+use Rattle.bn_quad.specs.Names.{Naming, symbols_on, with_state, with_symbol}
 use Rattle.bn_bennett_laws.specs.declared.name.Name.{Name}
 use Rattle.bn_bennett_laws.specs.declared.name.Name.TheVariants.{Compute, ComputeWithin, GoRight, CopyLetter, GoLeft}
 use Rattle.bn_bennett_laws.specs.declared.name.Name.TheVariants.{PassLetter, Retrace, RetraceWithin}
@@ -49,8 +49,7 @@ number_once m n a b low high e =
     let pair : ◌≡◌ {A = ℕ × ℕ} (m, 0 + length (decimal m)) (n, 0 + length (decimal n)) = cc in
     let same : m ≡ n = ap (λ (p : ℕ × ℕ). p.0) pair in (
       same,
-      mark_once a b (append_cancel_left (decimal n) (mark a) (mark b)
-          (ap (λ k. decimal k ++ mark a) (sym same) ∙ e)),
+      mark_once a b (append_cancel_left (decimal n) (mark a) (mark b) (ap (λ k. decimal k ++ mark a) (sym same) ∙ e)),
     )
 
 printed_once : (p q : Print) → p.number < 2 ^ 62 → q.number < 2 ^ 62 → printed p ≡ printed q
@@ -164,13 +163,6 @@ symbols-on_tape n zero names h = absurd (omega arith)
 symbols-on_tape n (suc zero) names h = refl
 symbols-on_tape n (suc (suc zero)) names h = refl
 symbols-on_tape n (suc (suc (suc tape))) names h = refl
-
--- a tape whose symbols have no names yet
-pub on_tape_none : (n : Naming) (tape : ℕ) → 1 ≤ tape → symbols_on n tape ≡ [] → n ≡ on_tape n tape []
-on_tape_none n zero h e = absurd (omega arith)
-on_tape_none n (suc zero) h e = λ i. naming_of n.states (e i) n.two n.three
-on_tape_none n (suc (suc zero)) h e = λ i. naming_of n.states n.one (e i) n.three
-on_tape_none n (suc (suc (suc tape))) h e = λ i. naming_of n.states n.one n.two (e i)
 
 -- ---- what each loop adds is new
 

@@ -7,9 +7,8 @@ use Rattle.std.proofs.lemmas.List.{length-map}
 use Rattle.std.proofs.lemmas.Option.{get_or_from_slice_get, slice_get_within}
 use Rattle.bn_csv.specs.Numbering.{firsts_by}
 use Rattle.bn_csv.proofs.NumberingLemmas.{any-at, any-firsts}
-use Rattle.bn_machine.specs.Machine.{Program, IsMachine, final_of}
+use Rattle.bn_machine.specs.Machine.{Program, final_of}
 use Rattle.bn_lists.specs.Lists.{nth, IsIn}
-use Rattle.bn_machine.specs.declared.quint.Shift.TheVariants.{Stay}
 use Rattle.bn_quad.specs.Quadruples.{Rule, Quadruples, IsRuleInRange}
 use Rattle.bn_bennett_laws.proofs.MembershipLemmas.{in_head, in_tail}
 use Rattle.bn_bennett_laws.specs.Laws.{ListHasLength, ListIsInRange}
@@ -22,6 +21,7 @@ use Rattle.bn_bennett_laws.specs.declared.name.Name.TheVariants.{GoRight}
 use Rattle.bn_bennett.proofs.NameLemmas.{is_same-Decides}
 use Rattle.bn_bennett.specs.Translation.{is_same}
 use Rattle.bn_bennett.specs.Laws.{TranslationsAreThere}
+use Rattle.bn_bennett.proofs.Machines.{some_symbols}
 
 -- the number of a name
 abbrev number_in : List Name → Name → ℕ
@@ -41,10 +41,6 @@ in_any y xs h = by_place h.place h.stands
     by_place : (n : ℕ) → nth xs n ≡ Some y → list_any (is_same y) xs ≡ true
     by_place zero e = absurd (cc)
     by_place (suc i) e = any-at is_same is_same-Decides y xs i e
-
-some_symbols : (p : Program) → IsMachine p → 0 < p.symbols
-some_symbols p h = let first = h.in_range 0 (record { state = 0; read = 0; write = 0; shift = Stay; next = 0 }) h.some
-    in omega (arith, first.read)
 
 module _ (order : List Name) where
   abbrev code : Name → ℕ
@@ -86,8 +82,7 @@ there ranges lengths p standard fits = (
     names = refl;
     rules = renamed_twice order (bennett p) (λ r i. (
       known r.from (from_in (bennett p) r i),
-      known r.to
-          (to_in (bennett p) r i),
+      known r.to (to_in (bennett p) r i),
     ));
     machine = record {
       some = rw count (omega arith);
@@ -119,7 +114,6 @@ there ranges lengths p standard fits = (
     in_range : All (IsRuleInRange (length order) (symbols_of p)) (rename (code order) (bennett p))
     in_range = ranged order p (bennett p) (λ r i. record {
       from = below r.from (from_in (bennett p) r i);
-      deeds = ranges
-          p standard.machine r i;
+      deeds = ranges p standard.machine r i;
       to = below r.to (to_in (bennett p) r i);
     })

@@ -23,8 +23,7 @@ use Rattle.bn_machine.specs.declared.quint.Side.TheVariants.{Right}
 use Rattle.bn_quad.specs.Quadruples.{Configuration}
 use Rattle.bn_bennett_laws.specs.List.{bennett, final_name, writes_ahead, shifts_ahead, goes_right}
 use Rattle.bn_bennett_laws.proofs.ListLemmas.{has_writes_ahead, has_shifts_ahead, has_goes_right}
-use Rattle.bn_bennett_laws.specs.Steps.{Steps, IsFirstOutside, HasNoFirstRead, Exit, Finished, Stopped, Leaving}
-use Rattle.bn_bennett_laws.specs.Steps.{HasExit}
+use Rattle.bn_bennett_laws.specs.Steps.{IsFirstOutside, Exit, Finished, Stopped, Leaving}
 use Rattle.bn_bennett_laws.specs.Steps as quads
 use Rattle.bn_bennett_laws.proofs.StageStepLemmas.{no_first_read, exits_once}
 use Rattle.bn_bennett_laws.specs.Stages.{IsStandardMachine, IsSpelledBy, history, computing, computing_within, copying}
@@ -72,8 +71,7 @@ module _ (left right : ℕ) where
       → AllowsUpTo (within left right) p n
   up_from p n inside each zero low = record {
     above = omega (arith, ints, inside.above);
-    below = omega
-        (arith, ints, inside.below);
+    below = omega (arith, ints, inside.below);
   }
   up_from p n inside each (suc j) low = let high = each (suc j) (omega arith) low in record
       { above = omega (arith, ints, inside.above); below = high }
@@ -229,8 +227,7 @@ module _ (p : Program) (word : List ℕ) (standard : IsStandardMachine p) (lette
         computing c ns blank_tape,
         record {
           run = made;
-          ends = quads.stops (λ same. cc)
-              (no_first_read (bennett p) (computing c ns blank_tape) reads) refl;
+          ends = quads.stops (λ same. cc) (no_first_read (bennett p) (computing c ns blank_tape) reads) refl;
         },
         refl,
         refl,

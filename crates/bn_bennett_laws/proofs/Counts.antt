@@ -94,8 +94,7 @@ ends_well q qs f z =
       (writes_ahead 1 q, refl, refl),
       (
         writes_back 1 q,
-        subst (λ rs. nth rs (length rs) ≡ Some (writes_back 1 q)) (sym same)
-            (nth_last front (writes_back 1 q)),
+        subst (λ rs. nth rs (length rs) ≡ Some (writes_back 1 q)) (sym same) (nth_last front (writes_back 1 q)),
         refl,
       ),
     )
@@ -288,8 +287,7 @@ module _ (f n : ℕ) where
       (λ i j other e. other (cc)) in
       let first : IsFront 1 state_part = record {
         apart = states;
-        below = each_pair (λ name. part name < 1) Compute
-            Retrace 0 f (λ i low high. (omega arith, omega arith));
+        below = each_pair (λ name. part name < 1) Compute Retrace 0 f (λ i low high. (omega arith, omega arith));
       } in
       let second = longer_front 1 state_part quint_part first quints
       (each_pair (λ name. part name ≡ 1) ComputeWithin RetraceWithin 1 n (λ i low high. (refl, refl))) in
@@ -359,13 +357,12 @@ module _ (f n : ℕ) where
       ]
 
 -- a state that is mentioned is one of the machine's
-mentioned_below : (p : Program) (j : ℕ) → IsMachine p → Mentions p.quints j → j < p.states
+pub mentioned_below : (p : Program) (j : ℕ) → IsMachine p → Mentions p.quints j → j < p.states
 mentioned_below p j machine h =
     let range = quint_in_range p h.number h.quint machine h.stands in
     elim h.names [
       | inl from ↦ subst (λ i. i < p.states) from range.state
-      | inr to
-          ↦ subst (λ i. i < p.states) to range.next
+      | inr to ↦ subst (λ i. i < p.states) to range.next
     ]
 
 named_counted : (p : Program) → IsMachine p → (name : Name) → IsNameOf p name

@@ -78,8 +78,7 @@ start_not_final p standard e =
     standard.standard.lone_final.none 1 (record {
       quint = begins.quint;
       stands = begins.stands;
-      names = inl
-          (first_state p.quints begins.quint begins.stands ∙ e);
+      names = inl (first_state p.quints begins.quint begins.stands ∙ e);
     })
   where
     first_state : (qs : List Quint) (q : Quint) → nth qs 1 ≡ Some q → q.state ≡ start_of qs
@@ -98,8 +97,7 @@ last_number p room n c d standard by final =
     ]
 
 stays_blank : (t u : Tape) (w : ℕ) (s : Shift) → u ≡ shift (write t w) s → s ≡ Stay → w ≡ 0 → scanned u ≡ 0
-stays_blank t u w s e stays blank =
-    ap scanned (e ∙ ap (shift (write t w)) stays) ∙ scanned-write t w ∙ blank
+stays_blank t u w s e stays blank = ap scanned (e ∙ ap (shift (write t w)) stays) ∙ scanned-write t w ∙ blank
 
 pub halted_is_ready : HaltedIsReady
 halted_is_ready p room word [] y c standard each run final out =

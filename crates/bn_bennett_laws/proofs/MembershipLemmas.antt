@@ -37,8 +37,7 @@ module _ {X : Type 0} where
   pub each_of_one : (P : X → Type 0) (a : X) → P a → (x : X) → IsIn (a ∷ []) x → P x
   each_of_one P a one x h = elim (in_cases a x [] h) [
     | inl same ↦ subst P same one
-    | inr none
-        ↦ absurd (not_in_empty x none)
+    | inr none ↦ absurd (not_in_empty x none)
   ]
 
   pub each_of_two : (P : X → Type 0) (a b : X) → P a → P b → (x : X) → IsIn (a ∷ b ∷ []) x → P x
@@ -48,10 +47,8 @@ module _ {X : Type 0} where
   pub in_left : (xs ys : List X) (x : X) → IsIn xs x → IsIn (xs ++ ys) x
   in_left [] ys x h = absurd (not_in_empty x h)
   in_left (y ∷ xs) ys x h = elim (in_cases y x xs h) [
-    | inl same
-        ↦ subst (IsIn (y ∷ (xs ++ ys))) same (in_head y (xs ++ ys))
-    | inr further
-        ↦ in_tail y x (xs ++ ys) (in_left xs ys x further)
+    | inl same ↦ subst (IsIn (y ∷ (xs ++ ys))) same (in_head y (xs ++ ys))
+    | inr further ↦ in_tail y x (xs ++ ys) (in_left xs ys x further)
   ]
 
   pub in_right : (xs ys : List X) (x : X) → IsIn ys x → IsIn (xs ++ ys) x
@@ -66,8 +63,7 @@ module _ {X : Type 0} where
         | inl same ↦ inl (subst (IsIn (y ∷ xs)) same (in_head y xs))
         | inr further ↦ elim (in_append xs ys x further) [
           | inl left ↦ inl (in_tail y x xs left)
-          | inr right
-              ↦ inr right
+          | inr right ↦ inr right
         ]
       ]
 
@@ -96,10 +92,8 @@ module _ {X Y : Type 0} where
   pub in_map : (f : X → Y) (xs : List X) (x : X) → IsIn xs x → IsIn (map f xs) (f x)
   in_map f [] x h = absurd (not_in_empty x h)
   in_map f (y ∷ xs) x h = elim (in_cases y x xs h) [
-    | inl same
-        ↦ subst (λ z. IsIn (f y ∷ map f xs) (f z)) same (in_head (f y) (map f xs))
-    | inr further
-        ↦ in_tail (f y) (f x) (map f xs) (in_map f xs x further)
+    | inl same ↦ subst (λ z. IsIn (f y ∷ map f xs) (f z)) same (in_head (f y) (map f xs))
+    | inr further ↦ in_tail (f y) (f x) (map f xs) (in_map f xs x further)
   ]
 
   pub from_map : (f : X → Y) (xs : List X) (y : Y) → IsIn (map f xs) y → (x : X) × IsIn xs x × (f x ≡ y)

@@ -20,8 +20,7 @@ module _ (rooms : Rooms) (p : Quadruples) where
       → Steps rooms p.rules (final_state_of p.rules) c d
   goes_steps c d g = record {
     going = g.1.going;
-    follows = record
-        { number = g.0; leads = goes_leads rooms p g.0 c d g.1 };
+    follows = record { number = g.0; leads = goes_leads rooms p g.0 c d g.1 };
     stays = g.1.stays;
   }
 
@@ -29,8 +28,7 @@ module _ (rooms : Rooms) (p : Quadruples) where
       → QuadruplesRunTo rooms p c d
   steps_goes apart c d s = (
     s.follows.number,
-    leads_goes rooms p s.follows.number c d apart s.going s.stays
-        s.follows.leads,
+    leads_goes rooms p s.follows.number c d apart s.going s.stays s.follows.leads,
   )
 
   pub run_of_goes : (n : ℕ) (c d : Configuration ℕ) → Reaches (QuadruplesRunTo rooms p) n c d
@@ -94,8 +92,7 @@ leaving_ends p state w tape side l =
       leads = record {
         rule = l.rule;
         stands = l.first.stands;
-        leads = record
-            { applies = l.first.holds; gives = refl };
+        leads = record { applies = l.first.holds; gives = refl };
       };
     })
     (first_outside l.rule state w side tape l.leaves) refl

@@ -15,7 +15,6 @@ use Rattle.bn_quad.specs.declared.clash.Clash.TheVariants.{Domain, Range, Reads,
 use Rattle.bn_bennett_laws.proofs.MembershipLemmas.{in_head, in_tail, in_map, from_map, in_flat_map}
 use Rattle.bn_bennett_laws.specs.Names.{states_in, IsUniformFrom}
 use Rattle.bn_bennett_laws.specs.Steps.{Steps, IsFirstOutside, HasNoFirstRead, Exit, EndsAt, finishes, stops, leaves}
-use Rattle.bn_bennett_laws.specs.Steps.{HasExit}
 use Rattle.bn_bennett_laws.specs.Renamed.{renamed, rename, in_state, KeepsApart, name_at}
 
 -- both states of a rule are states of the rules
@@ -56,8 +55,7 @@ module _ {P Q : Type 0} (f : P → Q) (rs : List (Rule P)) where
   pub clash_before : KeepsApart f rs → (clash : Clash) (r s : Rule P) → IsIn rs r → IsIn rs s
       → QuadruplesClash clash (renamed f r) (renamed f s) → QuadruplesClash clash r s
   clash_before keeps Domain r s a b h = record {
-    from = keeps.apart r.from s.from (from_in rs r a) (from_in rs s b)
-        h.from;
+    from = keeps.apart r.from s.from (from_in rs r a) (from_in rs s b) h.from;
     tapes = h.tapes;
   }
   clash_before keeps Range r s a b h = record {
@@ -65,8 +63,7 @@ module _ {P Q : Type 0} (f : P → Q) (rs : List (Rule P)) where
     tapes = h.tapes;
   }
   clash_before keeps Reads r s a b h = record {
-    from = keeps.apart r.from s.from (from_in rs r a) (from_in rs s b)
-        h.from;
+    from = keeps.apart r.from s.from (from_in rs r a) (from_in rs s b) h.from;
     apart = h.apart;
   }
   clash_before keeps Writes r s a b h = record {
@@ -179,8 +176,7 @@ module _ {P Q : Type 0} (f : P → Q) (rs : List (Rule P)) where
           leads = record {
             rule = r;
             stands = found.1;
-            leads = record
-                { applies = applies_before keeps c r here stands same.applies; gives = refl };
+            leads = record { applies = applies_before keeps c r here stands same.applies; gives = refl };
           };
         },
         same.gives,
@@ -218,8 +214,7 @@ module _ {P Q : Type 0} (f : P → Q) (rs : List (Rule P)) where
           record {
             going = λ is. h.going (ap f is);
             follows = found.1;
-            stays = record
-                { one = stays.one; two = stays.two; three = stays.three };
+            stays = record { one = stays.one; two = stays.two; three = stays.three };
           },
           found.2,
           found.3,
@@ -261,8 +256,7 @@ module _ {P Q : Type 0} (f : P → Q) (rs : List (Rule P)) where
     -- what no rule reads on tape 1 after renaming, none read before
     pub first_read_before : (c : Configuration P) → HasNoFirstRead (rename f rs) (in_state f c) → HasNoFirstRead rs c
     first_read_before c h = record {
-      none = λ n r e from reads. h.none n (renamed f r) (nth_renamed n r e) (ap f from)
-          reads;
+      none = λ n r e from reads. h.none n (renamed f r) (nth_renamed n r e) (ap f from) reads;
     }
 
     outside_renamed : (d : Configuration P) (tape : ℕ) (side : Side) → IsFirstOutside rooms d tape side
@@ -298,27 +292,6 @@ module _ {P Q : Type 0} (f : P → Q) (rs : List (Rule P)) where
         let found = follows_before keeps c d here follows in
         leaves tape side found.0 (λ is. going (ap f is)) found.1
         (outside_before found.0 tape side (subst (λ x. IsFirstOutside rooms x tape side) found.2 out)) why
-
-    -- a run and its end
-    pub exit_renamed : (n : ℕ) (c d : Configuration P) (e : Exit) → IsIn (states_in rs) c.state
-        → HasExit rooms rs final n c d e → HasExit rooms (rename f rs) (f final) n (in_state f c) (in_state f d) e
-    exit_renamed n c d e here h =
-        let run = run_renamed n c d h.run in
-        record { run = run; ends = ends_renamed d e (reached n c d here h.run) h.ends }
-      where
-        reached : (n : ℕ) (c d : Configuration P) → IsIn (states_in rs) c.state → Reaches (Steps rooms rs final) n c d
-            → IsIn (states_in rs) d.state
-        reached zero c d here run = subst (λ (x : Configuration P). IsIn (states_in rs) x.state) run here
-        reached (suc n) c d here run = reached n run.0 d (reached_in c run.0 run.1.follows) run.2
-
-    pub exit_before : (n : ℕ) (c : Configuration P) (d : Configuration Q) (e : Exit) → IsIn (states_in rs) c.state
-        → HasExit rooms (rename f rs) (f final) n (in_state f c) d e
-        → (b : Configuration P) × HasExit rooms rs final n c b e × (d ≡ in_state f b)
-    exit_before n c d e here h =
-        let found = run_before n c d here h.run in
-        let ends : EndsAt rooms (rename f rs) (f final) (in_state f found.0) e =
-        subst (λ x. EndsAt rooms (rename f rs) (f final) x e) found.2 h.ends in
-        (found.0, record { run = found.1; ends = ends_before found.0 e found.3 ends }, found.2)
 
 -- in a list without repeats they are kept apart
 pub names_kept_apart : {Q : Type 0} (other : Q) (order : List Q) (rs : List (Rule ℕ))

@@ -23,8 +23,7 @@ module _ {X : Type 0} where
         | inl left ↦ in_left before after y left
         | inr right ↦ elim (in_cases x y after right) [
           | inl same ↦ absurd (other same)
-          | inr further
-              ↦ in_right before after y further
+          | inr further ↦ in_right before after y further
         ]
       ]
 

@@ -149,8 +149,7 @@ module _ (p : Program) (rooms : Rooms) where
         → Reaches (StepsOf p rooms) (2 * k + 1) (computing c ns blank_tape) (copying GoRight c ns (take k y) k)
     copy_right zero low one three = (
       copying GoRight c ns [] 0,
-      begin_step (one 0 (omega arith))
-          (three 0 (omega arith)),
+      begin_step (one 0 (omega arith)) (three 0 (omega arith)),
       refl,
     )
     copy_right (suc k) low one three =
@@ -168,8 +167,7 @@ module _ (p : Program) (rooms : Rooms) where
     copy_left zero low one three =
         let same : c.tape.head +ℤ pos 0 ≡ c.tape.head = omega (arith, ints) in (
           retracing c ns (word_tape y),
-          end_step (subst (Allows rooms.one) same (one 0 (omega arith)))
-              (three 0 (omega arith)),
+          end_step (subst (Allows rooms.one) same (one 0 (omega arith))) (three 0 (omega arith)),
           refl,
         )
     copy_left (suc k) low one three =

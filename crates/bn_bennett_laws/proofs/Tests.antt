@@ -27,8 +27,7 @@ pub record Differ (d e : ℕ × Quint) : Type 0 where
 differ_turned : (d e : ℕ × Quint) → Differ d e → Differ e d
 differ_turned d e h = record {
   number = λ same. h.number (sym same);
-  reading = λ states reads. h.reading (sym states)
-      (sym reads);
+  reading = λ states reads. h.reading (sym states) (sym reads);
 }
 
 -- of unambiguous quintuples each two differ

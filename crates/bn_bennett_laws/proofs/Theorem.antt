@@ -6,7 +6,7 @@ use Rattle.bn_lists.specs.Runs.{Reaches}
 use Rattle.bn_lists.proofs.RunsLemmas.{runs_join}
 use Rattle.bn_machine.specs.Tape.{Tape, blank_tape}
 use Rattle.bn_machine.specs.Window.{anywhere, Allows}
-use Rattle.bn_machine.specs.Machine.{Program, Moment, GoesBy, MachineRunsTo, IsFinal, start}
+use Rattle.bn_machine.specs.Machine.{Program, Moment, IsFinal, start}
 use Rattle.bn_machine.specs.Machine as machine
 use Rattle.bn_machine.specs.Run.{After, Follows, IsOutput, Ending, EndsAt, halts, sticks, runs}
 use Rattle.bn_machine.proofs.MachineStepLemmas.{run_follows}

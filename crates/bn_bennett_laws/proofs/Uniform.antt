@@ -80,8 +80,7 @@ at_final j = elim (eqb_tells j j) [ inl same ↦ ap (λ b. cond b all outer) sam
 elsewhere : (j final : ℕ) → j ≢ final → cond (nat_eq j final) all outer ≡ outer
 elsewhere j final apart = elim (eqb_tells j final) [
   | inl same ↦ absurd (apart same.1)
-  | inr other
-      ↦ ap (λ b. cond b all outer) other.0
+  | inr other ↦ ap (λ b. cond b all outer) other.0
 ]
 
 module _ (p : Program) (standard : IsStandard p.quints) where

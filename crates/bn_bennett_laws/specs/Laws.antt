@@ -11,17 +11,15 @@ use Rattle.bn_machine.specs.Run.{After, Follows, IsOutput}
 use Rattle.bn_machine.specs.Outcome.{Limits, Outcome, HasOutcome, Outside}
 use Rattle.bn_standard.specs.Standard.{IsStandard}
 use Rattle.bn_quad.specs.Quadruples.{Rewrite, Move, Rule, Configuration, Quadruples, QuadruplesRunTo, Rooms, everywhere}
-use Rattle.bn_quad.specs.Quadruples.{deeds_of}
-use Rattle.bn_quad.specs.Quadruples.{AreDeedsInRange, initial_of, final_state_of}
+use Rattle.bn_quad.specs.Quadruples.{deeds_of, AreDeedsInRange, initial_of, final_state_of}
 use Rattle.bn_quad.specs.Overlap.{IsDeterministic, IsReversible, IsUniform}
 use Rattle.bn_bennett_laws.specs.List.{tape_rule, bennett, initial_name, final_name, symbols_of}
 use Rattle.bn_bennett_laws.specs.Steps.{Exit, EndsAt, Leaving}
 use Rattle.bn_bennett_laws.specs.Renamed.{rename, in_state, KeepsApart}
 use Rattle.bn_bennett_laws.specs.Names.{states_in, NumbersStates, IsUniformFrom, Mentions, IsNameOf}
 use Rattle.bn_bennett_laws.specs.Stages.{IsStandardMachine, IsSpelledBy, history, computing, computing_within}
-use Rattle.bn_bennett_laws.specs.Stages.{retracing}
-use Rattle.bn_bennett_laws.specs.Stages.{copying, beginning, ending, Stands, StepsOf, rooms_of, Comes, EndsAs}
-use Rattle.bn_bennett_laws.specs.Stages.{HasNoRoom}
+use Rattle.bn_bennett_laws.specs.Stages.{retracing, copying, beginning, ending, Stands, StepsOf, rooms_of, Comes}
+use Rattle.bn_bennett_laws.specs.Stages.{EndsAs, HasNoRoom}
 use Rattle.bn_bennett_laws.specs.declared.name.Name.{Name}
 use Rattle.bn_bennett_laws.specs.declared.name.Name.TheVariants.{Compute, ComputeWithin, GoRight, CopyLetter, GoLeft}
 use Rattle.bn_bennett_laws.specs.declared.name.Name.TheVariants.{PassLetter, Retrace, RetraceWithin}

@@ -12,7 +12,7 @@ use Rattle.bn_circuits.specs.Counting.{tally, one_if}
 use Rattle.bn_circuits.specs.declared.place.Place.{Place}
 use Rattle.bn_circuits.specs.declared.place.Place.TheVariants.{Enter, Left}
 use Rattle.bn_circuits.specs.declared.config.Config.{Config}
-use Rattle.bn_circuits.proofs.CountingLemmas.{tally-zero, tallies-add}
+use Rattle.bn_circuits.proofs.CountingLemmas.{tally-zero, tallies-add, one_low as at_most_one}
 use Rattle.bn_net.specs.Watching.{Hears}
 use Rattle.bn_net.specs.Walking.{HasWalked}
 use Rattle.bn_net.proofs.WalkLemmas.{hears-joins, walk_starts, walk_ends}
@@ -33,10 +33,6 @@ pub record HasTallied (test : Config → Bool) (k : Circuit) (c d : Config) (mad
   pub walked : HasWalked k c d made old new
   pub tallied : count ≡ tally test k made c
   pub few : count ≤ made
-
-at_most_one : (b : Bool) → one_if b ≤ 1
-at_most_one true = omega arith
-at_most_one false = omega arith
 
 module _ (test : Config → Bool) (k : Circuit) where
   -- the places of two runs, one after the other
@@ -69,8 +65,7 @@ module _ (test : Config → Bool) (k : Circuit) where
         walked = record {
           reaches = before.walked.reaches;
           good = before.walked.good;
-          heard = subst
-              (λ ts. Hears old ts new) (append-nil (places k made c)) heard;
+          heard = subst (λ ts. Hears old ts new) (append-nil (places k made c)) heard;
         };
         tallied = before.tallied;
         few = before.few;

@@ -9,7 +9,7 @@ use Rattle.std.proofs.lemmas.Bool.Decides.{nat_tests}
 use Rattle.std.proofs.lemmas.Nat.{same_from_place, div-add-mod'}
 use Rattle.bn_circuits.specs.declared.line.Line.{Line}
 use Rattle.bn_circuits.specs.declared.place.Place.{Place}
-use Rattle.bn_circuits.specs.declared.place.Place.TheVariants.{Enter, Left}
+use Rattle.bn_circuits.specs.declared.place.Place.TheVariants.{Left}
 use Rattle.bn_element.specs.Rotary.{west}
 use Rattle.bn_machine.specs.declared.quint.Side.{Side}
 use Rattle.bn_machine.specs.declared.quint.Side.TheVariants as side
@@ -26,10 +26,7 @@ use Rattle.bn_board_spec.proofs.PlaceLemmas.{output-within}
 use Rattle.bn_net.specs.declared.net.TheConstants.{MOST_ELEMENTS}
 use Rattle.bn_board.specs.Flattened.{IsLayoutKept}
 use Rattle.bn_board.proofs.LayoutLemmas.{control_within, cell_within}
-
--- numbers of a place
-pub left_parts : (e f l m : ℕ) → Left e l ≡ Left f m → (e ≡ f) × (l ≡ m)
-left_parts e f l m h = (cc, cc)
+use Rattle.bn_board_spec.proofs.ExitLemmas.{elements as left_parts}
 
 -- another line is at another place
 pub other_line : (one two : Line) (p : Place) → (one ≡ two → ⊥) → Left two.element two.line ≡ p
@@ -144,8 +141,7 @@ module _ (b : Layout) (kept : IsLayoutKept b) where
       (exit.Stuck a c)
   none_by e l refuted a c = (
     λ h. absurd (let g : ◌≡◌ {A = Option (ℕ × ℕ)} None (Some (a, c)) = h in cc),
-    λ named. absurd (refuted a c ((stuck_is e l a
-        c).0 named)),
+    λ named. absurd (refuted a c ((stuck_is e l a c).0 named)),
   )
 
   pub off_line : (e l : ℕ) → l ≢ west → (a c : ℕ) → (◌≡◌ {A = Option (ℕ × ℕ)} None (Some (a, c)))
@@ -285,41 +281,3 @@ module _ (b : Layout) where
       → Left end.element end.line ≡ end_place b
       → Left line.element line.line ≡ end_place b → ⊥
   off_end line end one one_is other is = other_line line end (end_place b) (other_lines line end one one_is other) is
-
-  -- it is none of a tape's that isn't
-  pub no_tape : (t : ℕ) (p : Place) (s : Side) → IsNamedExit b p (exit.Window t s) → (1 ≤ t) × (t ≤ 3)
-  no_tape t p s named = tape_by p _ named t s refl
-    where
-      tape_by : (p : Place) (x : Exit) → IsNamedExit b p x → (t : ℕ) (s : Side) → x ≡ exit.Window t s
-          → (1 ≤ t) × (t ≤ 3)
-      tape_by p x (inside m k is) t s named = absurd (let h : exit.Inside ≡ exit.Window t s = named in cc)
-      tape_by p x (ends is) t s named = absurd (let h : exit.End ≡ exit.Window t s = named in cc)
-      tape_by p x (stuck q a u c awaits low is) t s named = absurd
-          (let h : exit.Stuck a c ≡ exit.Window t s = named in cc)
-      tape_by p x (right u low high is) t s named = let tapes : u ≡ t =
-          (let h : exit.Window u side.Right ≡ exit.Window t s = named in cc) in (
-            omega
-                arith,
-            omega arith,
-          )
-      tape_by p x (left u low high is) t s named = let tapes : u ≡ t =
-          (let h : exit.Window u side.Left ≡ exit.Window t s = named in cc) in (
-            omega arith,
-            omega arith,
-          )
-
-  -- a line without a name
-  pub no_name : (e l : ℕ) → (Left e l ≡ end_place b → ⊥) → ((a c : ℕ) → IsNamedExit b (Left e l) (exit.Stuck a c) → ⊥)
-      → ((t : ℕ) (s : Side) → IsNamedExit b (Left e l) (exit.Window t s) → ⊥) → (x : Exit) → IsNamedExit b (Left e l) x
-      → ⊥
-  no_name e l no_end no_stuck no_side x named = by_name _ x named refl
-    where
-      by_name : (p : Place) (x : Exit) → IsNamedExit b p x → p ≡ Left e l → ⊥
-      by_name p x (inside m k is) at = absurd (let h : Enter m k ≡ Left e l = sym is ∙ at in cc)
-      by_name p x (ends is) at = no_end (sym at ∙ is)
-      by_name p x (stuck q a t c awaits low is) at = no_stuck a c
-          (subst (λ r. IsNamedExit b r (exit.Stuck a c)) at (stuck q a t c awaits low is))
-      by_name p x (right t low high is) at = no_side t side.Right
-          (subst (λ r. IsNamedExit b r (exit.Window t side.Right)) at (right t low high is))
-      by_name p x (left t low high is) at = no_side t side.Left
-          (subst (λ r. IsNamedExit b r (exit.Window t side.Left)) at (left t low high is))

@@ -79,8 +79,7 @@ module _ (m : Quadruples) (names : List ControlState) (v : Controlled) (is : IsC
     awaited_counted = is.awaited_counted;
     awaiting = λ q a t. (
       λ at. forth q a t ((is.awaiting q a t).0 at),
-      λ h. (is.awaiting q a t).1
-          (Reads a [], h.0, record { state = refl; entry = h.1 }),
+      λ h. (is.awaiting q a t).1 (Reads a [], h.0, record { state = refl; entry = h.1 }),
     );
   }
     where
@@ -179,8 +178,7 @@ pub layout-read : (a : Assembled) (kept : IsKept a) (v : Controlled) → slice_g
     → states ≡ v.machine.states → (firsts awaited : List (Option (ℕ × ℕ))) → firsts ≡ v.firsts → awaited ≡ v.awaited
     → IsLayoutOf a (record {
       limits = l;
-      symbols = one ∷ two ∷ three
-          ∷ [];
+      symbols = one ∷ two ∷ three ∷ [];
       states = states;
       firsts = firsts;
       awaited = awaited;

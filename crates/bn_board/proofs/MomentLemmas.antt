@@ -102,8 +102,7 @@ module _ (b : Layout) (kept : IsLayoutKept b) where
           tape = 1;
           low = omega arith;
           high = omega arith;
-          line = o
-              - before 0;
+          line = o - before 0;
           within = omega arith;
           number = omega arith;
         }
@@ -113,8 +112,7 @@ module _ (b : Layout) (kept : IsLayoutKept b) where
                 tape = 2;
                 low = omega arith;
                 high = omega arith;
-                line = o
-                    - before 1;
+                line = o - before 1;
                 within = omega arith;
                 number = omega arith;
               }
@@ -122,8 +120,7 @@ module _ (b : Layout) (kept : IsLayoutKept b) where
                 tape = 3;
                 low = omega arith;
                 high = omega arith;
-                line = o
-                    - before 2;
+                line = o - before 2;
                 within = omega arith;
                 number = omega arith;
               }
@@ -175,8 +172,7 @@ module _ (b : Layout) (kept : IsLayoutKept b) where
           let number = by.number in (
             omega arith,
             omega arith,
-            place_of by.tape by.line o by.low by.high by.within by.number
-                ∙ ap (λ n. Enter n west) (sym by.element),
+            place_of by.tape by.line o by.low by.high by.within by.number ∙ ap (λ n. Enter n west) (sym by.element),
           )
 
   -- tapes lie one after another
@@ -247,8 +243,7 @@ module _ (b : Layout) (kept : IsLayoutKept b) where
           line = e - first;
           within = most;
           number = omega arith;
-          element =
-              omega arith;
+          element = omega arith;
         })),
     λ leads. (
         let by = (command_is e o).0 leads in
@@ -342,14 +337,6 @@ module _ (b : Layout) (c : Config) (xs : List (Option (ℕ × ℕ))) (xs_are : x
       (λ j g low here. never j g (let e : length xs ≡ length b.firsts = ap length xs_are
       in omega arith) here))
 
-  -- an element is what each keeps
-  pub first_within : IsLayoutKept b → (k : ℕ) (d : Option (ℕ × ℕ)) → k < length xs
-      → IsFirstWithin b.states (lines_at b) (slice_index_or xs k d)
-  first_within kept k d low = subst (λ ys. IsFirstWithin b.states (lines_at b) (slice_index_or ys k d)) (sym xs_are)
-      (AllWithin-from_all (IsFirstWithin
-      b.states (lines_at b)) b.firsts kept.firsts_within k d (omega arith) (let e : length xs ≡ length b.firsts =
-      ap length xs_are in omega arith))
-
 none_sent : (b : Layout) (c : Config) → ((j : ℕ) (g : Option (ℕ × ℕ)) → j < length b.firsts
     → slice_get b.firsts j ≡ Some g → is_sent b c g ≡ false)
     → None ≡ moment_at b c
@@ -362,16 +349,14 @@ module _ (b : Layout) (c : Config) where
       elim (cases_lt o (lines_before b.symbols 1)) [
         | inl less ↦ (
           first_element b 1 + (o - lines_before b.symbols 0),
-          let test = below o (lines_before b.symbols 1)
-              less in rw test refl,
+          let test = below o (lines_before b.symbols 1) less in rw test refl,
         )
         | inr more ↦
             (let first = not_below o (lines_before b.symbols 1) more in
             elim (cases_lt o (lines_before b.symbols 2)) [
               | inl less ↦ (
                 first_element b 2 + (o - lines_before b.symbols 1),
-                let test = below o
-                    (lines_before b.symbols 2) less in rw (first, test) refl,
+                let test = below o (lines_before b.symbols 2) less in rw (first, test) refl,
               )
               | inr again ↦ (
                 first_element b 3 + (o - lines_before b.symbols 2),

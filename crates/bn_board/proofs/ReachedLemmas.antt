@@ -62,8 +62,7 @@ module _ (k : Circuit) (circuit : IsCircuit k) where
   kept_step true c d r good goes kept = kept_on 1 c d r good (one c d goes)
   kept_step false c d r good goes kept = record {
     reached = subst (IsReached k) (sym kept) r;
-    origin_is = ap
-        (origin_by k) kept;
+    origin_is = ap (origin_by k) kept;
   }
 
   pub kept_step_back : (made : Bool) (c d : Config) → IsReached k c → IsConfig k d → OnTrue made (Goes k d c)
@@ -71,8 +70,7 @@ module _ (k : Circuit) (circuit : IsCircuit k) where
   kept_step_back true c d r good goes kept = kept_back 1 c d r good (one d c goes)
   kept_step_back false c d r good goes kept = record {
     reached = subst (IsReached k) (sym kept) r;
-    origin_is = ap
-        (origin_by k) kept;
+    origin_is = ap (origin_by k) kept;
   }
 
 -- ---- boards
@@ -100,8 +98,7 @@ module _ (b : Flattened) (net : Parts Rotary) (d : Config) (kept : IsBoardKept b
           reached = on.reached;
           layout = kept.layout;
           elements = kept.elements;
-          network = subst (λ o. IsOnNetwork b.net o b.layout) (sym on.origin_is)
-              kept.network;
+          network = subst (λ o. IsOnNetwork b.net o b.layout) (sym on.origin_is) kept.network;
         };
         same = record { net = refl; start = refl; end = refl; layout = refl; origin_is = on.origin_is };
       } in

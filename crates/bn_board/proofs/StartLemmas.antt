@@ -33,7 +33,8 @@ use Rattle.bn_element.specs.declared.rotary.Rotary.{Rotary}
 use Rattle.bn_net.specs.Parts.{Parts}
 use Rattle.bn_net.specs.RotaryNets.{rotary_circuit}
 use Rattle.bn_net.proofs.RotaryNetLemmas.{bars-IsConfig, rotary-table_at}
-use Rattle.bn_board_spec.proofs.ModuleLemmas.{found, replicated, bank_within}
+use Rattle.bn_board_spec.proofs.ModuleLemmas.{found, replicated}
+use Rattle.bn_board_spec.proofs.BankedLemmas.{base-within as bank_within}
 use Rattle.bn_board_spec.proofs.StartedLemmas.{get_left, get_right, bars-length}
 use Rattle.bn_board.specs.Flattened.{IsReached}
 use Rattle.bn_board.specs.Starts.{start_by}

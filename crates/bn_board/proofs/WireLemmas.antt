@@ -17,7 +17,8 @@ use Rattle.bn_realise.specs.Banks.{IsBankWire, bank_input_line, bank_output_line
 use Rattle.bn_realise.specs.BankNets.{HasRoom}
 use Rattle.bn_board_spec.specs.Boards.{AreModules, IsBoardWire, base, size, size_of}
 use Rattle.bn_board_spec.proofs.ListedLemmas.{IsOwnBelow, own_none, own_more}
-use Rattle.bn_board_spec.proofs.ModuleLemmas.{bank_within, wired_input, found}
+use Rattle.bn_board_spec.proofs.ModuleLemmas.{wired_input, found}
+use Rattle.bn_board_spec.proofs.BankedLemmas.{base-within as bank_within}
 use Rattle.bn_board_spec.proofs.GrownLemmas.{IsGrown, grown_own, grown_skip, grown_more, grown_next, grown_all}
 use Rattle.bn_net.specs.Parts.{Parts}
 use Rattle.bn_assembly.specs.Modules.{module_table}
@@ -116,8 +117,7 @@ module _ (n : Circuit) (modules : AreModules n) where
       → AreWiresOf (IsWireBefore n e o) ws
       → AreWiresOf (IsWireBefore n e (o + 1)) (ws ++ record {
         from = bank_output_line (base n.tables e) t o;
-        to = bank_input_line (base n.tables to.element)
-            to.line;
+        to = bank_input_line (base n.tables to.element) to.line;
       } ∷ [])
   wires_more e o ws to t is has are = into e (o + 1) _ (grown_more n modules e o ws to t is has (out_of e o ws are))
 
@@ -176,8 +176,7 @@ pub record AreBasesUpTo (ts : List Table) (m : ℕ) (bases : List ℕ) : Type 0 
 pub base_more : (ts : List Table) (m b : ℕ) (bases : List ℕ) → AreBasesUpTo ts m bases → b ≡ base ts m
     → AreBasesUpTo ts (m + 1) (bases ++ b ∷ [])
 base_more ts m b bases so is = record {
-  count = length-append bases (b ∷ [])
-      ∙ (let e = so.count in omega arith);
+  count = length-append bases (b ∷ []) ∙ (let e = so.count in omega arith);
   are = each;
 }
   where

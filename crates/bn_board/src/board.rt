@@ -130,9 +130,10 @@ impl Board {
         self.packed.len()
     }
 
-    /// Where the signal is.
+    /// Where the signal is. Its contract also tells what every board keeps.
     pub fn place(&self) -> Place
-        ensures { result ≡ self.now.config.place }
+        ensures place { result ≡ self.now.config.place }
+        ensures kept { IsBoardKept self.now }
     {
         self.packed.place()
     }
@@ -167,34 +168,37 @@ impl Board {
     }
 
     /// Makes one element step. `false` exactly where none can be made, and then nothing changed: the signal has left,
-    /// or the steps are `CLOCK`. It takes no memory.
+    /// or the steps are `CLOCK`. It takes no memory. Its contract also tells what every board keeps.
     pub fn step(&mut self) -> bool
         ensures made { OnTrue result (Goes (rotary_circuit self.old.net) self.old.config self.new.config) }
         ensures kept { OnFalse result (self.new ≡ self.old) }
         ensures stuck { OnFalse result (IsStuck (rotary_circuit self.old.net) self.old.config) }
         ensures same { IsSameBoard self.old self.new }
+        ensures board { IsBoardKept self.new }
     {
         self.packed.step()
     }
 
     /// Takes one element step back. `false` exactly where no step led here, and then nothing changed: the steps are 0,
-    /// or no wire feeds the input line. It takes no memory.
+    /// or no wire feeds the input line. It takes no memory. Its contract also tells what every board keeps.
     pub fn back_step(&mut self) -> bool
         ensures made { OnTrue result (Goes (rotary_circuit self.old.net) self.new.config self.old.config) }
         ensures kept { OnFalse result (self.new ≡ self.old) }
         ensures first { OnFalse result (IsFirst (rotary_circuit self.old.net) self.old.config) }
         ensures same { IsSameBoard self.old self.new }
+        ensures board { IsBoardKept self.new }
     {
         self.packed.back_step()
     }
 
     /// Makes one element step in this direction, as `step` and `back_step` do. `false` exactly where none can be made,
-    /// and then nothing changed. It takes no memory.
+    /// and then nothing changed. It takes no memory. Its contract also tells what every board keeps.
     pub fn step_along(&mut self, direction: Direction) -> bool
         ensures made { OnTrue result (GoesTo direction (rotary_circuit self.old.net) self.old.config self.new.config) }
         ensures kept { OnFalse result (self.new ≡ self.old) }
         ensures ended { OnFalse result (IsAtEnd direction (rotary_circuit self.old.net) self.old.config) }
         ensures same { IsSameBoard self.old self.new }
+        ensures board { IsBoardKept self.new }
     {
         match direction {
             Direction::Forward => self.step(),

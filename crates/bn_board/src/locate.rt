@@ -5,6 +5,7 @@ ghost use Rattle.bn_circuits.specs.declared.place.Place.TheVariants.{Enter};
 ghost use Rattle.bn_network.specs.Networks.{bank_size, cell_size, cells_in, left_of};
 ghost use Rattle.bn_network.specs.Cells.{cell_line_count};
 ghost use Rattle.bn_board_spec.specs.Layouts.{symbol_count_at, lines_at, elements_of, first_element, cell_element};
+ghost use Rattle.bn_board.specs.Flattened.{IsBoardKept};
 ghost use Rattle.bn_board.specs.Locations.{IsLocated, IsInputLine};
 
 use crate::board::Board;
@@ -15,9 +16,11 @@ use bn_net::{Line, Place};
 use bn_network::MOST_SYMBOLS;
 
 impl Board {
-    /// The module in whose bank the signal is, and the input line by which it enters it there. It takes no memory.
+    /// The module in whose bank the signal is, and the input line by which it enters it there. It takes no memory. Its
+    /// contract also tells what every board keeps.
     pub fn located(&self) -> Located
-        ensures { IsLocated self.now.layout self.now.config.place result }
+        ensures located { IsLocated self.now.layout self.now.config.place result }
+        ensures kept { IsBoardKept self.now }
     {
         match self.place() {
             Place::Enter { element, line } => self.layout().located(Line { element, line }),

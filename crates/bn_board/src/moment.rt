@@ -5,7 +5,7 @@ ghost use Rattle.bn_circuits.specs.declared.place.Place.TheVariants.{Enter};
 ghost use Rattle.bn_element.specs.Rotary.{west};
 ghost use Rattle.bn_realise.specs.Banks.{bottom_at};
 ghost use Rattle.bn_board_spec.specs.Layouts.{moment_at, is_sent, is_marked_at, end_place, lines_at, elements_of};
-ghost use Rattle.bn_board.specs.Flattened.{IsFirstWithin};
+ghost use Rattle.bn_board.specs.Flattened.{IsBoardKept, IsFirstWithin};
 ghost use Rattle.bn_board.specs.Moments.{IsCommandTo};
 
 use crate::board::Board;
@@ -16,9 +16,10 @@ use bn_net::{Line, Place};
 impl Board {
     /// The state of the machine of quadruples, counted from 0, whose moment this is: in the final state the signal has
     /// left by the end line; in another it enters the first cell of a tape with the first command of that state, and
-    /// the control waits for the answer to it. It takes no memory.
+    /// the control waits for the answer to it. It takes no memory. Its contract also tells what every board keeps.
     pub fn moment(&self) -> Option<u32>
-        ensures { result ≡ moment_at self.now.layout self.now.config }
+        ensures moment { result ≡ moment_at self.now.layout self.now.config }
+        ensures kept { IsBoardKept self.now }
     {
         match self.place() {
             Place::Enter { element, line } => {

@@ -1,5 +1,5 @@
 -- What is read off the board of a machine, from what is read off any network; and the word at the start.
-use Rattle.std.specs.Prelude.{◌≡◌, ℕ, ◌<◌, ◌≤◌, List, All}
+use Rattle.std.specs.Prelude.{ℕ, ◌<◌, List, All}
 use Rattle.std.proofs.Common.{sym, subst, ◌∙◌}
 use Rattle.bn_machine.specs.Machine.{Program, IsMachine}
 use Rattle.bn_machine.specs.Outcome.{Limits}
@@ -11,7 +11,8 @@ use Rattle.bn_network.specs.Moments.{HasLetters}
 use Rattle.bn_board_spec.specs.Layouts.{spelled_config}
 use Rattle.bn_board_spec.specs.Flats.{Flat, IsFlatOf, machine_of, flat_start}
 use Rattle.bn_board_spec.specs.LayoutLaws.{BoardsRead}
-use Rattle.bn_board_spec.proofs.LetterLemmas.{some_symbols, tape_letters}
+use Rattle.bn_board_spec.proofs.LetterLemmas.{tape_letters}
+use Rattle.bn_bennett.proofs.Machines.{some_symbols}
 use Rattle.bn_board_spec.proofs.ReadingLemmas.{own_flat, own_accepted}
 use Rattle.bn_board_laws.proofs.ClosedLemmas.{uniform}
 use Rattle.bn_board_laws.specs.NetworkMoments.{IsUniformNetwork, StartsSpellWords, machine_start}

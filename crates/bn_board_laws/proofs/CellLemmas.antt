@@ -1,12 +1,12 @@
 -- Where the banks of the tapes' cells lie on a board.
 use Rattle.std.specs.Prelude.{◌≡◌, ℕ, ◌+◌, ◌<◌, List, [], ◌∷◌, length, Some, slice_get}
-use Rattle.std.proofs.Common.{sym, subst, ◌∙◌}
 use Rattle.bn_circuits.specs.Circuits.{Circuit}
 use Rattle.bn_machine.specs.Outcome.{Limits}
 use Rattle.bn_quad.specs.Quadruples.{Quadruples, quadruples_of}
 use Rattle.bn_network.specs.Cells.{cell_table}
 use Rattle.bn_network.specs.Controls.{ControlState, symbol_count}
 use Rattle.bn_network.specs.Networks.{IsNetwork, IsTape, cells_in, first_cell}
+use Rattle.bn_board_spec.proofs.ReadingLemmas.{of_parts}
 use Rattle.bn_board_spec.specs.Boards.{base}
 use Rattle.bn_board_spec.specs.Layouts.{Layout, IsLayout, cell_element}
 use Rattle.bn_board_spec.proofs.TabledLemmas.{has_cell, cell_base}
@@ -29,31 +29,11 @@ module _ (l : Limits) (names : List ControlState) (n : Circuit) where
         awaited = b.awaited;
       })
   by_parts x y z m b network t p tape low = (
-    has_cell m.rules m.states x y z l names n b.firsts b.awaited network t p
-        tape low,
+    has_cell m.rules m.states x y z l names n b.firsts b.awaited network t p tape low,
     cell_base m.rules m.states x y z l names n b.firsts b.awaited network t p tape low,
   )
 
   -- of any machine with three numbers of symbols
   pub cells_lie : (x y z : ℕ) (m : Quadruples) (b : Layout) → m.symbols ≡ x ∷ y ∷ z ∷ [] → IsLayout m l names b
       → CellsLie m b
-  cells_lie x y z m b symbols kept =
-      let machine_is : m ≡ quadruples_of m.rules m.states (x ∷ y ∷ z ∷ []) =
-      λ i. record { rules = m.rules; states = m.states; symbols = symbols i } in
-      let letters_same : b.symbols ≡ x ∷ y ∷ z ∷ [] = kept.symbols ∙ symbols in
-      let layout_is : b ≡ record {
-        limits = l;
-        symbols = x ∷ y ∷ z
-            ∷ [];
-        states = length names;
-        firsts = b.firsts;
-        awaited = b.awaited;
-      } = λ i. record {
-        limits = kept.limits i;
-        symbols = letters_same i;
-        states = kept.states i;
-        firsts = b.firsts;
-        awaited = b.awaited;
-      } in
-      subst (λ v. CellsLie v b) (sym machine_is) (subst (CellsLie (quadruples_of m.rules m.states (x ∷ y ∷ z ∷ [])))
-      (sym layout_is) (by_parts x y z m b))
+  cells_lie x y z m b symbols kept = of_parts (x ∷ y ∷ z ∷ []) l names CellsLie (by_parts x y z) m b symbols kept

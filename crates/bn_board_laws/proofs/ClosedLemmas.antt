@@ -14,10 +14,7 @@ use Rattle.bn_bennett.specs.Translation.{name_of}
 use Rattle.bn_bennett.proofs.Alike.{begins_named, ends_alike, ends_named, names_apart, no_room, run_named}
 use Rattle.bn_bennett.proofs.Once.{translations_are_one}
 use Rattle.bn_bennett.proofs.ThereLemmas.{there}
-use Rattle.bn_network.specs.ControlLaws.{ControlsAreOne}
 use Rattle.bn_network.proofs.ExistingLemmas.{have-entries}
-use Rattle.bn_network.proofs.OccurringLemmas.{order_one, order_there}
-use Rattle.bn_network.proofs.TabledLemmas.{table_one, table_there}
 use Rattle.bn_network_laws.proofs.CommandLemmas.{commands-walk}
 use Rattle.bn_network_laws.proofs.FirstLemmas.{first-moment}
 use Rattle.bn_network_laws.proofs.HeadLemmas.{heads-stay}
@@ -34,6 +31,7 @@ use Rattle.bn_board_laws.specs.RunLaws.{BoardsRunToTheirExit}
 use Rattle.bn_board_laws.specs.Moments.{BoardsHaveMoments}
 use Rattle.bn_board_laws.proofs.ExitedLemmas.{boards-run}
 use Rattle.bn_board_laws.proofs.WholeLemmas.{boards-moments}
+use Rattle.bn_network.proofs.LawLemmas.{controls_are_one as controls}
 
 -- ---- the machine and its translation
 
@@ -63,9 +61,6 @@ have_no_room p t word standard h letters = no_room p t h standard numbers_pass_t
     runs_have_no_room letters
 
 -- ---- the board
-
-pub controls : ControlsAreOne
-controls = (order_one, order_there, λ m names is u n. table_there m names is u n, table_one)
 
 pub read_off : BoardsRead
 read_off = boards-read uniform have-entries

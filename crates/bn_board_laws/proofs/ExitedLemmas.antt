@@ -68,7 +68,7 @@ quad_run : (f : Flat) (test : Situation → Bool) (n : ℕ) (s t : Situation) (c
 quad_run f test zero s t c d path = ap (λ (z : Situation × Configuration ℕ). z.1) path
 quad_run f test (suc n) s t c d path = (path.0.1, path.1.goes, quad_run f test n path.0.0 t path.0.1 d path.2)
 
-stuck_at : (k : Circuit) (d : Config) (e l : ℕ) → d.place ≡ Left e l → IsStuck k d
+pub stuck_at : (k : Circuit) (d : Config) (e l : ℕ) → d.place ≡ Left e l → IsStuck k d
 stuck_at k d e l h = λ x g. let both : Left e l ≡ Enter g.crosses.element g.crosses.input =
     sym h ∙ g.crosses.enters in cc
 
@@ -154,8 +154,7 @@ module _ (p : Program) (f : Flat) (test : Situation
           record {
             exit_is = exit.Stuck d.state (scanned (tape_of d t));
             is = (t, stop, refl);
-            has = named
-                (stuck control.number d.state t (scanned (tape_of d t)) kept letters_low line);
+            has = named (stuck control.number d.state t (scanned (tape_of d t)) kept letters_low line);
             element = _;
             line = _;
             left_by = line;
@@ -166,8 +165,7 @@ module _ (p : Program) (f : Flat) (test : Situation
           record {
             exit_is = exit.Window t side.Right;
             is = refl;
-            has = named
-                (right t tape.low tape.high (there ∙ same_right t));
+            has = named (right t tape.low tape.high (there ∙ same_right t));
             element = _;
             line = _;
             left_by = there;
@@ -182,8 +180,7 @@ module _ (p : Program) (f : Flat) (test : Situation
           record {
             exit_is = exit.Window t side.Left;
             is = refl;
-            has = named
-                (left t tape.low tape.high (there ∙ same_left t));
+            has = named (left t tape.low tape.high (there ∙ same_left t));
             element = _;
             line = _;
             left_by = there;
@@ -219,8 +216,7 @@ module _ (p : Program) (f : Flat) (test : Situation
       let one : is.0 ≡ 1 = one_tape (machine_of f) d is.0 fits.2 is.1 in (
         d.state,
         fits.0,
-        is.2 ∙ ap (λ t. exit.Stuck d.state (scanned (tape_of d t))) one
-            ∙ ap (λ z. exit.Stuck d.state z) fits.1,
+        is.2 ∙ ap (λ t. exit.Stuck d.state (scanned (tape_of d t))) one ∙ ap (λ z. exit.Stuck d.state z) fits.1,
       )
   exit_for i n (outcome.Stuck j c) d (Leaving t s) x is fits = absurd fits
   exit_for i n (outcome.Outside u v) d Finished x is fits = absurd fits

@@ -58,8 +58,7 @@ module _ (m : Quadruples) (l : Limits) (names : List ControlState) (k : Circuit)
         let still : IsControlAt names done.last.states (Reads c.state []) =
         record {
           number = waits.number;
-          is = done.others 0 (inl (after_control l t tape))
-              ∙ waits.is;
+          is = done.others 0 (inl (after_control l t tape)) ∙ waits.is;
           named = waits.named;
         } in
         let shows = shown_with m l s.states done.last.states c t (write (tape_of c t) 0) tape now.shows done.shows
@@ -81,8 +80,7 @@ module _ (m : Quadruples) (l : Limits) (names : List ControlState) (k : Circuit)
           still,
           (
             λ ended. record { tape = tape; entry = entry; none = goes_on ended },
-            λ stop. stuck have-entries m l names k
-                is.machine is.uniform is.network c t stop done.last still done.place,
+            λ stop. stuck have-entries m l names k is.machine is.uniform is.network c t stop done.last still done.place,
           ),
         )
 

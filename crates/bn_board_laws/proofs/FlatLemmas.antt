@@ -6,23 +6,19 @@ use Rattle.bn_quad.specs.Quadruples.{Quadruples}
 use Rattle.bn_bennett_laws.specs.List.{symbols_of}
 use Rattle.bn_bennett.specs.Laws.{TranslationsAreOne, TranslationsAreUniform, TranslationsAreThere}
 use Rattle.bn_bennett.specs.Translation.{Translation, IsTranslation}
-use Rattle.bn_network.specs.ControlLaws.{ControlsAreOne}
 use Rattle.bn_network.specs.Controls.{symbol_count}
 use Rattle.bn_network.specs.Moments.{HasLetters}
 use Rattle.bn_board_spec.specs.Flats.{Flat, IsFlatOf}
 use Rattle.bn_board_spec.proofs.SameLemmas.{flats-one}
-use Rattle.bn_board_spec.proofs.LetterLemmas.{some_symbols, tape_letters}
+use Rattle.bn_board_spec.proofs.LetterLemmas.{tape_letters}
+use Rattle.bn_bennett.proofs.Machines.{some_symbols}
 use Rattle.bn_network.proofs.ExistingLemmas.{have-entries}
-use Rattle.bn_network.proofs.OccurringLemmas.{order_one, order_there}
-use Rattle.bn_network.proofs.TabledLemmas.{table_one, table_there}
+use Rattle.bn_network.proofs.OccurringLemmas.{order_there}
 use Rattle.bn_board_laws.proofs.NetworkLemmas.{networks-there, networks-modules}
 use Rattle.bn_board_laws.proofs.LayoutLemmas.{layouts-there}
 use Rattle.bn_board_spec.specs.BoardLaws.{BoardsAreThere}
 use Rattle.bn_board_laws.specs.ExistenceLaws.{FlatsAreThere}
-
--- the laws of the control
-controls_one : ControlsAreOne
-controls_one = (order_one, order_there, λ m names is u n. table_there m names is u n, table_one)
+use Rattle.bn_network.proofs.LawLemmas.{controls_are_one as controls_one}
 
 -- the machine of a translation has a symbol on each tape
 has_letters : (p : Program) (m : Quadruples) → IsMachine p → m.symbols ≡ symbols_of p → HasLetters m

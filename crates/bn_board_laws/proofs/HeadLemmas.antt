@@ -1,6 +1,6 @@
 -- Never two heads on a tape.
-use Rattle.std.specs.Prelude.{◌≡◌, ◌≢◌, ℕ, ◌+◌, ◌*◌, ◌<◌, ◌≤◌, ℤ, pos, ◌-ℤ◌, Bool, true, false, List, Option, Some}
-use Rattle.std.specs.Prelude.{None, slice_get, if◌then◌else◌, refl, ◌⊎◌}
+use Rattle.std.specs.Prelude.{◌≡◌, ◌≢◌, ℕ, ◌+◌, ◌*◌, ◌<◌, ◌≤◌, ℤ, pos, ◌-ℤ◌, List, Option, Some, None, slice_get, refl}
+use Rattle.std.specs.Prelude.{◌⊎◌}
 use Rattle.std.specs.Ordering.{int_eq}
 use Rattle.std.proofs.Common.{zero, suc, arith, sym, ap, subst, ◌∙◌, inl, inr}
 use Rattle.std.proofs.lemmas.Bool.Decides.{eqb_tells, Decides-int_eq}
@@ -20,7 +20,7 @@ use Rattle.bn_quad.specs.Quadruples.{Configuration, Quadruples}
 use Rattle.bn_realise.specs.Banks.{AreMarked, bottom_at}
 use Rattle.bn_circuits.specs.Situations.{Situation, Turns, IsAtEnd}
 use Rattle.bn_rsm.specs.RunCosts.{run_cost}
-use Rattle.bn_network.specs.Cells.{Plain, Head, cell_table, state_number, cell_line_count}
+use Rattle.bn_network.specs.Cells.{cell_table, state_number, cell_line_count}
 use Rattle.bn_network.specs.Controls.{ControlState, symbol_count}
 use Rattle.bn_network.specs.Networks.{IsNetwork, IsTape, ShowsTape, ShowsTapes, cell_of, cells_in, first_cell, left_of}
 use Rattle.bn_network.specs.Networks.{network_start}
@@ -28,6 +28,7 @@ use Rattle.bn_network.specs.Moments.{HasHeads}
 use Rattle.bn_network_laws.specs.NetworkLaws.{HeadsStayOne}
 use Rattle.bn_board_spec.specs.Boards.{AreModules, IsBoard, StandsFor, base}
 use Rattle.bn_board_laws.proofs.MarkLemmas.{apart_throughout, stands_mark, marked_is}
+use Rattle.bn_board_spec.proofs.StartingLemmas.{has_head}
 
 -- ---- states before a move and after it
 
@@ -82,11 +83,6 @@ one_shown m l states c (suc zero) low high shows = (refl, shows.one)
 one_shown m l states c (suc (suc zero)) low high shows = (omega arith, shows.two)
 one_shown m l states c (suc (suc (suc zero))) low high shows = (omega arith, shows.three)
 one_shown m l states c (suc (suc (suc (suc t)))) low high shows = absurd (omega arith)
-
--- a cell whose state has a number from the heads on has the head
-has_head : (z s : ℕ) (b : Bool) → s < z → z ≤ state_number z (if b then Head s else Plain s) → b ≡ true
-has_head z s true low high = refl
-has_head z s false low high = absurd (omega arith)
 
 -- and it stands where the tape's head is
 head_place : (states : List ℕ) (first z left right : ℕ) (tape : Tape) → ShowsTape states first z left right tape

@@ -4,7 +4,7 @@ use Rattle.std.proofs.Common.{zero, suc, sym, subst}
 use Rattle.bn_lists.specs.Runs.{Reaches}
 use Rattle.bn_machine.specs.Machine.{Program}
 use Rattle.bn_machine.specs.Outcome as outcome
-use Rattle.bn_machine.specs.Outcome.{Limits, Outcome, HasOutcome}
+use Rattle.bn_machine.specs.Outcome.{Outcome, HasOutcome}
 use Rattle.bn_quad.specs.Quadruples.{Configuration, QuadruplesRunTo, Rule, Rooms}
 use Rattle.bn_quad.specs.Calls.{IsUniformMachine}
 use Rattle.bn_bennett_laws.specs.List.{symbols_of}
@@ -20,7 +20,8 @@ use Rattle.bn_network_laws.specs.Ends.{IsEarlyStop}
 use Rattle.bn_board_spec.specs.Flats.{Flat, machine_of, IsFlatOf, IsAccepted}
 use Rattle.bn_board_laws.specs.Journeys.{Strides, NetworkComes, NetworkEndsAs}
 use Rattle.bn_board_laws.specs.RunLaws.{NetworksEndAlike}
-use Rattle.bn_board_spec.proofs.LetterLemmas.{some_symbols, tape_letters}
+use Rattle.bn_board_spec.proofs.LetterLemmas.{tape_letters}
+use Rattle.bn_bennett.proofs.Machines.{some_symbols}
 use Rattle.bn_network_laws.proofs.LastLemmas.{stopped_at_one}
 
 -- a run that ends as stopped is not in the final state
@@ -41,8 +42,7 @@ module _ (first_moment : FirstMoment) (next_moment : NextMoment) (last_moment : 
   strides zero s c d shows run = (
     s,
     (λ i. (s, run i)),
-    subst
-        (λ x. IsMomentOf (machine_of f) f.limits f.names f.network s x) run shows,
+    subst (λ x. IsMomentOf (machine_of f) f.limits f.names f.network s x) run shows,
   )
   strides (suc n) s c d shows run =
       let by = run.1 in
@@ -102,8 +102,7 @@ module _ (first_moment : FirstMoment) (next_moment : NextMoment) (last_moment : 
     h.0,
     comes (2 * i) h.0 Stopped h.1 (λ k entry. (
       1,
-      stopped_at_one (machine_of f) h.0 h.4 k entry
-          (still_going _ _ _ h.0 h.1.ends),
+      stopped_at_one (machine_of f) h.0 h.4 k entry (still_going _ _ _ h.0 h.1.ends),
     )),
     h.2,
     h.3,

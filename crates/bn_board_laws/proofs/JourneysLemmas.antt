@@ -31,8 +31,7 @@ pub record BoardComes (f : Flat) (n : ℕ) (d : Configuration ℕ) (e : Exit) : 
   pub bounded : run_cost f.network (moves + 1) (situation_at_start f) ≤ 4 * elements_in f + 48 * elements_in f * (n + 1)
   pub count : tally (is_moment f.layout) f.circuit (run_cost f.network (moves + 1) (situation_at_start f))
       (flat_start f) ≡ n + 1
-  pub stands : (StandsFor f.network last at_end
-      × ((e i : ℕ) → last.place ≢ Enter e i)) ⊎ IsLoose f.network last at_end
+  pub stands : (StandsFor f.network last at_end × ((e i : ℕ) → last.place ≢ Enter e i)) ⊎ IsLoose f.network last at_end
 
 -- the network's run over its moments is a run of its board, which counts them
 abbrev pub BoardsComeAlike : Type 0

@@ -53,8 +53,7 @@ module _ (m : Quadruples) (is : IsQuadMachine m) (u : IsUniformMachine m) (l : L
         let entry = some_entry m u a low in
         let at = numbering.each entry.0.0 (end_entry m is a entry.0 entry.1).occurs in (
           Some (at.0, out_number m entry.0.1),
-          sent_kept (eqb-false a (final_state_of m.rules) other) entry.0 at.0
-              entry.1 at.1,
+          sent_kept (eqb-false a (final_state_of m.rules) other) entry.0 at.0 entry.1 at.1,
         )
   ]
 
@@ -91,8 +90,7 @@ module _ (m : Quadruples) (is : IsQuadMachine m) (u : IsUniformMachine m) (l : L
     None,
     record {
       forth = λ a t h. absurd (cc);
-      back = λ a t h entry. absurd
-          (never a (let both : Some s ≡ Some (Reads a []) = sym at ∙ h in cc));
+      back = λ a t h entry. absurd (never a (let both : Some s ≡ Some (Reads a []) = sym at ∙ h in cc));
     },
   )
 
@@ -135,8 +133,7 @@ module _ (m : Quadruples) (is : IsQuadMachine m) (u : IsUniformMachine m) (l : L
               let one : a ≡ b = parts.0 in
               let two : h.0 ≡ t = parts.1 in (
                 subst (λ c. slice_get names q ≡ Some (Reads c [])) one at,
-                subst (λ c. IsAwaited c t) one
-                    (subst (IsAwaited a) two (subst (IsEntry m a) h.1 entry)),
+                subst (λ c. IsAwaited c t) one (subst (IsAwaited a) two (subst (IsEntry m a) h.1 entry)),
               )
 
           back : (b t : ℕ) → slice_get names q ≡ Some (Reads b []) → IsAwaited b t → pair a h.0 ≡ pair b t
@@ -214,6 +211,5 @@ module _ (m : Quadruples) (is : IsQuadMachine m) (u : IsUniformMachine m) (l : L
 pub layouts-there : LayoutsAreThere
 layouts-there = (
   λ m l names is u numbering. layout_there m is u l names numbering,
-  λ m l names b c is u numbering.
-      layouts_one m l names numbering (have-entries m is u) b c,
+  λ m l names b c is u numbering. layouts_one m l names numbering (have-entries m is u) b c,
 )

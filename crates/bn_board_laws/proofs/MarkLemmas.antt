@@ -41,8 +41,7 @@ flat_tells states e = by_bar (slice_get states e) refl
         elim (eqb_tells v 0) [
           | inl zero_is ↦ inl (
             ap (λ o. option_map_or (λ w. w == 0) o false) is ∙ zero_is.0,
-            is
-                ∙ ap (λ w. Some w) zero_is.1,
+            is ∙ ap (λ w. Some w) zero_is.1,
           )
           | inr apart ↦ inr (ap (λ o. option_map_or (λ w. w == 0) o false) is ∙ apart.0, λ h. apart.1 (cc))
         ]
@@ -58,8 +57,7 @@ not_both_holds e x d never =
     elim (flat_tells d.states e) [
       | inl one ↦ (elim (flat_tells d.states x) [
         | inl two ↦ absurd (never one.1 two.1)
-        | inr two
-            ↦ rw (one.0, two.0) refl
+        | inr two ↦ rw (one.0, two.0) refl
       ])
       | inr one ↦ rw one.0 refl
     ]
@@ -70,10 +68,8 @@ never_both : (e x : ℕ) (d : Config) → not_both e x d ≡ true → slice_get 
 never_both e x d holds first second =
     elim (flat_tells d.states e) [
       | inl one ↦ (elim (flat_tells d.states x) [
-        | inl two ↦ absurd
-            (let h : not (true && true) ≡ true = (λ i. not (sym one.0 i && sym two.0 i)) ∙ holds in cc)
-        | inr two
-            ↦ two.1 second
+        | inl two ↦ absurd (let h : not (true && true) ≡ true = (λ i. not (sym one.0 i && sym two.0 i)) ∙ holds in cc)
+        | inr two ↦ two.1 second
       ])
       | inr one ↦ one.1 first
     ]

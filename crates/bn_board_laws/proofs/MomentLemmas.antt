@@ -7,7 +7,7 @@ use Rattle.bn_element.specs.Rotary.{horizontal}
 use Rattle.bn_machine.specs.Machine.{Program}
 use Rattle.bn_machine.specs.Laws.{HasOneOutcome}
 use Rattle.bn_machine.specs.Outcome as outcome
-use Rattle.bn_machine.specs.Outcome.{Limits, Outcome}
+use Rattle.bn_machine.specs.Outcome.{Outcome}
 use Rattle.bn_quad.specs.Quadruples.{Configuration}
 use Rattle.bn_bennett_laws.specs.Steps.{Exit, Finished, Stopped, Leaving}
 use Rattle.bn_bennett.specs.Laws.{TranslationsAreUniform}
@@ -72,8 +72,7 @@ module _ (uniform : TranslationsAreUniform) (entries : StatesHaveEntries) where
         let way = some_run f read.0 ends.0 ends.1 (alike first next last p f.word f.limits f read.0 own accepted_own
         read.1.tells_moments ends.0 ends.1 ends.2) in (
           told_moment f flat.is_board read.0 read.1 has_entries cost has room way.0 way.2 way.1 way.3 t a low,
-          has_moment
-              f flat.is_board read.0 read.1 has_entries cost has room t a low,
+          has_moment f flat.is_board read.0 read.1 has_entries cost has room t a low,
         )
 
     -- one head a tape, for a flat's own word and limits

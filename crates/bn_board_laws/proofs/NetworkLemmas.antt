@@ -30,8 +30,7 @@ networks-modules m l names k letters_some numbering net =
     record {
       circuit = net.circuit;
       some_states = λ e t h. states t (kinds e t h);
-      some_lines = λ e t h. some t
-          (kinds e t h);
+      some_lines = λ e t h. some t (kinds e t h);
       square = λ e t h. square t (kinds e t h);
     }
   where

@@ -1,6 +1,6 @@
 -- The network of any uniform machine over its moments, with the laws below put in.
-use Rattle.std.specs.Prelude.{ℕ, ◌<◌, List, [], All}
-use Rattle.std.proofs.Common.{zero, suc, arith, subst}
+use Rattle.std.specs.Prelude.{ℕ, List, []}
+use Rattle.std.proofs.Common.{zero, suc, subst}
 use Rattle.bn_lists.specs.Runs.{Reaches}
 use Rattle.bn_circuits.specs.Circuits.{Circuit}
 use Rattle.bn_circuits.specs.Situations.{Situation, Turns}
@@ -19,10 +19,7 @@ use Rattle.bn_network_laws.proofs.NextLemmas.{next-moment}
 use Rattle.bn_board_laws.proofs.LayoutLemmas.{layouts-there}
 use Rattle.bn_board_laws.specs.NetworkMoments.{NetworksHaveMoments}
 use Rattle.bn_board_laws.proofs.NetworkReadLemmas.{networks-read}
-
--- no letter is out of range where there is none
-none_low : (z : ℕ) → All (λ s. s < z) []
-none_low z k d low = absurd (omega arith)
+use Rattle.bn_board_spec.proofs.StartingLemmas.{no_letters as none_low}
 
 -- one head a tape, wherever a run leads
 heads_along : (m : Quadruples) (l : Limits) (names : List ControlState) (k : Circuit) → IsNetwork m l names k

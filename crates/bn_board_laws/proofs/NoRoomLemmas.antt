@@ -2,7 +2,7 @@
 use Rattle.std.specs.Prelude.{◌≡◌, ◌⊎◌, ℕ, List, [], Some, take, refl}
 use Rattle.std.proofs.Common.{sym, ap, subst, ◌∙◌, inl, inr}
 use Rattle.bn_lists.specs.Lists.{IsIn, nth}
-use Rattle.bn_machine.specs.Machine.{Moment, Program, final_of}
+use Rattle.bn_machine.specs.Machine.{Program, final_of}
 use Rattle.bn_machine.specs.Outcome as outcome
 use Rattle.bn_machine.specs.Outcome.{Limits}
 use Rattle.bn_machine.specs.Tape.{Tape, blank_tape, shift, write}
@@ -13,17 +13,15 @@ use Rattle.bn_machine.specs.declared.quint.Side.{Side}
 use Rattle.bn_quad.specs.Quadruples.{Configuration, Deed, Follows, Move, Rewrite, Rule}
 use Rattle.bn_bennett_laws.specs.List.{bennett, keep, rest}
 use Rattle.bn_bennett_laws.specs.Renamed.{in_state, rename, renamed}
-use Rattle.bn_bennett_laws.specs.Stages.{HasNoRoom, computing, computing_within, copying, history, for_number}
-use Rattle.bn_bennett_laws.specs.Stages.{for_shift, to_read, to_write}
+use Rattle.bn_bennett_laws.specs.Stages.{HasNoRoom, copying, history, for_number, for_shift, to_read, to_write}
 use Rattle.bn_bennett_laws.specs.declared.name.Name.{Name}
-use Rattle.bn_bennett_laws.specs.declared.name.Name.TheVariants.{Compute, ComputeWithin, GoRight, CopyLetter, GoLeft}
-use Rattle.bn_bennett_laws.specs.declared.name.Name.TheVariants.{PassLetter, Retrace, RetraceWithin}
+use Rattle.bn_bennett_laws.specs.declared.name.Name.TheVariants.{Compute, ComputeWithin, GoRight}
 use Rattle.bn_bennett_laws.proofs.ListLemmas.{each_rule}
 use Rattle.bn_bennett_laws.proofs.RenamedLemmas.{nth_renamed}
 use Rattle.bn_bennett_laws.proofs.Tapes.{history-blank, scanned-word}
-use Rattle.bn_network_laws.specs.Ends.{left_at, read_by, shift_by, taken_from}
+use Rattle.bn_network_laws.specs.Ends.{left_at, read_by, shift_by}
 use Rattle.bn_board_laws.specs.Runs as ends
-use Rattle.bn_board_laws.specs.Runs.{AreEndTapes, HasEndTapes}
+use Rattle.bn_board_laws.specs.Runs.{HasEndTapes}
 use Rattle.bn_board_laws.proofs.StuckLemmas.{HoldsStuck}
 
 -- ---- where the machine is stuck

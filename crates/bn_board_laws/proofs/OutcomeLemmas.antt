@@ -6,7 +6,7 @@ use Rattle.bn_circuits.specs.declared.place.Place.{Place}
 use Rattle.bn_circuits.specs.declared.place.Place.TheVariants.{Enter, Left}
 use Rattle.bn_machine.specs.Machine.{Program}
 use Rattle.bn_machine.specs.Outcome as outcome
-use Rattle.bn_machine.specs.Outcome.{Limits, Outcome, HasOutcome}
+use Rattle.bn_machine.specs.Outcome.{Outcome, HasOutcome}
 use Rattle.bn_machine.proofs.OutcomeLemmas.{outcome_exists}
 use Rattle.bn_machine.specs.declared.quint.Side.{Side}
 use Rattle.bn_bennett_laws.specs.List.{bennett}
@@ -130,8 +130,7 @@ leaves-by exits boards p word l f flat accepted cost has_cost =
           i,
           j,
           subst (λ x. HasOutcome p word l i (outcome.Stuck j x)) symbols h,
-          subst
-              (λ x. name_of f.translation x ≡ Compute j) (sym states) is.1,
+          subst (λ x. name_of f.translation x ≡ Compute j) (sym states) is.1,
         )
     stuck_of i (outcome.Outside n s) h a c is = absurd (cc)
 
@@ -193,8 +192,7 @@ restored exits boards p word l f flat accepted cost has_cost at_end =
       halted.0,
       halted.1,
       halted.2,
-      subst (λ n. SpellsRestored f (run f.circuit (flat_start f) n).states halted.1) same
-          ran.with_tapes.0,
+      subst (λ n. SpellsRestored f (run f.circuit (flat_start f) n).states halted.1) same ran.with_tapes.0,
       ap (λ n. moments f.layout f.circuit n (flat_start f)) (sym steps) ∙ ran.with_tapes.1,
     )
 

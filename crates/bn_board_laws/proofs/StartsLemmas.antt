@@ -1,7 +1,6 @@
 -- The start of a board from each configuration that stands in its window stands for its network's.
-use Rattle.std.specs.Prelude.{◌≡◌, ℕ, ◌+◌, ◌*◌, ◌<◌, pos, ◌-ℤ◌, Bool, true, false, List, [], ◌∷◌}
-use Rattle.std.specs.Prelude.{◌++◌, length, map, replicate, Some, slice_get, if◌then◌else◌, refl}
-use Rattle.std.specs.List.{range_with_len}
+use Rattle.std.specs.Prelude.{◌≡◌, ℕ, ◌+◌, ◌*◌, ◌<◌, pos, ◌-ℤ◌, List, [], ◌∷◌, ◌++◌, length, replicate, Some, slice_get}
+use Rattle.std.specs.Prelude.{refl}
 use Rattle.std.specs.Option.{option_map_or}
 use Rattle.std.specs.Ordering.{int_eq}
 use Rattle.std.proofs.Common.{zero, suc, arith, sym, ap, subst, ◌∙◌}
@@ -12,37 +11,17 @@ use Rattle.bn_circuits.specs.Circuits.{Circuit}
 use Rattle.bn_machine.specs.Outcome.{Limits}
 use Rattle.bn_machine.specs.Tape.{Tape, cell}
 use Rattle.bn_quad.specs.Quadruples.{Configuration, Quadruples}
-use Rattle.bn_network.specs.Cells.{Plain, Head, cell_table, state_number}
-use Rattle.bn_network.specs.Controls.{ControlState, IsNumbering, symbol_count, lines_before}
+use Rattle.bn_network.specs.Cells.{cell_table, state_number}
+use Rattle.bn_network.specs.Controls.{ControlState, IsNumbering, symbol_count}
 use Rattle.bn_network.specs.Networks.{IsNetwork, ShowsTape, ShowsTapes, cell_of, cells_in, first_cell}
-use Rattle.bn_network_laws.proofs.FirstLemmas.{begin_first}
+use Rattle.bn_network_laws.proofs.FirstLemmas.{begin_first, in_front, behind}
 use Rattle.bn_board_spec.specs.Boards.{StandsFor, board_start}
 use Rattle.bn_board_spec.proofs.StartedLemmas.{bars-length, bars-rest}
 use Rattle.bn_network.specs.Starts.{cells_by, start_from, FitsTape, FitsWindow}
+use Rattle.bn_board_spec.proofs.StartingLemmas.{map_get, each_below, state_low}
+use Rattle.bn_network_laws.proofs.PlaceLemmas.{some_lines as lines_some}
 
 -- ---- lists of states
-
-in_front : {X : Type 0} (xs ys : List X) (j : ℕ) (x : X) → slice_get xs j ≡ Some x → slice_get (xs ++ ys) j ≡ Some x
-in_front [] ys j x e = absurd (cc)
-in_front (a ∷ xs) ys zero x e = e
-in_front (a ∷ xs) ys (suc j) x e = in_front xs ys j x e
-
-behind : {X : Type 0} (xs ys : List X) (j n : ℕ) (x : X) → n ≡ length xs + j → slice_get ys j ≡ Some x
-    → slice_get (xs ++ ys) n ≡ Some x
-behind [] ys j n x sum e = let same : j ≡ n = omega arith in subst (λ i. slice_get ys i ≡ Some x) same e
-behind (a ∷ xs) ys j zero x sum e = absurd (omega arith)
-behind (a ∷ xs) ys j (suc n) x sum e = behind xs ys j n x (omega arith) e
-
-map_get : (f : ℕ → ℕ) (a n i e : ℕ) → i < n → e ≡ a + i → slice_get (map f (range_with_len a n)) i ≡ Some (f e)
-map_get f a zero i e low same = absurd (omega arith)
-map_get f a (suc n) zero e low same = let is : a ≡ e = omega arith in ap (λ v. Some (f v)) is
-map_get f a (suc n) (suc i) e low same = map_get f (a + 1) n i e (omega arith) (omega arith)
-
-each_below : (f : ℕ → ℕ) (k : ℕ) → ((j : ℕ) → f j < k) → (a n e q : ℕ)
-    → slice_get (map f (range_with_len a n)) e ≡ Some q → q < k
-each_below f k low a zero e q h = absurd (cc)
-each_below f k low a (suc n) zero q h = let same : f a ≡ q = cc in subst (λ x. x < k) same (low a)
-each_below f k low a (suc n) (suc e) q h = each_below f k low (a + 1) n e q h
 
 -- ---- a tape's cells
 
@@ -55,10 +34,6 @@ cells_get : (z left right : ℕ) (x : Tape) (p : ℕ) → p < left + right + 1
 cells_get z left right x p low =
     map_get (λ j. state_number z (cell_of x (pos j -ℤ pos left))) 0 (left + right + 1) p p low (omega arith)
 
-state_low : (z s : ℕ) (b : Bool) → s < z → state_number z (if b then Head s else Plain s) < 2 * z
-state_low z s true low = omega arith
-state_low z s false low = omega arith
-
 cells_below : (z left right : ℕ) (x : Tape) → FitsTape z left right x → (e q : ℕ)
     → slice_get (cells_by z left right x) e ≡ Some q → q < 2 * z
 cells_below z left right x fits e q h =
@@ -70,11 +45,6 @@ cells_below z left right x fits e q h =
 
 AreStatesBelow : List Table → List ℕ → Type 0
 AreStatesBelow ts qs = (e : ℕ) (t : Table) (q : ℕ) → slice_get ts e ≡ Some t → slice_get qs e ≡ Some q → q < t.states
-
-lines_some : (zs : List ℕ) (t : ℕ) → 0 < lines_before zs t
-lines_some zs zero = omega arith
-lines_some [] (suc t) = omega arith
-lines_some (z ∷ zs) (suc t) = let more = lines_some zs t in omega arith
 
 module _ (m : Quadruples) (l : Limits) (k : Circuit) (c : Configuration ℕ) (fits : FitsWindow m l c) where
   abbrev a : List ℕ

@@ -29,6 +29,7 @@ use Rattle.bn_board_laws.specs.Moments.{MomentOnBoard}
 use Rattle.bn_board_laws.proofs.VisitLemmas.{visits, reach}
 use Rattle.bn_rsm.proofs.RunCostLemmas.{cost-joins}
 use Rattle.bn_board_laws.proofs.WalkLemmas.{leg, tally_joins, goes_on, walk, strides_show, strides_run}
+use Rattle.bn_board_laws.proofs.TravelledLemmas.{none_of, one_of}
 
 -- no moment where the test says so
 not_some : (o : Option ℕ) (a : ℕ) → not (is_some o) ≡ true → o ≡ Some a → ⊥
@@ -39,15 +40,6 @@ not_some (Some b) a h is = absurd (cc)
 silent : (o : Option ℕ) → is_some o ≡ false → not (is_some o) ≡ true
 silent None h = refl
 silent (Some b) h = absurd (cc)
-
--- what is counted of a test
-none_of : (b : Bool) → b ≡ false → one_if b ≡ 0
-none_of true h = absurd (cc)
-none_of false h = refl
-
-one_of : (b : Bool) → b ≡ true → one_if b ≡ 1
-one_of true h = refl
-one_of false h = absurd (cc)
 
 -- a count that is one and then some
 one_more : {a b c d e : ℕ} → a ≡ b → b ≡ c + d → c ≡ 1 → d ≡ e → a ≡ e + 1

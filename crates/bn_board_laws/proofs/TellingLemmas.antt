@@ -19,11 +19,12 @@ use Rattle.bn_network.specs.Controls.{out_number, IsFirstKept, final_kept, sent_
 use Rattle.bn_network.specs.ControlLaws.{HasEntries}
 use Rattle.bn_network.specs.Networks.{IsNetwork, IsNetWire, IsTape, commands, cells_in, first_cell}
 use Rattle.bn_circuits.specs.Circuits.{line_at}
+use Rattle.bn_board_spec.proofs.ReadingLemmas.{of_parts}
 use Rattle.bn_board_spec.specs.Boards.{base}
 use Rattle.bn_board_spec.specs.Layouts.{Layout, IsLayout, same_place, command_place, end_place, is_marked_at, is_sent}
 use Rattle.bn_board_spec.specs.Layouts.{moment_at, first_element, cell_element, lines_at}
 use Rattle.bn_board_spec.proofs.SameLemmas.{number_once}
-use Rattle.bn_board_spec.proofs.AgreedLemmas.{is_same_place, same_place_is, led_board}
+use Rattle.bn_board_spec.proofs.AgreedLemmas.{is_same_place, same_place_is, led_board, both_true}
 use Rattle.bn_board_spec.proofs.FirstLemmas.{position_at, position_holds}
 use Rattle.bn_board_spec.proofs.ModuleLemmas.{found}
 use Rattle.bn_board_spec.proofs.CommandLemmas.{IsCommandMove, entry-IsCommandMove, entry_low, final_low}
@@ -37,19 +38,13 @@ marked_flat : (states : List ℕ) (e : ℕ) → is_marked_at states e ≡ true �
 marked_flat [] e h = absurd (cc)
 marked_flat (v ∷ vs) zero h = elim (eqb_tells v 0) [
   | inl same ↦ ap (λ w. Some w) same.1
-  | inr apart
-      ↦ absurd (let other = apart.0 in cc)
+  | inr apart ↦ absurd (let other = apart.0 in cc)
 ]
 marked_flat (v ∷ vs) (suc e) h = marked_flat vs e h
 
 -- and one that lies flat is found marked
 flat_marked : (states : List ℕ) (e : ℕ) → slice_get states e ≡ Some horizontal → is_marked_at states e ≡ true
 flat_marked states e h = ap (λ v. v == 0) (get_or_from_slice_get states e horizontal 1 h)
-
--- both of two tests
-both_true : (a b : Bool) → (a && b) ≡ true → (a ≡ true) × (b ≡ true)
-both_true true b h = (refl, h)
-both_true false b h = absurd (cc)
 
 -- each tape has a cell
 some_cells : (l : Limits) (t : ℕ) → 0 < t → t ≤ 3 → 0 < cells_in l t
@@ -83,26 +78,8 @@ module _ (l : Limits) (names : List ControlState) (n : Circuit) where
   -- of any machine with three numbers of symbols
   pub commands_lead : (x y z : ℕ) (m : Quadruples) (b : Layout) → m.symbols ≡ x ∷ y ∷ z ∷ [] → IsLayout m l names b
       → CommandsLead m b
-  commands_lead x y z m b symbols kept =
-      let machine_is : m ≡ quadruples_of m.rules m.states (x ∷ y ∷ z ∷ []) =
-      λ i. record { rules = m.rules; states = m.states; symbols = symbols i } in
-      let letters_same : b.symbols ≡ x ∷ y ∷ z ∷ [] = kept.symbols ∙ symbols in
-      let layout_is : b ≡ record {
-        limits = l;
-        symbols = x ∷ y ∷ z
-            ∷ [];
-        states = length names;
-        firsts = b.firsts;
-        awaited = b.awaited;
-      } = λ i. record {
-        limits = kept.limits i;
-        symbols = letters_same i;
-        states = kept.states i;
-        firsts = b.firsts;
-        awaited = b.awaited;
-      } in
-      subst (λ v. CommandsLead v b) (sym machine_is) (subst (CommandsLead
-      (quadruples_of m.rules m.states (x ∷ y ∷ z ∷ []))) (sym layout_is) (lead_by_parts x y z m b))
+  commands_lead x y z m b symbols kept = of_parts (x ∷ y ∷ z ∷ []) l names CommandsLead (lead_by_parts x y z) m b
+      symbols kept
 
   module _ (m : Quadruples) (b : Layout) (network : IsNetwork m l names n) (numbering : IsNumbering m names)
       (kept : IsLayout m l names b) (quad : IsQuadMachine m) (entries : HasEntries m)

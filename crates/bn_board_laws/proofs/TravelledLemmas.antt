@@ -23,20 +23,17 @@ use Rattle.bn_circuits.proofs.CountingLemmas.{tallies-add, tally-zero}
 use Rattle.bn_board_spec.proofs.FollowedLemmas.{boards-follow}
 use Rattle.bn_rsm.proofs.RunCostLemmas.{cost-none, cost-joins, one_cost, cost_some, left_cost}
 use Rattle.bn_board_spec.proofs.LooseLemmas.{loose-move}
+use Rattle.bn_network_laws.proofs.PathLemmas.{negated}
 
-negated : (b : Bool) → b ≡ false → not b ≡ true
-negated true h = absurd (cc)
-negated false h = refl
-
-denied : (b : Bool) → not b ≡ true → b ≡ false
+pub denied : (b : Bool) → not b ≡ true → b ≡ false
 denied true h = absurd (cc)
 denied false h = refl
 
-one_of : (b : Bool) → b ≡ true → one_if b ≡ 1
+pub one_of : (b : Bool) → b ≡ true → one_if b ≡ 1
 one_of true h = refl
 one_of false h = absurd (cc)
 
-none_of : (b : Bool) → b ≡ false → one_if b ≡ 0
+pub none_of : (b : Bool) → b ≡ false → one_if b ≡ 0
 none_of true h = absurd (cc)
 none_of false h = refl
 
@@ -70,8 +67,7 @@ module _ (f : Flat) (test : Situation → Bool) (modules : AreModules f.network)
           run = run;
           stands = follow.2;
           steps = follow.3;
-          counted = once
-              ∙ ap one_if (agree.between t follow.0 follow.2);
+          counted = once ∙ ap one_if (agree.between t follow.0 follow.2);
         },
       )
 
@@ -137,8 +133,7 @@ module _ (f : Flat) (test : Situation → Bool) (modules : AreModules f.network)
   leaving (suc m) s t c stands path (inr none) room = let last =
       leg (suc m) s t c stands (omega arith) path room in (
         last.0,
-        subst (Leg (suc m) s t c last.0)
-            (none_of (test t) none) last.1,
+        subst (Leg (suc m) s t c last.0) (none_of (test t) none) last.1,
       )
 
   -- the end: nothing more, or the way to a loose line

@@ -23,6 +23,8 @@ use Rattle.bn_circuits.proofs.CountingLemmas.{tallies-add, tally-zero}
 use Rattle.bn_circuits.proofs.SituationLemmas.{turns-turn}
 use Rattle.bn_board_spec.proofs.FollowedLemmas.{boards-follow}
 use Rattle.bn_rsm.proofs.RunCostLemmas.{cost-none, cost-joins, cost_some}
+use Rattle.bn_network_laws.proofs.PathLemmas.{negated}
+use Rattle.bn_board_laws.proofs.TravelledLemmas.{denied as affirmed}
 
 -- one move at most leads on
 pub turns_once : (n : Circuit) (s t u : Situation) → Turns n s t → Turns n s u → t ≡ u
@@ -55,15 +57,6 @@ goes_on n m i s t x first run low =
 denied : (b : Bool) → not b ≡ true → b ≡ true → ⊥
 denied true h e = absurd (cc)
 denied false h e = absurd (cc)
-
--- a test that fails, and its denial
-negated : (b : Bool) → b ≡ false → not b ≡ true
-negated true h = absurd (cc)
-negated false h = refl
-
-affirmed : (b : Bool) → not b ≡ true → b ≡ false
-affirmed true h = absurd (cc)
-affirmed false h = refl
 
 module _ (f : Flat) (test : Situation → Bool) (modules : AreModules f.network) (board : IsBoard f.network f.circuit)
     (agree : MomentsAgree f test) where

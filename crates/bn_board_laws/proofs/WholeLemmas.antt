@@ -43,8 +43,7 @@ up_to_end k c cost t stuck =
       | inl past ↦ (
         cost,
         omega arith,
-        run_composes k c cost (t - cost) t (omega arith)
-            ∙ run-stuck k (run k c cost) stuck (t - cost),
+        run_composes k c cost (t - cost) t (omega arith) ∙ run-stuck k (run k c cost) stuck (t - cost),
       )
       | inr before ↦ (t, before, refl)
     ]

@@ -14,8 +14,7 @@ use Rattle.bn_network.specs.Networks.{IsTape, ShowsAllCells, cells_in, first_cel
 use Rattle.bn_network.specs.Moments.{IsMoment, IsMomentOf, TellsMoments, HasHeads}
 use Rattle.bn_board_spec.specs.Boards.{AreModules, StandsFor, IsAmid, IsLoose, board_start, base, size}
 use Rattle.bn_board_spec.specs.Layouts.{Layout, is_moment, moment_at, elements_of, symbol_count_at, lines_at}
-use Rattle.bn_board_spec.specs.Layouts.{cell_element}
-use Rattle.bn_board_spec.specs.Layouts.{end_place, cell_output, spelled_by, spelled_config}
+use Rattle.bn_board_spec.specs.Layouts.{cell_element, end_place, cell_output, spelled_by, spelled_config}
 
 -- Numbers agree, places and cells stand for what they are named after, a test tells moments on network and board alike,
 -- and the start has one head a tape.
@@ -27,8 +26,7 @@ pub record NetworkReads (m : Quadruples) (l : Limits) (word : List ℕ) (names :
   pub between : (s : Situation) (d : Config) → StandsFor n s d → is_moment b d ≡ test s
   pub amid : (s t : Situation) (d : Config) → IsAmid n s t d → is_moment b d ≡ false
   pub at_loose : (s : Situation) (d : Config) → IsLoose n s d → is_moment b d ≡ false
-  pub which : (s : Situation) (d : Config) (a : ℕ) → StandsFor n s d
-      → (moment_at b d ≡ Some a) ↔ IsMoment m names n s a
+  pub which : (s : Situation) (d : Config) (a : ℕ) → StandsFor n s d → (moment_at b d ≡ Some a) ↔ IsMoment m names n s a
   pub state : (s : Situation) (a : ℕ) (c : Configuration ℕ) → IsMoment m names n s a → IsMomentOf m l names n s c
       → c.state ≡ a
   pub heads : HasHeads m l (network_start m l word)

@@ -44,8 +44,7 @@ place_tells (Enter e i) (Enter f j) =
       | inl first ↦ (elim (eqb_tells i j) [
         | inl second ↦ inl (
           rw (first.0, second.0) refl,
-          λ k. Enter (first.1 k)
-              (second.1 k),
+          λ k. Enter (first.1 k) (second.1 k),
         )
         | inr second ↦ inr (rw (first.0, second.0) refl, λ h. second.1 (cc))
       ])
@@ -58,8 +57,7 @@ place_tells (Left e i) (Left f j) =
       | inl first ↦ (elim (eqb_tells i j) [
         | inl second ↦ inl (
           rw (first.0, second.0) refl,
-          λ k. Left (first.1 k)
-              (second.1 k),
+          λ k. Left (first.1 k) (second.1 k),
         )
         | inr second ↦ inr (rw (first.0, second.0) refl, λ h. second.1 (cc))
       ])
@@ -87,7 +85,7 @@ pub is_same_place : (p q : Place) → same_place p q ≡ true → p ≡ q
 is_same_place p q h = elim (place_tells p q) [ inl one ↦ one.1 | inr one ↦ absurd (let no = one.0 in cc) ]
 
 -- two tests that hold together
-both_true : (a b : Bool) → (a && b) ≡ true → (a ≡ true) × (b ≡ true)
+pub both_true : (a b : Bool) → (a && b) ≡ true → (a ≡ true) × (b ≡ true)
 both_true true b h = (refl, h)
 both_true false b h = absurd (cc)
 
@@ -198,8 +196,7 @@ module _ (rules : List (Rule ℕ)) (states x y z : ℕ) (l : Limits) (names : Li
     modules = record {
       circuit = network.circuit;
       some_states = λ e t h. (all_bank e t h).0;
-      some_lines = λ e t h.
-          (all_bank e t h).1;
+      some_lines = λ e t h. (all_bank e t h).1;
       square = λ e t h. (all_bank e t h).2;
     }
 
@@ -429,8 +426,7 @@ module _ (rules : List (Rule ℕ)) (states x y z : ℕ) (l : Limits) (names : Li
         in_control q None h = absurd (cc)
         in_control q (Some v) h = elim (eqb_tells v q) [
           | inl same ↦ ap (λ e. Some e) same.1
-          | inr apart
-              ↦ absurd (let no = apart.0 in cc)
+          | inr apart ↦ absurd (let no = apart.0 in cc)
         ]
 
     -- and where there is one, it holds

@@ -9,7 +9,7 @@ use Rattle.bn_board_spec.specs.Boards.{own, base, size, size_of}
 use Rattle.bn_board_spec.specs.BoardLaws.{ModulesAreBanks}
 
 -- a bank ends within the board
-base-within : (ts : List Table) (m : ℕ) (t : Table) → slice_get ts m ≡ Some t → base ts m + size_of t ≤ size ts
+pub base-within : (ts : List Table) (m : ℕ) (t : Table) → slice_get ts m ≡ Some t → base ts m + size_of t ≤ size ts
 base-within [] m t h = absurd (cc)
 base-within (u ∷ ts) zero t h =
     let same : u ≡ t = cc in

@@ -85,8 +85,7 @@ module _ (m : Quadruples) where
       record {
         tape = p.0;
         line = shift_line p.1;
-        is_tape = record
-            { low = omega (arith, place.0); high = omega (arith, place.1) };
+        is_tape = record { low = omega (arith, place.0); high = omega (arith, place.1) };
         command = shift-IsCommand p.1;
         in_range = shift-IsLineOf (symbol_count m p.0) p.1;
         is = ap (λ (j : ControlMove). j.1) h;

@@ -30,8 +30,7 @@ module _ (n k : Circuit) (modules : AreModules n) (board : IsBoard n k) (between
         c,
         subst (λ x. Passes (Goes k) test x c c) (sym none) refl,
         subst (λ x. StandsFor n x c) path stands,
-        omega
-            arith,
+        omega arith,
       )
   follow (suc m) s t c stands path room amid =
       let y = path.0 in

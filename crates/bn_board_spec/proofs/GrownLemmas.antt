@@ -48,8 +48,7 @@ module _ (n : Circuit) (modules : AreModules n) where
     out = h.out;
     into = h.into;
     table = h.table;
-    earlier = more h.out
-        h.earlier;
+    earlier = more h.out h.earlier;
     wired = h.wired;
     has = h.has;
     leaves = h.leaves;
@@ -119,13 +118,11 @@ module _ (n : Circuit) (modules : AreModules n) where
       }) from to) (IsGrown e (o + 1))
       (ws ++ record {
         from = bank_output_line (base n.tables e) t o;
-        to = bank_input_line (base n.tables into.element)
-            into.line;
+        to = bank_input_line (base n.tables into.element) into.line;
       } ∷ [])
       (more_wire (IsGrown e o) ws (record {
         from = bank_output_line (base n.tables e) t o;
-        to = bank_input_line
-            (base n.tables into.element) into.line;
+        to = bank_input_line (base n.tables into.element) into.line;
       }) are none_from none_to)
       forth back
     where
@@ -135,8 +132,7 @@ module _ (n : Circuit) (modules : AreModules n) where
         out = line_at e o;
         into = into;
         table = t;
-        listed = leads-IsSource n.wires (line_at e o) into
-            is;
+        listed = leads-IsSource n.wires (line_at e o) into is;
         wired = is;
         has = has;
         leaves = refl;
@@ -178,8 +174,7 @@ module _ (n : Circuit) (modules : AreModules n) where
         out = line_at e o;
         into = into;
         table = t;
-        earlier = inr
-            (refl, omega arith);
+        earlier = inr (refl, omega arith);
         wired = is;
         has = has;
         leaves = h.leaves;
@@ -189,8 +184,7 @@ module _ (n : Circuit) (modules : AreModules n) where
       back : (from to : Line) → IsGrown e (o + 1) from to → IsGrown e o from to
           ⊎ IsWire (record {
             from = bank_output_line (base n.tables e) t o;
-            to = bank_input_line
-                (base n.tables into.element) into.line;
+            to = bank_input_line (base n.tables into.element) into.line;
           }) from to
       back from to (inl h) = inl (inl h)
       back from to (inr h) = elim h.earlier [

@@ -1,10 +1,9 @@
 -- The numbers of symbols of a translated machine, and of its layout.
 use Rattle.bn_network.specs.Networks.{IsTape}
 use Rattle.bn_quad.specs.Quadruples.{Quadruples}
-use Rattle.bn_machine.specs.declared.quint.Shift.TheVariants.{Stay}
 use Rattle.std.specs.Prelude.{◌≡◌, ℕ, ◌<◌, ◌≤◌, List, [], ◌∷◌, length, All, slice_index, refl}
 use Rattle.std.proofs.Common.{zero, suc, arith, sym, ap, subst, ◌∙◌}
-use Rattle.bn_machine.specs.Machine.{Program, IsInRange, IsMachine}
+use Rattle.bn_machine.specs.Machine.{Program, IsInRange}
 use Rattle.bn_machine.specs.declared.quint.Quint.{Quint}
 use Rattle.bn_machine.specs.Outcome.{Limits}
 use Rattle.bn_bennett_laws.specs.List.{symbols_of}
@@ -44,11 +43,6 @@ module _ (p : Program) (word : List ℕ) (l : Limits) (f : Flat) (flat : IsFlatO
       by_tape (suc (suc (suc zero))) low high = some_symbol p.states p.symbols p.quints accepted.standard.machine.some
           accepted.standard.machine.in_range
       by_tape (suc (suc (suc (suc t)))) low high = absurd (omega arith)
-
--- a machine has a symbol, and so has each tape of its translation
-pub some_symbols : (p : Program) → IsMachine p → 0 < p.symbols
-some_symbols p h = let first = h.in_range 0 (record { state = 0; read = 0; write = 0; shift = Stay; next = 0 }) h.some
-    in omega (arith, first.read)
 
 pub tape_letters : (p : Program) (m : Quadruples) → 0 < p.symbols → (t : ℕ) → IsTape t
     → 0 < symbol_count (record { rules = m.rules; states = m.states; symbols = symbols_of p }) t

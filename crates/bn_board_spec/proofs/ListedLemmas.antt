@@ -21,7 +21,8 @@ use Rattle.bn_board_spec.specs.Boards.{AreModules, IsBoard, IsBoardWire, own, be
 use Rattle.bn_board_spec.specs.BoardLaws.{BoardsAreThere}
 use Rattle.bn_board_spec.proofs.MovedLemmas.{in_bank}
 use Rattle.bn_net.proofs.WireListLemmas.{line_tells}
-use Rattle.bn_board_spec.proofs.ModuleLemmas.{found, replicated, bank_within, one_table, banks_apart, output_table}
+use Rattle.bn_board_spec.proofs.ModuleLemmas.{found, replicated, one_table, banks_apart, output_table}
+use Rattle.bn_board_spec.proofs.BankedLemmas.{base-within as bank_within}
 use Rattle.bn_board_spec.proofs.ModuleLemmas.{wired_output, wired_input, output_once, input_once}
 
 -- the line is where one of the list's wires begins
@@ -185,8 +186,7 @@ module _ (n : Circuit) (modules : AreModules n) where
       again : IsSource vs v.from → (from to : Line) → IsBetweenOf (v ∷ vs) from to → IsBetweenOf vs from to
       again is from to h = elim h.listed [
         | inl same ↦ fewer_listed v vs from to h (subst (IsSource vs) same is)
-        | inr
-            there ↦ fewer_listed v vs from to h there
+        | inr there ↦ fewer_listed v vs from to h there
       ]
 
       -- or it isn't one of the network's
@@ -203,8 +203,7 @@ module _ (n : Circuit) (modules : AreModules n) where
           → (xs : List Wire) × AreWiresOf (IsBetweenOf (v ∷ vs)) xs
       by_target new None is ws are = (
         ws,
-        same_wires (IsBetweenOf vs) (IsBetweenOf (v ∷ vs)) ws are (more_listed v vs)
-            (never is),
+        same_wires (IsBetweenOf vs) (IsBetweenOf (v ∷ vs)) ws are (more_listed v vs) (never is),
       )
       by_target new (Some into) is ws are =
           let there = output_at v.from into is in
@@ -249,8 +248,7 @@ module _ (n : Circuit) (modules : AreModules n) where
           first : (t : Table) (into : Line) → target n.wires v.from ≡ Some into
               → slice_get n.tables v.from.element ≡ Some t → (from to : Line)
               → IsBetweenOf vs from to ⊎ IsWire (record {
-                from = bank_output_line (base n.tables v.from.element) t
-                    v.from.line;
+                from = bank_output_line (base n.tables v.from.element) t v.from.line;
                 to = bank_input_line (base n.tables into.element) into.line;
               }) from to
               → IsBetweenOf (v ∷ vs) from to
@@ -270,8 +268,7 @@ module _ (n : Circuit) (modules : AreModules n) where
               → slice_get n.tables v.from.element ≡ Some t → (from to : Line)
               → IsBetweenOf (v ∷ vs) from to
               → IsBetweenOf vs from to ⊎ IsWire (record {
-                from = bank_output_line (base n.tables v.from.element) t
-                    v.from.line;
+                from = bank_output_line (base n.tables v.from.element) t v.from.line;
                 to = bank_input_line (base n.tables into.element) into.line;
               }) from to
           second t into is has from to h =
@@ -294,8 +291,7 @@ module _ (n : Circuit) (modules : AreModules n) where
           × AreWiresOf (IsBetweenOf (v ∷ vs)) xs
       by_case (inl is) rest = (
         rest.0,
-        same_wires (IsBetweenOf vs) (IsBetweenOf (v ∷ vs)) rest.0 rest.1
-            (more_listed v vs) (again is),
+        same_wires (IsBetweenOf vs) (IsBetweenOf (v ∷ vs)) rest.0 rest.1 (more_listed v vs) (again is),
       )
       by_case (inr new) rest = by_target new (target n.wires v.from) refl rest.0 rest.1
 
@@ -422,8 +418,7 @@ module _ (n : Circuit) (modules : AreModules n) where
       record {
         from_element = omega (arith, lines.from_high);
         from_line = lines.from_line;
-        to_element = omega
-            (arith, lines.to_high);
+        to_element = omega (arith, lines.to_high);
         to_line = lines.to_line;
       }
   within from to (between out into t wired has leaves ends) =
@@ -436,8 +431,7 @@ module _ (n : Circuit) (modules : AreModules n) where
       rw (leaves, ends) (record {
         from_element = omega (arith, place.1);
         from_line = omega arith;
-        to_element = omega
-            (arith, place'.1);
+        to_element = omega (arith, place'.1);
         to_line = omega arith;
       })
 

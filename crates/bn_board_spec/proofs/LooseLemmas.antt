@@ -27,7 +27,8 @@ use Rattle.bn_board_spec.proofs.BankedLemmas.{modules-banks}
 use Rattle.bn_board_spec.proofs.MovedLemmas.{in_bank, other_bank, kept, marks}
 
 module _ (n k : Circuit) (modules : AreModules n) (board : IsBoard n k) where
-  no_turning_wire : (e q i : ℕ) (t : Table) (to : Line) → slice_get n.tables e ≡ Some t → q < t.states → i < t.inputs
+  pub no_turning_wire : (e q i : ℕ) (t : Table) (to : Line) → slice_get n.tables e ≡ Some t → q < t.states
+      → i < t.inputs
       → t.go q i ≡ None
       → IsBoardWire n (turning_line (base n.tables e) t q i) to → ⊥
   no_turning_wire e q i t to has state row none (own m u is wire) =
@@ -95,8 +96,7 @@ module _ (n k : Circuit) (modules : AreModules n) (board : IsBoard n k) where
       state = rests.0;
       line = row;
       resting = rests.1;
-      enters = stands.place
-          ∙ ap (on_board n.tables) enters;
+      enters = stands.place ∙ ap (on_board n.tables) enters;
     }
 
     cost : step_cost n s ≡ table_cost u q i

@@ -10,7 +10,7 @@ use Rattle.bn_circuits.proofs.StepLemmas.{same_lines}
 use Rattle.bn_circuits.specs.declared.line.Line.{Line}
 use Rattle.bn_realise.specs.Banks.{column_at, bank_input_line, bank_output_line}
 use Rattle.bn_realise.proofs.BankWiresLemmas.{column_once}
-use Rattle.bn_board_spec.specs.Boards.{AreModules, base, size, size_of}
+use Rattle.bn_board_spec.specs.Boards.{AreModules, base, size_of}
 use Rattle.bn_board_spec.proofs.MovedLemmas.{in_bank, other_bank}
 
 -- an element of a list, by its place
@@ -46,17 +46,6 @@ output_table ts e i low = by_table (slice_get ts e) refl low
         × (i < t.outputs)
     by_table None is low = absurd (omega arith)
     by_table (Some t) is low = (t, is, low)
-
--- a bank ends within the board
-pub bank_within : (ts : List Table) (m : ℕ) (t : Table) → slice_get ts m ≡ Some t → base ts m + size_of t ≤ size ts
-bank_within [] m t h = absurd (cc)
-bank_within (u ∷ ts) zero t h =
-    let same : u ≡ t = cc in
-    let sizes : size_of u ≡ size_of t = ap size_of same in
-    omega arith
-bank_within (u ∷ ts) (suc m) t h =
-    let rest = bank_within ts m t h in
-    omega arith
 
 -- one table stands at a place
 pub one_table : (ts : List Table) (m e : ℕ) (t u : Table) → m ≡ e → slice_get ts m ≡ Some t → slice_get ts e ≡ Some u

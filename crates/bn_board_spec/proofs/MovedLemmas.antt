@@ -181,8 +181,7 @@ module _ (n k : Circuit) (modules : AreModules n) (board : IsBoard n k) where
           state = rests.0;
           line = departs.1;
           resting = rests.1;
-          enters = stands.place
-              ∙ ap (on_board n.tables) g.enters;
+          enters = stands.place ∙ ap (on_board n.tables) g.enters;
         }
 
     cost : step_cost n s ≡ table_cost u g.before g.input

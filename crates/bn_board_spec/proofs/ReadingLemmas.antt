@@ -32,6 +32,25 @@ use Rattle.bn_board_spec.proofs.AgreedLemmas.{quiet, end, cell_exit, loose_exit,
 use Rattle.bn_board_spec.proofs.StartingLemmas.{starts, heads}
 use Rattle.bn_board_spec.proofs.SpellingLemmas.{spells, spells_loose}
 
+-- what holds of a machine and a layout that are given by their parts holds of any with these numbers of symbols
+pub of_parts : (zs : List ℕ) (l : Limits) (names : List ControlState) (P : Quadruples → Layout → Type 0)
+    → ((m : Quadruples) (b : Layout) → P (quadruples_of m.rules m.states zs)
+    (record { limits = l; symbols = zs; states = length names; firsts = b.firsts; awaited = b.awaited }))
+    → (m : Quadruples) (b : Layout) → m.symbols ≡ zs → IsLayout m l names b → P m b
+of_parts zs l names P by_parts m b symbols kept =
+    let machine_is : m ≡ quadruples_of m.rules m.states zs =
+    λ i. record { rules = m.rules; states = m.states; symbols = symbols i } in
+    let letters_same : b.symbols ≡ zs = kept.symbols ∙ symbols in
+    let layout_is : b
+    ≡ record { limits = l; symbols = zs; states = length names; firsts = b.firsts; awaited = b.awaited } = λ i. record {
+      limits = kept.limits i;
+      symbols = letters_same i;
+      states = kept.states i;
+      firsts = b.firsts;
+      awaited = b.awaited;
+    } in
+    subst (λ v. P v b) (sym machine_is) (subst (P (quadruples_of m.rules m.states zs)) (sym layout_is) (by_parts m b))
+
 -- what is read off the board of a machine's network
 pub record Readings (m : Quadruples) (l : Limits) (word : List ℕ) (names : List ControlState) (n : Circuit) (b : Layout)
     (test : Situation
@@ -125,26 +144,7 @@ module _ (p : Program) (l : Limits) (word : List ℕ) (names : List ControlState
 
   -- of any machine with those numbers of symbols
   of_machine : (m : Quadruples) (b : Layout) → m.symbols ≡ symbols_of p → IsLayout m l names b → HasReadings m b
-  of_machine m b symbols kept =
-      let machine_is : m ≡ quadruples_of m.rules m.states (symbols_of p) =
-      λ i. record { rules = m.rules; states = m.states; symbols = symbols i } in
-      let letters_same : b.symbols ≡ symbols_of p = kept.symbols ∙ symbols in
-      let layout_is : b ≡ record {
-        limits = l;
-        symbols = symbols_of p;
-        states = length names;
-        firsts = b.firsts;
-        awaited = b.awaited;
-      } = λ i. record {
-        limits = kept.limits i;
-        symbols = letters_same i;
-        states = kept.states
-            i;
-        firsts = b.firsts;
-        awaited = b.awaited;
-      } in
-      subst (λ v. HasReadings v b) (sym machine_is) (subst (HasReadings (quadruples_of m.rules m.states (symbols_of p)))
-      (sym layout_is) (by_parts m b))
+  of_machine m b symbols kept = of_parts (symbols_of p) l names HasReadings by_parts m b symbols kept
 
 -- the readings of a flat
 pub flat-Readings : TranslationsAreUniform → StatesHaveEntries → (p : Program) (f : Flat) → IsFlatOf p f.word f.limits f

@@ -44,11 +44,9 @@ pub networks_one : (m : Quadruples) (l : Limits) (names : List ControlState) (k 
     → IsNetwork m l names n → AreAlike k n
 networks_one m l names k n one a b =
     record {
-      tables = a.tables ∙ ap (module_tables m l) (one a.control b.control a.is_control b.is_control)
-          ∙ sym b.tables;
+      tables = a.tables ∙ ap (module_tables m l) (one a.control b.control a.is_control b.is_control) ∙ sym b.tables;
       targets = targets;
-      sources = sources_one k.wires n.wires a.circuit.one_to_one
-          b.circuit.one_to_one targets;
+      sources = sources_one k.wires n.wires a.circuit.one_to_one b.circuit.one_to_one targets;
     }
   where
     targets : (from : Line) → target k.wires from ≡ target n.wires from
@@ -68,18 +66,15 @@ alike_back : (n o : Circuit) → AreAlike n o → AreAlike o n
 alike_back n o a = record {
   tables = sym a.tables;
   targets = λ from. sym (a.targets from);
-  sources = λ to. sym
-      (a.sources to);
+  sources = λ to. sym (a.sources to);
 }
 
 boards_one : (n o k j : Circuit) → AreAlike n o → IsBoard n k → IsBoard o j → AreAlike k j
 boards_one n o k j alike a b =
     record {
-      tables = a.tables ∙ ap (λ ts. replicate (size ts) rotary) alike.tables
-          ∙ sym b.tables;
+      tables = a.tables ∙ ap (λ ts. replicate (size ts) rotary) alike.tables ∙ sym b.tables;
       targets = targets;
-      sources = sources_one k.wires j.wires a.circuit.one_to_one
-          b.circuit.one_to_one targets;
+      sources = sources_one k.wires j.wires a.circuit.one_to_one b.circuit.one_to_one targets;
     }
   where
     targets : (from : Line) → target k.wires from ≡ target j.wires from

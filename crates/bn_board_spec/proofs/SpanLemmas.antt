@@ -1,5 +1,5 @@
 -- What the cells of a board show spans the window, whatever its bars are.
-use Rattle.std.specs.Prelude.{◌≡◌, ℕ, ◌+◌, ◌-◌, ◌*◌, ◌<◌, ℤ, pos, ◌-ℤ◌, List, map, position, Option, Some, None, refl}
+use Rattle.std.specs.Prelude.{◌≡◌, ℕ, ◌+◌, ◌-◌, ◌*◌, ◌<◌, ℤ, pos, ◌-ℤ◌, List, position, Option, Some, None, refl}
 use Rattle.std.specs.Prelude.{slice_get, nat_lt, if◌then◌else◌, Bool, true, false}
 use Rattle.std.specs.List.{range_with_len}
 use Rattle.std.specs.Option.{option_map}

@@ -99,8 +99,7 @@ state_marked states c k n q low rests = position_at (λ j. is_marked_at states (
         let place : v < n = omega arith in
         mark v place ∙ elim (eqb_tells q v) [
           | inl alike ↦ absurd (let e = alike.1 in omega arith)
-          | inr apart
-              ↦ apart.0
+          | inr apart ↦ apart.0
         ]
 
 module _ (rules : List (Rule ℕ)) (states x y z : ℕ) (l : Limits) (names : List ControlState) (n : Circuit)

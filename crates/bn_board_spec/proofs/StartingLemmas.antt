@@ -52,7 +52,7 @@ row_below (suc c) u rest (p ∷ qs) more count each below (suc e) t q h k =
     row_below c u rest qs more (omega arith) (λ i. each (suc i)) below e t q h k
 
 -- the states of a tape's cells
-each_below : (f : ℕ → ℕ) (k : ℕ) → ((j : ℕ) → f j < k) → (a n e q : ℕ)
+pub each_below : (f : ℕ → ℕ) (k : ℕ) → ((j : ℕ) → f j < k) → (a n e q : ℕ)
     → slice_get (map f (range_with_len a n)) e ≡ Some q → q < k
 each_below f k low a zero e q h = absurd (cc)
 each_below f k low a (suc n) zero q h = let same : f a ≡ q = cc in subst (λ x. x < k) same (low a)
@@ -65,7 +65,7 @@ letter_low z word some all (pos (suc k)) = elim (cases_lt k (length word))
 letter_low z word some all (negsuc k) = some
 
 -- a cell's state is one of its table's
-state_low : (z s : ℕ) (b : Bool) → s < z → state_number z (if b then Head s else Plain s) < 2 * z
+pub state_low : (z s : ℕ) (b : Bool) → s < z → state_number z (if b then Head s else Plain s) < 2 * z
 state_low z s true low = omega arith
 state_low z s false low = omega arith
 
@@ -80,7 +80,7 @@ start_below z left right word some all e q h =
     (letter_low z word some all (pos j -ℤ pos left)))) 0 (left + right + 1) e q h
 
 -- the state of one of a tape's cells
-map_get : (f : ℕ → ℕ) (a n i e : ℕ) → i < n → e ≡ a + i → slice_get (map f (range_with_len a n)) i ≡ Some (f e)
+pub map_get : (f : ℕ → ℕ) (a n i e : ℕ) → i < n → e ≡ a + i → slice_get (map f (range_with_len a n)) i ≡ Some (f e)
 map_get f a zero i e low same = absurd (omega arith)
 map_get f a (suc n) zero e low same = let is : a ≡ e = omega arith in ap (λ v. Some (f v)) is
 map_get f a (suc n) (suc i) e low same = map_get f (a + 1) n i e (omega arith) (omega arith)
@@ -92,12 +92,12 @@ start_get z left right word p low = map_get (λ j. state_number z (cell_of (word
     (left + right + 1) p p low (omega arith)
 
 -- a cell whose state has a number from the heads on has the head
-has_head : (z s : ℕ) (b : Bool) → s < z → z ≤ state_number z (if b then Head s else Plain s) → b ≡ true
+pub has_head : (z s : ℕ) (b : Bool) → s < z → z ≤ state_number z (if b then Head s else Plain s) → b ≡ true
 has_head z s true low high = refl
 has_head z s false low high = absurd (omega arith)
 
 -- the empty word
-no_letters : (z : ℕ) → All (λ s. s < z) []
+pub no_letters : (z : ℕ) → All (λ s. s < z) []
 no_letters z k d low = absurd (omega arith)
 
 -- a tape's cells at the start

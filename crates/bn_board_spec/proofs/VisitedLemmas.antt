@@ -66,8 +66,7 @@ module _ (n k : Circuit) (modules : AreModules n) (board : IsBoard n k) (test : 
                   at = at.at;
                   run = (y, path.1, at.run);
                   sum = omega arith;
-                  stands = subst
-                      (StandsFor n at.at) (sym there) at.stands;
+                  stands = subst (StandsFor n at.at) (sym there) at.stands;
                 }))
             | inr holds ↦ inr (ap test there ∙ holds)
           ]

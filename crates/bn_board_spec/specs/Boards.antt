@@ -1,8 +1,7 @@
 -- The flat board of any circuit of modules (this project's own profile): each module as its bank of columns of rotary
 -- elements, one bank after another. It knows nothing of tapes, cells or controls.
 use Rattle.std.specs.Prelude.{◌≡◌, ◌≢◌, ◌↔◌, ℕ, zero, suc, ◌+◌, ◌*◌, ◌<◌, List, [], ◌∷◌, ◌++◌, length, replicate}
-use Rattle.std.specs.Prelude.{Option}
-use Rattle.std.specs.Prelude.{Some, None, slice_get, slice_set, ◌⊎◌}
+use Rattle.std.specs.Prelude.{Option, Some, None, slice_get, slice_set, ◌⊎◌}
 use Rattle.bn_element.specs.Tables.{Table}
 use Rattle.bn_circuits.specs.Circuits.{Circuit, target, IsCircuit, IsPlace}
 use Rattle.bn_circuits.specs.declared.line.Line.{Line}

@@ -22,8 +22,7 @@ use Rattle.bn_board_spec.specs.declared.spelled.Spelled.{Spelled}
 use Rattle.bn_network.specs.declared.cell_line.CellLine.TheVariants.{Read, TakeRight, TakeLeft}
 use Rattle.bn_circuits.specs.Counting.{tally, one_if}
 use Rattle.bn_network.specs.Cells.{line_number, cell_line_count}
-use Rattle.bn_network.specs.Controls.{ControlState, Reads, Tape as to_tape, IsEntry, lines_before}
-use Rattle.bn_network.specs.Controls.{IsFirstKept}
+use Rattle.bn_network.specs.Controls.{ControlState, Reads, Tape as to_tape, IsEntry, lines_before, IsFirstKept}
 use Rattle.bn_network.specs.Networks.{cells_in, left_of, bank_size, cell_size}
 
 -- What a board keeps beside its net: the limits; the numbers of symbols; how many states the control has; for each

@@ -11,8 +11,7 @@ use Rattle.bn_board_spec.specs.Boards.{AreModules, StandsFor, IsAmid, IsLoose, s
 use Rattle.bn_element.specs.Rotary.{west}
 use Rattle.bn_realise.specs.Banks.{column_at}
 use Rattle.bn_board_spec.specs.Layouts.{is_moment, elements_of, end_place, cell_output, symbol_count_at, lines_at}
-use Rattle.bn_board_spec.specs.Layouts.{spelled_by}
-use Rattle.bn_board_spec.specs.Layouts.{spelled_config}
+use Rattle.bn_board_spec.specs.Layouts.{spelled_by, spelled_config}
 use Rattle.bn_board_spec.specs.Flats.{Flat, machine_of, situation_at_start, flat_start}
 
 -- the elements of the board, by the machine, the limits and the control's number of states

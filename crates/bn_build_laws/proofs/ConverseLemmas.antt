@@ -26,7 +26,8 @@ use Rattle.bn_build_laws.specs.Runs.{EndsInWindow}
 use Rattle.bn_build_laws.specs.Laws.{BuildsTellTheirMachine, BuildsEndOnce}
 use Rattle.bn_build_laws.proofs.ComingLemmas.{first_moment, comes}
 use Rattle.bn_build_laws.proofs.TravelLemmas.{MomentsAgree, leg, come_by}
-use Rattle.bn_build_laws.proofs.RunLemmas.{none_low, run_of}
+use Rattle.bn_build_laws.proofs.RunLemmas.{run_of}
+use Rattle.bn_board_spec.proofs.StartingLemmas.{no_letters as none_low}
 use Rattle.bn_build_laws.proofs.StuckLemmas.{stops_later, stops_once}
 use Rattle.bn_erase_laws.proofs.InverseDecidedLemmas.{goes_or_ends}
 
@@ -102,8 +103,7 @@ module _ (f : Build) (is : IsBuild f) (test : Situation → Bool) (tells : Tells
               record {
                 runs = (
                   step.0,
-                  steps_goes (rooms_of f.limits) f.machine is.is_network.uniform.deterministic c step.0
-                      step.1,
+                  steps_goes (rooms_of f.limits) f.machine is.is_network.uniform.deterministic c step.0 step.1,
                   rest.3.runs,
                 );
                 ends = rest.3.ends;

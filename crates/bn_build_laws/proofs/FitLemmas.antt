@@ -13,7 +13,7 @@ use Rattle.bn_board_laws.proofs.NetworkReadLemmas.{networks-read}
 use Rattle.bn_build_laws.specs.Builds.{Build, IsBuild, IsStart}
 use Rattle.bn_build_laws.specs.Runs.{EndsInWindow}
 use Rattle.bn_build_laws.proofs.ComingLemmas.{first_moment, strides}
-use Rattle.bn_build_laws.proofs.RunLemmas.{none_low}
+use Rattle.bn_board_spec.proofs.StartingLemmas.{no_letters as none_low}
 
 tape_fits : (states : List ℕ) (first z left right : ℕ) (x : Tape) → ShowsTape states first z left right x
     → FitsTape z left right x

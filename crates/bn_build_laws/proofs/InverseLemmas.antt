@@ -14,7 +14,7 @@ use Rattle.bn_board_laws.proofs.NetworkReadLemmas.{networks-read}
 use Rattle.bn_network.specs.Starts.{FitsWindow}
 use Rattle.bn_build_laws.specs.Laws.{InverseBuildsRunBack}
 use Rattle.bn_build_laws.proofs.ComingLemmas.{first_moment, strides}
-use Rattle.bn_build_laws.proofs.RunLemmas.{none_low}
+use Rattle.bn_board_spec.proofs.StartingLemmas.{no_letters as none_low}
 use Rattle.bn_build_laws.proofs.StartLemmas.{builds-start-anywhere}
 
 -- what cells show stands in the window

@@ -13,8 +13,7 @@ use Rattle.bn_realise.specs.Banks.{column_at}
 use Rattle.bn_network.specs.declared.cell_line.CellLine.TheVariants.{TakeRight, TakeLeft, Read}
 use Rattle.bn_network.specs.Cells.{line_number}
 use Rattle.bn_network.specs.Controls.{Reads, End, Tape as to_tape, ControlMove, IsEntry, finishes, leaves, waits}
-use Rattle.bn_network.specs.Controls.{IsNotLeft, symbol_count}
-use Rattle.bn_network.specs.Controls.{lines_before}
+use Rattle.bn_network.specs.Controls.{IsNotLeft, symbol_count, lines_before}
 use Rattle.bn_network.specs.Networks.{cells_in, first_cell}
 use Rattle.bn_network_laws.specs.Ends.{EndsBy, by_end, by_stop, by_right, by_left, tape_of, left_at, taken_from}
 use Rattle.bn_network_laws.proofs.ShownLemmas.{all_cells}
@@ -27,7 +26,7 @@ use Rattle.bn_board_spec.proofs.AgreedLemmas.{some_cells}
 use Rattle.bn_board_laws.specs.NetworkReads.{NetworkReads}
 use Rattle.bn_build_laws.specs.Builds.{Build, IsBuild}
 use Rattle.bn_build_laws.specs.Exits as end
-use Rattle.bn_build_laws.specs.Exits.{IsStopLine, BoardLeaves}
+use Rattle.bn_build_laws.specs.Exits.{BoardLeaves}
 use Rattle.bn_build_laws.proofs.NetworkRuns.{EndsSo, early, at_read}
 
 module _ (f : Build) (is : IsBuild f) (word : List ℕ) (test : Situation

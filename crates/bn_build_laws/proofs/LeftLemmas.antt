@@ -23,7 +23,8 @@ use Rattle.bn_build_laws.specs.Laws.{BuildsAreLeftByTheirMachine}
 use Rattle.bn_build_laws.proofs.ComingLemmas.{first_moment}
 use Rattle.bn_build_laws.proofs.PieceLemmas.{Strode, agree, begun, counted_as, sooner, stride, tail, tells}
 use Rattle.bn_build_laws.proofs.TravelLemmas.{leg}
-use Rattle.bn_build_laws.proofs.RunLemmas.{none_low, stuck_at}
+use Rattle.bn_board_spec.proofs.StartingLemmas.{no_letters as none_low}
+use Rattle.bn_board_laws.proofs.ExitedLemmas.{stuck_at}
 use Rattle.bn_build_laws.proofs.StuckLemmas.{stops_later, stops_once}
 use Rattle.bn_erase_laws.proofs.InverseDecidedLemmas.{goes_or_ends}
 

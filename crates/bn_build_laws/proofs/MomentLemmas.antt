@@ -27,8 +27,9 @@ use Rattle.bn_build_laws.specs.Laws.{BuildsShowTheirMachine}
 use Rattle.bn_build_laws.proofs.ComingLemmas.{first_moment}
 use Rattle.bn_build_laws.proofs.OnceLemmas.{start_spells}
 use Rattle.bn_build_laws.proofs.PieceLemmas.{Strode, agree, begun, counted_as, sooner, stride, tail}
-use Rattle.bn_build_laws.proofs.TravelLemmas.{Leg, leg, one_of}
-use Rattle.bn_build_laws.proofs.RunLemmas.{none_low}
+use Rattle.bn_build_laws.proofs.TravelLemmas.{Leg, leg}
+use Rattle.bn_board_laws.proofs.TravelledLemmas.{one_of}
+use Rattle.bn_board_spec.proofs.StartingLemmas.{no_letters as none_low}
 use Rattle.bn_build_laws.proofs.StuckLemmas.{no_longer, rest_of}
 use Rattle.bn_erase_laws.proofs.InverseDecidedLemmas.{goes_or_ends}
 
@@ -110,8 +111,7 @@ module _ (f : Build) (is : IsBuild f) (test : Situation → Bool)
     seek : (fuel t : ℕ) (s : Situation) (c : Configuration ℕ) (a x : Config) → t ≤ fuel → StandsFor f.network s a
         → IsMomentOf f.machine f.limits f.names f.network s c → Reaches (Goes f.circuit) t a x
         → (q : ℕ) → moment_at f.layout x ≡ Some q → ShowsMoment f c q x.states
-    seek fuel zero s c a x low stands now run q h =
-        at_once s c x (subst (StandsFor f.network s) run stands) now q h
+    seek fuel zero s c a x low stands now run q h = at_once s c x (subst (StandsFor f.network s) run stands) now q h
     seek zero (suc t) s c a x low stands now run q h = absurd (omega arith)
     seek (suc fuel) (suc t) s c a x low stands now run q h =
         elim (goes_or_ends (rooms_of f.limits) f.machine.rules (final_state_of f.machine.rules) c) [

@@ -22,7 +22,7 @@ use Rattle.bn_board_spec.proofs.SpellingLemmas.{range_get}
 use Rattle.bn_board_laws.proofs.NetworkReadLemmas.{networks-read}
 use Rattle.bn_build_laws.specs.Builds.{Build, IsBuild, IsStart}
 use Rattle.bn_build_laws.proofs.FitLemmas.{fits}
-use Rattle.bn_build_laws.proofs.RunLemmas.{none_low}
+use Rattle.bn_board_spec.proofs.StartingLemmas.{no_letters as none_low}
 
 -- ---- tapes in a window that spell one
 

@@ -26,8 +26,9 @@ use Rattle.bn_build_laws.specs.Builds.{Build, IsBuild, build_elements}
 use Rattle.bn_build_laws.specs.Exits.{BoardLeaves}
 use Rattle.bn_build_laws.proofs.ComingLemmas.{ended}
 use Rattle.bn_build_laws.proofs.LeavingLemmas.{left_so}
-use Rattle.bn_build_laws.proofs.TravelLemmas.{MomentsAgree, at_end, leaving, leg, one_of}
-use Rattle.bn_build_laws.proofs.RunLemmas.{stuck_at}
+use Rattle.bn_build_laws.proofs.TravelLemmas.{MomentsAgree, at_end, leaving, leg}
+use Rattle.bn_board_laws.proofs.TravelledLemmas.{one_of}
+use Rattle.bn_board_laws.proofs.ExitedLemmas.{stuck_at}
 
 -- ---- the clock put back
 

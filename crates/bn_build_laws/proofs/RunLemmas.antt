@@ -1,13 +1,13 @@
 -- The board's run to its exit.
-use Rattle.std.specs.Prelude.{◌≡◌, ℕ, ◌+◌, ◌<◌, Bool, false, [], All, refl}
+use Rattle.std.specs.Prelude.{◌≡◌, ℕ, ◌+◌, Bool, false, [], refl}
 use Rattle.std.proofs.Common.{arith, sym, ap, subst, ◌∙◌}
 use Rattle.bn_lists.specs.Runs.{Reaches}
-use Rattle.bn_circuits.specs.Circuits.{Circuit, Goes, IsStuck}
+use Rattle.bn_circuits.specs.Circuits.{Goes, IsStuck}
 use Rattle.bn_circuits.specs.Situations.{Situation}
 use Rattle.bn_circuits.specs.Counting.{one_if}
 use Rattle.bn_circuits.specs.Stepping.{run}
 use Rattle.bn_circuits.proofs.RunLemmas.{Reaches-run}
-use Rattle.bn_circuits.specs.declared.place.Place.TheVariants.{Enter, Left}
+use Rattle.bn_circuits.specs.declared.place.Place.TheVariants.{Enter}
 use Rattle.bn_circuits.specs.declared.config.Config.{Config}
 use Rattle.bn_quad.specs.Quadruples.{Configuration}
 use Rattle.bn_bennett_laws.specs.Steps.{Exit}
@@ -25,15 +25,8 @@ use Rattle.bn_build_laws.specs.Laws.{BuildsRunToTheirExit}
 use Rattle.bn_build_laws.proofs.ComingLemmas.{comes}
 use Rattle.bn_build_laws.proofs.TravelLemmas.{MomentsAgree, BoardComes, come}
 use Rattle.bn_build_laws.proofs.LeavingLemmas.{left_so}
-
--- no letter is out of range where there is none
-pub none_low : (z : ℕ) → All (λ s. s < z) []
-none_low z k d low = absurd (omega arith)
-
--- a signal that has left makes no step
-pub stuck_at : (k : Circuit) (d : Config) (e l : ℕ) → d.place ≡ Left e l → IsStuck k d
-stuck_at k d e l h = λ x g. let both : Left e l ≡ Enter g.crosses.element g.crosses.input = sym h ∙ g.crosses.enters in
-    cc
+use Rattle.bn_board_laws.proofs.ExitedLemmas.{stuck_at}
+use Rattle.bn_board_spec.proofs.StartingLemmas.{no_letters as none_low}
 
 none_of : (b : Bool) → b ≡ false → one_if b ≡ 0
 none_of b h = ap one_if h

@@ -19,8 +19,7 @@ builds-start-anywhere f is c initial fits =
     }
 
 pub words-fit : WordsFit
-words-fit f is one two three inputs =
-    inputs-fit f.machine f.limits is.is_network.symbols one two three inputs
+words-fit f is one two three inputs = inputs-fit f.machine f.limits is.is_network.symbols one two three inputs
 
 pub builds-start-words : BuildsStartWithWords
 builds-start-words f is one two three inputs =

@@ -1,5 +1,5 @@
 -- The network's run over its moments is a run of the board.
-use Rattle.std.specs.Prelude.{◌≡◌, ◌≢◌, ℕ, ◌+◌, ◌-◌, ◌*◌, ◌<◌, ◌≤◌, Bool, true, false, not, refl, ◌⊎◌}
+use Rattle.std.specs.Prelude.{◌≡◌, ◌≢◌, ℕ, ◌+◌, ◌-◌, ◌*◌, ◌<◌, ◌≤◌, Bool, false, not, refl, ◌⊎◌}
 use Rattle.std.proofs.Common.{zero, suc, arith, sym, ap, subst, ◌∙◌, inl, inr}
 use Rattle.bn_lists.specs.Runs.{Reaches, Passes}
 use Rattle.bn_lists.proofs.RunsLemmas.{passes_run, runs_join}
@@ -22,6 +22,8 @@ use Rattle.bn_board_spec.proofs.FollowedLemmas.{boards-follow}
 use Rattle.bn_rsm.proofs.RunCostLemmas.{cost-none, cost-joins, one_cost, cost_some, left_cost}
 use Rattle.bn_board_spec.proofs.LooseLemmas.{loose-move}
 use Rattle.bn_build_laws.proofs.StuckLemmas.{stops_later}
+use Rattle.bn_board_laws.proofs.TravelledLemmas.{none_of, one_of, denied}
+use Rattle.bn_network_laws.proofs.PathLemmas.{negated}
 
 -- the board's test of moments says what the network's says, and no where the board is within a move or at a loose line
 pub record MomentsAgree (f : Build) (test : Situation → Bool) : Type 0 where
@@ -42,24 +44,7 @@ pub record BoardComes (f : Build) (start : Situation) (c0 : Config) (n : ℕ) (d
   pub run : Reaches (Goes f.circuit) (run_cost f.network (moves + 1) start) c0 at_end
   pub bounded : run_cost f.network (moves + 1) start ≤ 4 * build_elements f + 48 * build_elements f * (n + 1)
   pub count : tally (is_moment f.layout) f.circuit (run_cost f.network (moves + 1) start) c0 ≡ n + 1
-  pub stands : (StandsFor f.network last at_end
-      × ((e i : ℕ) → last.place ≢ Enter e i)) ⊎ IsLoose f.network last at_end
-
-negated : (b : Bool) → b ≡ false → not b ≡ true
-negated true h = absurd (cc)
-negated false h = refl
-
-denied : (b : Bool) → not b ≡ true → b ≡ false
-denied true h = absurd (cc)
-denied false h = refl
-
-pub one_of : (b : Bool) → b ≡ true → one_if b ≡ 1
-one_of true h = refl
-one_of false h = absurd (cc)
-
-none_of : (b : Bool) → b ≡ false → one_if b ≡ 0
-none_of true h = absurd (cc)
-none_of false h = refl
+  pub stands : (StandsFor f.network last at_end × ((e i : ℕ) → last.place ≢ Enter e i)) ⊎ IsLoose f.network last at_end
 
 module _ (f : Build) (test : Situation → Bool) (modules : AreModules f.network) (board : IsBoard f.network f.circuit)
     (agree : MomentsAgree f test) where

@@ -139,16 +139,14 @@ module _ (z : ℕ) where
       let rest = plain_rows z (omega arith) in let more = blank_count low in let e : z + 0 ≡ z = omega arith in
       rw e (let more' = rw e at more in omega (
         arith,
-        length-append (rows (cell_table z) z)
-            (row (cell_table z) z (cell_line_count z)),
+        length-append (rows (cell_table z) z) (row (cell_table z) z (cell_line_count z)),
       ))
   head_rows (suc n) low =
       let rest = head_rows n (omega arith) in let more = full_count n low in let e : z + suc n ≡ suc (z + n) =
       omega arith in
       rw e (let more' = rw e at more in omega (
         arith,
-        length-append (rows (cell_table z) (suc (z + n)))
-            (row (cell_table z) (suc (z + n)) (cell_line_count z)),
+        length-append (rows (cell_table z) (suc (z + n))) (row (cell_table z) (suc (z + n)) (cell_line_count z)),
       ))
 
   -- so a cell has so many moves

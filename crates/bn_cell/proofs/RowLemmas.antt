@@ -12,9 +12,6 @@ use Rattle.bn_rsm.proofs.ListingLemmas.{AreApart, apart_joined, AreMovesOf}
 pub row_more : (t : Table) (q n : ℕ) → row t q (n + 1) ≡ row t q n ++ move_at q n (t.go q n)
 row_more t q n = let e : n + 1 ≡ suc n = omega arith in rw e refl
 
-pub rows_more : (t : Table) (q : ℕ) → rows t (q + 1) ≡ rows t q ++ row t q t.inputs
-rows_more t q = let e : q + 1 ≡ suc q = omega arith in rw e refl
-
 module _ (t : Table) where
   -- what a move of the list says
   record IsFrom (q n : ℕ) (v : RsmMove) : Type 0 where

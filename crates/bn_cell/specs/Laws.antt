@@ -2,8 +2,7 @@
 use Rattle.std.specs.Prelude.{◌≡◌, ℕ, ◌*◌, ◌<◌}
 use Rattle.bn_element.specs.Tables.{IsReversible}
 use Rattle.bn_network.specs.Cells.{CellState, Plain, Head, IsLineOf, cell_table, line_number, cell_line}
-use Rattle.bn_network.specs.Cells.{cell_line_count}
-use Rattle.bn_network.specs.Cells.{state_number, state_of}
+use Rattle.bn_network.specs.Cells.{cell_line_count, state_number, state_of}
 use Rattle.bn_network.specs.declared.cell_line.CellLine.{CellLine}
 
 -- a cell's moves are one to one and in range, also for no symbols

@@ -8,8 +8,7 @@ use Rattle.bn_network.specs.declared.cell_line.CellLine.{CellLine}
 use Rattle.bn_network.specs.declared.cell_line.CellLine.TheVariants.{Read, Write, ShiftRight, ShiftLeft, TakeRight}
 use Rattle.bn_network.specs.declared.cell_line.CellLine.TheVariants.{Answer, DoneWrite, DoneRight, DoneLeft, TakeLeft}
 use Rattle.bn_network.specs.Cells.{CellState, Plain, Head, cell_go, cell_back, IsLineOf, by_numbers, within_cell}
-use Rattle.bn_network.specs.Cells.{line_number}
-use Rattle.bn_network.specs.Cells.{cell_line, cell_line_count, state_number, state_of}
+use Rattle.bn_network.specs.Cells.{line_number, cell_line, cell_line_count, state_number, state_of}
 use Rattle.bn_cell.specs.Laws.{CellsAreReversible, IsStateOf}
 
 -- ---- moves by names

@@ -1,9 +1,9 @@
 -- Circuits with the same tables and the same wires, listed in whatever order, run alike.
-use Rattle.std.specs.Prelude.{◌≡◌, ℕ, ◌+◌, List, ◌∷◌, Option, Some, None, slice_get, unwrap_or, option_and_then}
-use Rattle.std.specs.Prelude.{slice_set, refl}
+use Rattle.std.specs.Prelude.{◌≡◌, ℕ, List, ◌∷◌, Option, Some, None, slice_get, unwrap_or, option_and_then, slice_set}
+use Rattle.std.specs.Prelude.{refl}
 use Rattle.std.proofs.Common.{zero, suc, sym, ap, ◌∙◌}
 use Rattle.bn_element.specs.Tables.{Table}
-use Rattle.bn_circuits.specs.Circuits.{Circuit, IsOneToOne, target, source, clock, go_of, back_of, place_at}
+use Rattle.bn_circuits.specs.Circuits.{Circuit, IsOneToOne, target, source, go_of, back_of, place_at}
 use Rattle.bn_circuits.specs.Situations.{situation, crossed, turn_from}
 use Rattle.bn_circuits.specs.Stepping.{next, next_by, moved_back, previous, previous_by, line_before, run, back, placed}
 use Rattle.bn_circuits.specs.Stepping.{places, places_back}

@@ -72,8 +72,7 @@ module _ (k : Circuit) where
   -- a run from where no step leads on stays there
   pub run-stuck : (c : Config) → IsStuck k c → (t : ℕ) → run k c t ≡ c
   run-stuck c stuck zero = run-zero c
-  run-stuck c stuck (suc t) =
-      run-suc c t ∙ ap (advance k) (run-stuck c stuck t) ∙ rw (next-stuck c stuck) refl
+  run-stuck c stuck (suc t) = run-suc c t ∙ ap (advance k) (run-stuck c stuck t) ∙ rw (next-stuck c stuck) refl
 
   -- n steps to an end, or as many as were asked for, are the run
   pub run_stops : (n t : ℕ) (c d : Config) → Reaches (Goes k) n c d → n ≤ t → (n < t → IsStuck k d) → run k c t ≡ d
@@ -120,8 +119,7 @@ module _ (k : Circuit) where
     made = 0;
     within = omega arith;
     reaches = sym (run-zero c);
-    ended = λ fewer. absurd
-        (omega arith);
+    ended = λ fewer. absurd (omega arith);
   }
   run_makes c (suc t) = more_made c t (next k (run k c t)) refl (run_makes c t)
 

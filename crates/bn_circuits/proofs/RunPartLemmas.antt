@@ -7,9 +7,8 @@ use Rattle.bn_circuits.specs.Circuits.{Circuit, Goes, IsCircuit, IsConfig, IsStu
 use Rattle.bn_circuits.specs.Stepping.{run, back, previous, places, places_back}
 use Rattle.bn_circuits.proofs.StepLemmas.{previous-Goes, previous-IsConfig, Goes-previous}
 use Rattle.bn_circuits.proofs.RunLemmas.{Reaches-run, Reaches-back, run-first, run-zero, run_makes, places-Goes}
-use Rattle.bn_circuits.proofs.RunLemmas.{places-stuck, places-zero}
-use Rattle.bn_circuits.proofs.RunLemmas.{back-zero, back_composes, back-first, places_back-zero, places_back-Goes}
-use Rattle.bn_circuits.proofs.RunLemmas.{places_back-first}
+use Rattle.bn_circuits.proofs.RunLemmas.{places-stuck, places-zero, back-zero, back_composes, back-first}
+use Rattle.bn_circuits.proofs.RunLemmas.{places_back-zero, places_back-Goes, places_back-first}
 use Rattle.bn_circuits.specs.declared.config.Config.{Config}
 use Rattle.bn_circuits.specs.RunParts.{RunsUndoInPart, PathsPassBetween, PlacesAreThoseOfRuns}
 use Rattle.bn_circuits.specs.RunParts.{ArePlacesOfRunBack, PlacesAreThoseOfRunsBack}
@@ -38,33 +37,6 @@ paths-between k test (suc (suc n)) (suc (suc t)) c d path some few =
     ap test (run-first k c path.0 (suc t) path.1) ∙ paths-between k test (suc n) (suc t) path.0 d path.3 (omega arith)
     (omega arith)
 
--- a path cut in two
-pub passes_split : {S : Type 0} (step : S → S → Type 0) (test : S → Bool) (r s p : ℕ) (x z : S) → p ≡ r + s
-    → Passes step test p x z
-    → (y : S) × Passes step test r x y × Passes step test s y z × (0 < r → 0 < s → test y ≡ true)
-passes_split step test zero s p x z sum path = let e : p ≡ s =
-    omega arith in (x, refl, subst (λ n. Passes step test n x z) e path, λ some _. absurd (omega arith))
-passes_split step test (suc r) s zero x z sum path = absurd (omega arith)
-passes_split step test (suc r) s (suc p) x z sum path =
-    let rest = passes_split step test r s p path.0 z (omega arith) path.3 in (
-      rest.0,
-      (
-        path.0,
-        path.1,
-        before_by r (test path.0 ≡ true) (λ more. before_gives p (test path.0 ≡ true) (omega arith)
-            path.2),
-        rest.1,
-      ),
-      rest.2,
-      λ _ more. middle r rest.0 rest.1 (λ some. rest.3 some more)
-          (λ none. before_gives p (test path.0 ≡ true) (omega arith) path.2),
-    )
-  where
-    middle : (r : ℕ) (y : _) → Passes step test r path.0 y → (0 < r → test y ≡ true) → (r ≡ 0 → test path.0 ≡ true)
-        → test y ≡ true
-    middle zero y part later here = subst (λ v. test v ≡ true) part (here refl)
-    middle (suc r) y part later here = later (omega arith)
-
 -- a test that says yes where another does holds along the same path
 pub passes_weaker : {S : Type 0} (step : S → S → Type 0) (test weaker : S → Bool)
     → ((x : S) → test x ≡ true → weaker x ≡ true)
@@ -73,8 +45,7 @@ passes_weaker step test weaker implies zero x z path = path
 passes_weaker step test weaker implies (suc n) x z path = (
   path.0,
   path.1,
-  before_by n (weaker path.0 ≡ true) (λ more. implies path.0
-      (before_gives n (test path.0 ≡ true) more path.2)),
+  before_by n (weaker path.0 ≡ true) (λ more. implies path.0 (before_gives n (test path.0 ≡ true) more path.2)),
   passes_weaker step test weaker implies n path.0 z path.3,
 )
 

@@ -1,8 +1,8 @@
 -- Counted steps and steps without a count.
-use Rattle.std.specs.Prelude.{◌≡◌, ℕ, ◌+◌, ◌≤◌, Bool, Some, slice_set, refl}
+use Rattle.std.specs.Prelude.{◌≡◌, ℕ, ◌+◌, ◌≤◌, Bool, Some, refl}
 use Rattle.std.proofs.Common.{zero, suc, arith, sym, ap, subst, ◌∙◌}
 use Rattle.bn_lists.specs.Runs.{Passes}
-use Rattle.bn_circuits.specs.Circuits.{Circuit, clock, place_after, Goes}
+use Rattle.bn_circuits.specs.Circuits.{Circuit, clock, Goes}
 use Rattle.bn_circuits.specs.declared.place.Place.TheVariants.{Enter}
 use Rattle.bn_circuits.specs.declared.config.Config.{Config}
 use Rattle.bn_circuits.specs.Situations.{Situation, situation_of, counted, Turns, crossed, turn, turn_from}
@@ -26,8 +26,7 @@ module _ (k : Circuit) (test : Situation → Bool) where
         counted path.0 (p + 1),
         turns_goes k s path.0 p path.1 (omega arith),
         path.2,
-        paths n path.0 t (p + 1) q more
-            path.3 in_time,
+        paths n path.0 t (p + 1) q more path.3 in_time,
       )
 
   pub paths-counted : (n : ℕ) (s t : Situation) (c : Config) → situation_of c ≡ s → Passes (Turns k) test n s t

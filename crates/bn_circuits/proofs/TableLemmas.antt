@@ -20,8 +20,7 @@ tables-one t u rt ru states inputs outputs go =
       inputs = inputs i;
       outputs = outputs i;
       go = λ q l. go q l i;
-      back = λ r o. same r
-          o i;
+      back = λ r o. same r o i;
     }
   where
     by_back : (r o : ℕ) (x : Option (ℕ × ℕ)) → t.back r o ≡ x → t.back r o ≡ u.back r o
@@ -39,8 +38,7 @@ same_pair a b c d e f =
     elim (eqb_tells a c) [
       | inl first ↦ (elim (eqb_tells b d) [
         | inl second ↦ rw (first.0, second.0) refl
-        | inr second
-            ↦ absurd (second.1 f)
+        | inr second ↦ absurd (second.1 f)
       ])
       | inr first ↦ absurd (first.1 e)
     ]
@@ -102,8 +100,7 @@ go_finds (v ∷ ms) (suc j) m h =
     let found = go_finds ms j m h in
     elim (pair_tells v.state v.input m.state m.input) [
       | inl here ↦ ((v.next, v.output), rw here.0 refl)
-      | inr other
-          ↦ (found.0, rw other.0 found.1)
+      | inr other ↦ (found.0, rw other.0 found.1)
     ]
 
 back_finds : (ms : List Move) (n : ℕ) (m : Move) → slice_get ms n ≡ Some m
@@ -120,8 +117,7 @@ back_finds (v ∷ ms) (suc j) m h =
     let found = back_finds ms j m h in
     elim (pair_tells v.next v.output m.next m.output) [
       | inl here ↦ ((v.state, v.input), rw here.0 refl)
-      | inr other
-          ↦ (found.0, rw other.0 found.1)
+      | inr other ↦ (found.0, rw other.0 found.1)
     ]
 
 within_at : (s n k : ℕ) (ms : List Move) → AreWithin s n k ms → (j : ℕ) (m : Move) → slice_get ms j ≡ Some m

@@ -42,5 +42,4 @@ pub record ArePlacesOfRunBack (k : Circuit) (t : ℕ) (d : Config) : Type 0 wher
   pub each : (i : ℕ) → i < count → slice_get (places_back k t d) i ≡ Some (back k d (i + 1)).place
 
 abbrev pub PlacesAreThoseOfRunsBack : Type 0
-PlacesAreThoseOfRunsBack =
-    (k : Circuit) → IsCircuit k → (t : ℕ) (d : Config) → IsConfig k d → ArePlacesOfRunBack k t d
+PlacesAreThoseOfRunsBack = (k : Circuit) → IsCircuit k → (t : ℕ) (d : Config) → IsConfig k d → ArePlacesOfRunBack k t d

@@ -72,10 +72,6 @@ module _ (c : Circuit) (b k : ℕ) (column : IsColumn c b k) (test : Config → 
       let e : suc n ≡ p = omega arith in
       subst (λ m. Passes (Goes c) test m x z) e (y, step, always n (test y ≡ true) holds, path)
 
-  -- the end of a path, said in another way
-  ends_at : (n : ℕ) (x y z : Config) → y ≡ z → Passes (Goes c) test n x y → Passes (Goes c) test n x z
-  ends_at n x y z same path = subst (Passes (Goes c) test n x) same path
-
   inner_led : (from to : Line) → IsInner b k from to → place_after c.wires from ≡ Enter to.element to.line
   inner_led from to inner = led c from to (column.wired from to inner)
 

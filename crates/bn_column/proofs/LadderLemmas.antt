@@ -79,8 +79,7 @@ module _ (b r x : ℕ) (at_row : x ≡ b + r) where
         | inl earlier ↦ inl (inl (rung_down y earlier leaves ends))
         | inr last ↦ inl (inr (record {
           leaves = leaves ∙ same_line_at (b + y) x south (omega arith);
-          ends = ends
-              ∙ same_line_at (b + (y + 1)) (x + 1) north (omega arith);
+          ends = ends ∙ same_line_at (b + (y + 1)) (x + 1) north (omega arith);
         }))
       ]
   from_rung from to (rung_up y below leaves ends) =
@@ -88,8 +87,7 @@ module _ (b r x : ℕ) (at_row : x ≡ b + r) where
         | inl earlier ↦ inl (inl (rung_up y earlier leaves ends))
         | inr last ↦ inr (record {
           leaves = leaves ∙ same_line_at (b + (y + 1)) (x + 1) north (omega arith);
-          ends = ends
-              ∙ same_line_at (b + y) x south (omega arith);
+          ends = ends ∙ same_line_at (b + y) x south (omega arith);
         })
       ]
 
@@ -196,8 +194,7 @@ ladder_more b r x ws ms at_row is more =
     ≡ 2 * (r + 1) = omega arith in
     record {
       wires = subst (AreWiresOf (IsRung b (r + 1))) (sym more) (rung_more b r x at_row ws is.wires);
-      count = ap
-          length more ∙ counted;
+      count = ap length more ∙ counted;
     }
 
 pub ladder_closed : (b k r : ℕ) (ws one two three : List Wire) (v w x : Wire) → 0 < k → r ≡ k → IsLadder b r ws
@@ -222,8 +219,7 @@ inner_fits k from to (top leaves ends) = rw (leaves, ends) (omega arith, omega a
 
 pub column-AreFitting : (k : ℕ) (ws : List Wire) → AreWiresOf (IsInner 0 k) ws → AreFitting (k + 1) ws
 column-AreFitting k ws are = record {
-  fits = λ n w h. inner_fits k w.from w.to
-      (are.sound w.from w.to (apart-wire ws n w are.apart h));
+  fits = λ n w h. inner_fits k w.from w.to (are.sound w.from w.to (apart-wire ws n w are.apart h));
 }
 
 pub net-IsColumnNet : (net : Parts Rotary) (k : ℕ) (ws : List Wire) → AreWiresOf (IsInner 0 k) ws
@@ -255,8 +251,7 @@ rungs-wires b (suc r) =
 -- there is a list of them
 pub inner_wires : (b k : ℕ) → 0 < k → (ws : List Wire) × AreWiresOf (IsInner b k) ws
 inner_wires b k some = (
-  ((rungs b k ++ below_it b k some ∷ []) ++ over_it b k some ∷ []) ++ to_top b k some
-      ∷ [],
+  ((rungs b k ++ below_it b k some ∷ []) ++ over_it b k some ∷ []) ++ to_top b k some ∷ [],
   rungs_close b k some (rungs b k) (rungs-wires b k),
 )
 
@@ -284,8 +279,7 @@ inner-IsInnerWithin b k from to (down r below leaves ends) =
       from_low = omega arith;
       from_high = omega arith;
       from_line = omega arith;
-      to_low = omega
-          arith;
+      to_low = omega arith;
       to_high = omega arith;
       to_line = omega arith;
     })

@@ -6,7 +6,7 @@ use Rattle.bn_circuits.specs.declared.place.Place.TheVariants.{Enter}
 use Rattle.bn_element.specs.Rotary.{vertical}
 use Rattle.bn_element.specs.declared.rotary.Rotary.{Rotary}
 use Rattle.bn_net.specs.Parts.{Parts}
-use Rattle.bn_column.specs.Columns.{bar, IsAtRest}
+use Rattle.bn_column.specs.Columns.{bar}
 use Rattle.bn_net.specs.RotaryNets.{rotary_circuit}
 use Rattle.bn_column.specs.Nets.{IsColumnNet}
 use Rattle.bn_net.proofs.RotaryNetLemmas.{bars-IsConfig, rotary-table_at}
@@ -27,22 +27,6 @@ resting-bars zero marked zero q has = (let same : bar marked ≡ q = cc in subst
 resting-bars zero marked (suc e) q has = absurd (cc)
 resting-bars (suc k) marked zero q has = (let same : vertical ≡ q = cc in omega arith)
 resting-bars (suc k) marked (suc e) q has = resting-bars k marked e q has
-
-resting-row : (k : ℕ) (marked : Bool) (r : ℕ) → r < k → slice_get (resting k marked) r ≡ Some vertical
-resting-row zero marked r within = absurd (omega arith)
-resting-row (suc k) marked zero within = refl
-resting-row (suc k) marked (suc r) within = resting-row k marked r (omega arith)
-
-resting-bottom : (k : ℕ) (marked : Bool) → slice_get (resting k marked) k ≡ Some (bar marked)
-resting-bottom zero marked = refl
-resting-bottom (suc k) marked = resting-bottom k marked
-
-pub resting-IsAtRest : (s : List ℕ) (k : ℕ) (marked : Bool) → s ≡ resting k marked → IsAtRest s 0 k marked
-resting-IsAtRest s k marked is =
-    record {
-      rows = λ r within. let e : 0 + r ≡ r = omega arith in rw (is, e) (resting-row k marked r within);
-      bottom = let e : 0 + k ≡ k = omega arith in rw (is, e) (resting-bottom k marked);
-    }
 
 -- the start is a configuration of the column
 pub start-IsConfig : (net : Parts Rotary) (k row side : ℕ) (marked : Bool) (s : List ℕ) → IsColumnNet net k

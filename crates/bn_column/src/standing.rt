@@ -101,8 +101,6 @@ impl Column {
         ensures good { IfOk result (IsConfig (rotary_circuit self.now.net)) }
     {
         let states = resting(alloc, self.rows, self.marked)?;
-        // (for the prover: a function knows what its type keeps where it uses a field.)
-        let _ = &self.net;
         Ok(Config {
             states: States::new(states),
             place: Place::Enter {

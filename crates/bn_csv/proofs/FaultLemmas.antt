@@ -129,11 +129,6 @@ module _ {F : Type 0} {most : ℕ} {too_many : ℕ → F} {form_fault : ℕ → 
       h.faults ∙ rw is (failing (limited most too_many form_fault) (count + 1) fields rest (too_many (count + 1))
       (rw (lt-ltb most (count + 1) (omega arith)) refl))
 
-  -- where none is left, it has taken in all, and none has a fault
-  pub taken_all : {left : List (List (List ℕ))} → HasTaken most too_many form_fault entries taken count left → left ≡ []
-      → taken ≡ entries
-  taken_all {left} h none = sym (append-nil taken) ∙ rw (← none) h.together
-
   pub all_pass : {left : List (List (List ℕ))} → HasTaken most too_many form_fault entries taken count left → left ≡ []
       → fault_from (limited most too_many form_fault) 1 entries ≡ None
   all_pass {left} h none = h.faults ∙ rw none (nothing_left (limited most too_many form_fault) (count + 1))

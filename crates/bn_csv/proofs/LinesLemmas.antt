@@ -73,8 +73,7 @@ unfolding strip_bom
 strip-low [] h = refl
 strip-low (a ∷ []) h = refl
 strip-low (a ∷ b ∷ []) h = refl
-strip-low (a ∷ b ∷ c ∷ rest) h =
-    let low : (a == 0xEF) ≡ false = grind (arith, nat_tests) in rw low refl
+strip-low (a ∷ b ∷ c ∷ rest) h = let low : (a == 0xEF) ≡ false = grind (arith, nat_tests) in rw low refl
 
 line-low : (fields : List (List ℕ)) (tail : List ℕ) → is_plain_entry fields ≡ true
     → first_of (line_of fields ++ tail) < 128
@@ -106,8 +105,7 @@ lines-read (suc n) (row ∷ rows) h e =
     let shorter : length (lines_of rows) < n = omega (
       arith,
       length-append (line_of row) (lines_of rows),
-      line-length
-          row,
+      line-length row,
       h,
     ) in
     one_more default_config n st.StartRecord (line_of row ++ lines_of rows) (row, st.StartRecord, lines_of rows)
@@ -124,8 +122,7 @@ lines-low (row ∷ rows) e = line-low row (lines_of rows) (both_true (is_plain_e
 pub entries_of-lines_of : (rows : List (List (List ℕ))) → list_all is_plain_entry rows ≡ true
     → entries_of (lines_of rows) ≡ rows
 unfolding entries_of
-entries_of-lines_of rows e =
-    rw (strip-low (lines_of rows) (lines-low rows e)) (lines-read _ rows (omega arith) e)
+entries_of-lines_of rows e = rw (strip-low (lines_of rows) (lines-low rows e)) (lines-read _ rows (omega arith) e)
 
 -- the lines of entries with one more
 pub lines_of-push : (rows : List (List (List ℕ))) (row : List (List ℕ))

@@ -142,14 +142,12 @@ module _ {X : Type 0} (same : X → X → Bool) (decides : (a b : X) → Decides
   apart-firsts [] = tt
   apart-firsts (x ∷ xs) = (
     none-filter x (firsts_by same xs),
-    apart-filter (λ z. not (same x z)) (firsts_by same xs)
-        (apart-firsts xs),
+    apart-filter (λ z. not (same x z)) (firsts_by same xs) (apart-firsts xs),
   )
 
   pub any-at : (y : X) (zs : List X) (n : ℕ) → slice_get zs n ≡ Some y → list_any (same y) zs ≡ true
   any-at y [] n e = cc e
-  any-at y (z ∷ zs) zero e =
-      let at : z ≡ y = cc in rw (ap (λ (t : X). same y t) at ∙ is-same y) refl
+  any-at y (z ∷ zs) zero e = let at : z ≡ y = cc in rw (ap (λ (t : X). same y t) at ∙ is-same y) refl
   any-at y (z ∷ zs) (suc n) e = elim (cases_Bool (same y z)) [
     | inl hit ↦ rw hit refl
     | inr miss ↦ rw miss (any-at y zs n e)
@@ -237,8 +235,7 @@ module _ {X : Type 0} (same : X → X → Bool) (decides : (a b : X) → Decides
   firsts_numbers zs apart (m ∷ ms) [] h = absurd h
   firsts_numbers zs apart (m ∷ ms) (y ∷ ys) h = (
     h.0,
-    filter_numbers zs apart m y h.0 (firsts_by nat_eq ms) (firsts_by same ys)
-        (firsts_numbers zs apart ms ys h.1),
+    filter_numbers zs apart m y h.0 (firsts_by nat_eq ms) (firsts_by same ys) (firsts_numbers zs apart ms ys h.1),
   )
 
   -- the numbers of the elements behind a front are those from its length on

@@ -44,9 +44,6 @@ module _ (p q : Program) (e : Erasure) (h : IsErasing p q e) where
     start_named : (x : List ℕ) → in_state (name_of e) (start_of e x) ≡ erasing_start p x
     start_named x = λ i. record { state = begins_named i; one = word_tape x; two = blank_tape; three = blank_tape }
 
-    end_named : (y : List ℕ) → in_state (name_of e) (end_of e y) ≡ erasing_end q y
-    end_named y = λ i. record { state = ends_named i; one = blank_tape; two = blank_tape; three = word_tape y }
-
     -- a configuration that is named as the end is the end
     same_end : (y : List ℕ) (d : Configuration ℕ) → IsIn (states_in e.machine.rules) d.state
         → in_state (name_of e) d ≡ erasing_end q y → d ≡ end_of e y
@@ -93,6 +90,5 @@ module _ (p q : Program) (e : Erasure) (h : IsErasing p q e) where
               found.3,
               found.4,
               found.5,
-              same_end found.2 c
-                  (subst (IsIn (states_in e.machine.rules)) (sym final) ends_inside) found.6,
+              same_end found.2 c (subst (IsIn (states_in e.machine.rules)) (sym final) ends_inside) found.6,
             )

@@ -8,8 +8,7 @@ pub erasings_uniform : ErasingsAreUniform
 erasings_uniform = λ p q e left right h.
     let all = erasing_numbers_pass_tests p q left right (name_of e) e.machine.rules h.rules in (
       record { deterministic = all.0; reversible = all.1; uniform = all.2 },
-      begins_named p q e h left right
-          erasing_numbers_pass_tests,
+      begins_named p q e h left right erasing_numbers_pass_tests,
       ends_named p q e h left right erasing_numbers_pass_tests,
       names_apart p q e h,
     )

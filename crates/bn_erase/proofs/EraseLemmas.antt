@@ -1,5 +1,5 @@
 -- Two translations make the erasing machine's list over numbers.
-use Rattle.std.specs.Prelude.{◌≡◌, ◌≢◌, ℕ, suc, ◌+◌, ◌*◌, ◌<◌, ◌≤◌, ◌^◌, List, ◌++◌, length, map, Some, slice_get}
+use Rattle.std.specs.Prelude.{◌≡◌, ◌≢◌, ℕ, suc, ◌+◌, ◌<◌, ◌^◌, List, ◌++◌, length, map, Some, slice_get}
 use Rattle.std.proofs.Common.{sym, ap, ◌∙◌, subst, arith, inl, inr, get_or, length-append}
 use Rattle.std.proofs.lemmas.List.{get_or-append-add, get_or-map, get_or_append_left, length-map, map-append}
 use Rattle.std.proofs.lemmas.List.Elements.{All-map}
@@ -12,17 +12,16 @@ use Rattle.bn_quad.specs.declared.quad.Quad.{Quad}
 use Rattle.bn_lists.specs.Lists.{IsIn}
 use Rattle.bn_bennett_laws.proofs.MembershipLemmas.{from_map, in_append, in_left, in_map, in_right}
 use Rattle.bn_bennett_laws.proofs.Apart.{Apart, apart_append, apart_map, apart_weaker}
-use Rattle.bn_bennett_laws.specs.Laws.{ListCountsNames, ListHasNames, NumbersPassTests}
+use Rattle.bn_bennett_laws.specs.Laws.{ListHasNames, NumbersPassTests}
 use Rattle.bn_bennett_laws.specs.List.{bennett, final_name}
 use Rattle.bn_bennett_laws.specs.Names.{NumbersStates}
 use Rattle.bn_bennett_laws.specs.Renamed.{renamed, rename, name_at}
 use Rattle.bn_bennett_laws.specs.Stages.{IsStandardMachine}
 use Rattle.bn_bennett_laws.specs.declared.name.Name.{Name}
 use Rattle.bn_bennett_laws.specs.declared.name.Name.TheVariants.{GoRight}
-use Rattle.bn_table.specs.Rows.{FitsTable}
 use Rattle.bn_bennett.specs.Draft.{IsBelow}
 use Rattle.bn_bennett.specs.Translation.{IsTranslation, Translation, name_of}
-use Rattle.bn_bennett.proofs.Counting.{each_mentioned, numbers_states}
+use Rattle.bn_bennett.proofs.Counting.{numbers_states}
 use Rattle.bn_erase_laws.specs.Lists.{exchanged_list}
 use Rattle.bn_erase_laws.specs.Erasing.{IsErasingName, backward, erasing, first_half, second_half, second_name}
 use Rattle.bn_erase_laws.specs.ErasingLaws.{ErasingHasNames}
@@ -39,14 +38,6 @@ use Rattle.bn_erase.proofs.WithoutLemmas.{apart_without, in_without, left_out, l
 use Rattle.bn_erase.proofs.WithoutLemmas.{place_before, place_behind, without, without_is}
 
 -- ---- one translation
-
--- a table's machine has few states in its translation
-pub few_states : (p : Program) (t : Translation) → IsMachine p → FitsTable p → ListCountsNames → IsTranslation p t
-    → t.machine.states ≤ 24004
-few_states p t machine fits counts h =
-    let long : length t.names ≡ 2 * p.states + 2 * length p.quints + 4 =
-    counts p machine (each_mentioned p fits) t.names (numbers_states (bennett p) t.names h.names) in
-    omega (arith, long, h.states, fits.states, fits.quints)
 
 -- its final state has the name of the list's
 pub final_named : (p : Program) (t : Translation) → IsStandardMachine p → NumbersPassTests → IsTranslation p t

@@ -97,8 +97,7 @@ apart_alphabet : (blank : ℕ) (letters : List ℕ) → slice_get letters 0 ≡ 
     → IsAlphabet blank letters
 apart_alphabet blank letters begins a = record {
   begins = begins;
-  apart = λ m n l e f. by_order m n l e f (cases_lt m n)
-      (cases_lt n m);
+  apart = λ m n l e f. by_order m n l e f (cases_lt m n) (cases_lt n m);
 }
   where
     by_order : (m n l : ℕ) → slice_get letters m ≡ Some l → slice_get letters n ≡ Some l → (m < n) ⊎ (n ≤ m)

@@ -8,10 +8,8 @@ use Rattle.bn_erase.proofs.PrintedLemmas as printed
 
 pub erasings_erase : ErasingsErase
 erasings_erase = λ p q e x left right same h letters word. (
-  erases_forth p q e h left right erasing_numbers_pass_tests erasing_numbers_run_alike x
-      erases_input same letters word,
-  erases_back p q e h left right erasing_numbers_pass_tests erasing_numbers_run_alike x
-      erases_input same letters word,
+  erases_forth p q e h left right erasing_numbers_pass_tests erasing_numbers_run_alike x erases_input same letters word,
+  erases_back p q e h left right erasing_numbers_pass_tests erasing_numbers_run_alike x erases_input same letters word,
 )
 
 pub erasings_have_names : ErasingsHaveNames

@@ -102,8 +102,7 @@ number_stands (x ∷ letters) l h =
           (sym other.0)
           (elim (in_cases x l letters h) [
             | inl same ↦ absurd (other.1 same)
-            | inr further
-                ↦ number_stands letters l further
+            | inr further ↦ number_stands letters l further
           ])
     ]
 

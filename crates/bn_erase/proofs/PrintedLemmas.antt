@@ -7,12 +7,10 @@ use Rattle.std.proofs.lemmas.Bool.{and_from, and_parts}
 use Rattle.std.proofs.lemmas.Bool.Decides.{nat_tests}
 use Rattle.std.proofs.lemmas.Fmt.{length-decimal-le}
 use Rattle.std.proofs.lemmas.List.{length-map}
-use Rattle.std.proofs.lemmas.Option.{same_Some, slice_get-get_or}
+use Rattle.std.proofs.lemmas.Option.{same_Some}
 use Rattle.bn_csv.specs.Forms.{is_name_byte, is_state_name, is_symbol}
-use Rattle.bn_csv.proofs.FormsLemmas.{all-at}
 use Rattle.bn_machine.specs.Machine.{IsMachine, Program}
 use Rattle.bn_lists.specs.Lists.{nth}
-use Rattle.bn_qtable.specs.Named.{AreNamed}
 use Rattle.bn_quad.specs.Names.{Naming}
 use Rattle.bn_bennett_laws.specs.declared.name.Name.{Name}
 use Rattle.bn_table.specs.Rows.{FitsTable}
@@ -29,6 +27,7 @@ use Rattle.bn_erase.specs.Laws.{ErasingsHaveNames}
 use Rattle.bn_erase.specs.Made.{Erasure, IsErasing}
 use Rattle.bn_erase.specs.Printable.{ArePrintable, own_name}
 use Rattle.bn_erase.specs.Printed.{erasing_text, names_of}
+use Rattle.bn_qtable.proofs.RowsLemmas.{all_named as named_all}
 
 -- ---- a text tells its name
 
@@ -117,19 +116,6 @@ erasing_forms : (names : List ErasingName) → ((n : ℕ) (name : ErasingName) �
 erasing_forms [] all = refl
 erasing_forms (q ∷ qs) all = and_from _ _ (erasing_form q (all 0 q refl))
     (erasing_forms qs (λ n name at. all (suc n) name at))
-
-named_all : (form : List ℕ → Bool) (names : List (List ℕ)) (count : ℕ) → count ≡ length names
-    → list_all form names ≡ true → AreNamed form names count
-named_all form names count e all =
-    let P : ℕ → Type 0 = AreNamed form names in
-    subst P (sym e) (record {
-      each = λ n h. (
-        _,
-        slice_get-get_or names n [] h,
-        all-at form names n _ all
-            (slice_get-get_or names n [] h),
-      );
-    })
 
 -- ---- the law
 

@@ -60,8 +60,7 @@ module _ (code : ℕ → ℕ) (symbols : ℕ) (p : Program) (keeps : KeepsSymbol
     stands = nth_mapped (recoded_quint code) p.quints 1 h.quint h.stands;
     begins = record {
       reads = ap code h.begins.reads ∙ keeps.blank;
-      writes = ap code h.begins.writes
-          ∙ keeps.blank;
+      writes = ap code h.begins.writes ∙ keeps.blank;
       shifts = h.begins.shifts;
     };
   }

@@ -68,10 +68,12 @@ impl Joined {
         self.letters[symbol as usize]
     }
 
-    /// The symbol of a letter, counted from 0. `None` comes exactly for a byte that is no letter of the two.
+    /// The symbol of a letter, counted from 0. `None` comes exactly for a byte that is no letter of the two. Its
+    /// contract also tells what two machines over one alphabet keep.
     pub fn symbol_of(&self, letter: u8) -> Option<u32>
         ensures found { IfSome result (λ symbol. slice_get self.now.letters symbol ≡ Some letter) }
         ensures none { IfNone result (¬ Contains self.now.letters letter) }
+        ensures valid { IsJoint self.now }
     {
         place_of(self.letters.as_slice(), letter)
     }

@@ -10,7 +10,7 @@ use Rattle.bn_lists.proofs.RunsLemmas.{runs_join}
 use Rattle.bn_machine.specs.Tape.{Tape, scanned, ahead, word_tape}
 use Rattle.bn_machine.proofs.TapeLemmas.{write-scanned, scanned-ahead}
 use Rattle.bn_machine.specs.Window.{anywhere}
-use Rattle.bn_machine.specs.Machine.{Program, Moment, MachineRunsTo, IsFinal, start, final_of}
+use Rattle.bn_machine.specs.Machine.{Program, Moment, IsFinal, start, final_of}
 use Rattle.bn_lists.specs.Lists.{IsIn}
 use Rattle.bn_machine.specs.Machine as machine
 use Rattle.bn_machine.specs.Run.{After, Follows, IsOutput, Ending, EndsAt, halts, sticks, runs}
@@ -44,8 +44,7 @@ module _ (q : Program) where
       → StepsBackOf q everywhere b a
   back_step r a b h leads going = record {
     going = going;
-    follows = follows_turned (bennett q) a b
-        (follow_by q r a b h leads);
+    follows = follows_turned (bennett q) a b (follow_by q r a b h leads);
     stays = record { one = tt; two = tt; three = tt };
   }
 
@@ -276,8 +275,7 @@ module _ (q : Program) (y x : List ℕ) (standard : IsStandardMachine q) (spelle
         (i, halted, all.0, all.1)
     by_comparison i c ns made final first (differs m d exit) =
         absurd (not_stopped (2 * i + m) d (record {
-          run = runs_join (StepsBackOf q everywhere) (2 * i + m) (2 * i) m _ _
-              _ refl first exit.run;
+          run = runs_join (StepsBackOf q everywhere) (2 * i + m) (2 * i) m _ _ _ refl first exit.run;
           ends = exit.ends;
         }))
 
@@ -301,6 +299,5 @@ module _ (q : Program) (y x : List ℕ) (standard : IsStandardMachine q) (spelle
 pub compares_output : ComparesOutput
 compares_output q y x standard spelled letters word = (
   compares_forth q y x standard spelled,
-  λ n e run is.
-      compares_back q y x standard spelled letters word n e run is,
+  λ n e run is. compares_back q y x standard spelled letters word n e run is,
 )

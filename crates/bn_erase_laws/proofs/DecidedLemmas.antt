@@ -112,8 +112,7 @@ module _ {Q : Type 0} (told_apart : (a b : Q) → (a ≡ b) ⊎ (a ≢ b)) where
         | inr first ↦ elim (some_or_none rs c) [
           | inl found ↦ inl (found.0, in_tail s found.0 rs found.1, found.2)
           | inr rest ↦ inr (λ r h a. elim (in_cases s r rs h) [
-            | inl same
-                ↦ first (subst (λ t. AppliesTo t c) (sym same) a)
+            | inl same ↦ first (subst (λ t. AppliesTo t c) (sym same) a)
             | inr further ↦ rest r further a
           ])
         ]
@@ -184,16 +183,14 @@ module _ {Q : Type 0} (told_apart : (a b : Q) → (a ≡ b) ⊎ (a ≢ b)) where
             run = refl;
             in_time = omega arith;
             next = is_final is;
-            all = λ d
-                s. absurd (s.going is);
+            all = λ d s. absurd (s.going is);
           }
           | has_none going none ↦ record {
             made = 0;
             last = c;
             run = refl;
             in_time = omega arith;
-            next = has_none going
-                none;
+            next = has_none going none;
             all = λ d s. absurd (none_goes c d none s);
           }
           | steps_on d s ↦ bounded_more n c d s (bounded n d)

@@ -10,10 +10,6 @@ use Rattle.bn_bennett_laws.specs.Names.{states_in, NumbersStates}
 use Rattle.bn_bennett_laws.proofs.RepeatLemmas.{apart_by_places}
 use Rattle.bn_bennett_laws.proofs.Apart.{Apart, apart_places}
 
--- the two differ
-abbrev pub Different : {X : Type 0} → X → X → Type 0
-Different a b = a ≢ b
-
 -- the entries of a list, each once
 pub record Distinct {X : Type 0} (xs : List X) : Type 0 where
   pub list : List X
@@ -39,8 +35,7 @@ module _ {X : Type 0} (told_apart : (a b : X) → (a ≡ b) ⊎ (a ≢ b)) where
     apart = d.apart;
     each = λ y h. elim (in_cases x y xs h) [
       | inl same ↦ subst (IsIn d.list) same there
-      | inr further
-          ↦ d.each y further
+      | inr further ↦ d.each y further
     ];
     only = λ y h. in_tail x y xs (d.only y h);
   }
@@ -49,13 +44,11 @@ module _ {X : Type 0} (told_apart : (a b : X) → (a ≡ b) ⊎ (a ≢ b)) where
     apart = (λ y h same. new (subst (IsIn d.list) (sym same) h), d.apart);
     each = λ y h. elim (in_cases x y xs h) [
       | inl same ↦ subst (IsIn (x ∷ d.list)) same (in_head x d.list)
-      | inr further
-          ↦ in_tail x y d.list (d.each y further)
+      | inr further ↦ in_tail x y d.list (d.each y further)
     ];
     only = λ y h. elim (in_cases x y d.list h) [
       | inl same ↦ subst (IsIn (x ∷ xs)) same (in_head x xs)
-      | inr further
-          ↦ in_tail x y xs (d.only y further)
+      | inr further ↦ in_tail x y xs (d.only y further)
     ];
   }
 

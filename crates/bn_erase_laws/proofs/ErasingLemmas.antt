@@ -126,8 +126,7 @@ from_second p q s h =
     let three = from_turned (bennett q) two.0 two.1 in (
       three.0,
       three.1,
-      ap (λ t. renamed (second_name p q) (exchanged_rule t)) three.2
-          ∙ ap (renamed (second_name p q)) two.2 ∙ one.2,
+      ap (λ t. renamed (second_name p q) (exchanged_rule t)) three.2 ∙ ap (renamed (second_name p q)) two.2 ∙ one.2,
     )
 
 module _ (p q : Program) (left : IsStandard p.quints) (right : IsStandard q.quints) where

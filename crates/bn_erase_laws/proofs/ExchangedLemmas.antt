@@ -71,8 +71,7 @@ module _ {Q : Type 0} where
           stands = nth_mapped exchanged_rule rs h.number l.rule l.stands;
           leads = record {
             applies = record { from = a.from; one = a.three; two = a.two; three = a.one };
-            gives = ap
-                exchanged_tapes l.leads.gives;
+            gives = ap exchanged_tapes l.leads.gives;
           };
         };
       }

@@ -1,14 +1,12 @@
 -- The inverse of a machine passes the tests where the machine does, and runs back.
-use Rattle.std.specs.Prelude.{◌≡◌, ℕ, ◌+◌, ◌-◌, ◌<◌, List, [], ◌∷◌, ◌++◌, length, map, reverse, All, refl}
+use Rattle.std.specs.Prelude.{◌≡◌, ℕ, ◌+◌, ◌-◌, List, [], ◌∷◌, ◌++◌, length, map, reverse, refl}
 use Rattle.std.proofs.Common.{zero, suc, arith, sym, ap, subst, ◌∙◌, get_or}
-use Rattle.std.proofs.lemmas.List.{length-map, length-reverse, get_or-reverse, map-append, reverse-append}
+use Rattle.std.proofs.lemmas.List.{length-map, length-reverse, map-append, reverse-append}
 use Rattle.std.proofs.lemmas.List.Elements.{All-map}
 use Rattle.bn_lists.specs.Runs.{Reaches}
 use Rattle.bn_lists.proofs.RunsLemmas.{runs_more}
-use Rattle.bn_quad.specs.Quadruples.{Rule, Configuration, Follows, Quadruples, IsRuleInRange}
-use Rattle.bn_quad.specs.Quadruples.{QuadruplesRunTo}
-use Rattle.bn_quad.specs.Quadruples.{Rooms, AreAllowed}
-use Rattle.bn_quad.specs.Quadruples.{initial_of, final_state_of, inverse_of, turned, turned_list}
+use Rattle.bn_quad.specs.Quadruples.{Rule, Configuration, Follows, Quadruples, IsRuleInRange, QuadruplesRunTo, Rooms}
+use Rattle.bn_quad.specs.Quadruples.{AreAllowed, initial_of, final_state_of, inverse_of, turned, turned_list}
 use Rattle.bn_quad.specs.Overlap.{IsDeterministic, IsReversible}
 use Rattle.bn_quad.specs.Calls.{IsUniformMachine}
 use Rattle.bn_quad.proofs.SoundLemmas.{turned_in_range}
@@ -16,12 +14,11 @@ use Rattle.bn_bennett_laws.specs.Names.{IsUniformFrom}
 use Rattle.bn_bennett_laws.specs.Steps.{Steps, EndsAt, Exit, Finished, Stopped, Leaving, finishes, stops, leaves}
 use Rattle.bn_bennett_laws.proofs.NumberLemmas.{uniform_numbers, run_of_goes, run_of_steps}
 use Rattle.bn_erase_laws.proofs.TurnedLemmas.{turned_list-turned_list, turned_deterministic, turned_reversible}
-use Rattle.bn_erase_laws.proofs.TurnedLemmas.{turned_uniform, follows_turned, run_turned}
-use Rattle.bn_erase_laws.proofs.TurnedLemmas.{run_turned_back}
+use Rattle.bn_erase_laws.proofs.TurnedLemmas.{turned_uniform, follows_turned, run_turned, run_turned_back}
 use Rattle.bn_erase_laws.specs.InverseLaws.{InversesAreMachines, InversesOfInverses, InversesExchangeEnds}
-use Rattle.bn_erase_laws.specs.InverseLaws.{InversesPassTests}
-use Rattle.bn_erase_laws.specs.InverseLaws.{InversesAreUniform, InversesFollowBack, InversesRunBack}
+use Rattle.bn_erase_laws.specs.InverseLaws.{InversesPassTests, InversesAreUniform, InversesFollowBack, InversesRunBack}
 use Rattle.bn_erase_laws.specs.InverseLaws.{InversesEndAtTheStart}
+use Rattle.bn_quad.proofs.BackwardLemmas.{all_reversed}
 
 -- ---- the ends of the list
 
@@ -41,12 +38,6 @@ initial_turned : (rs : List (Rule ℕ)) → initial_of (turned_list rs) ≡ fina
 initial_turned rs = sym (final_turned (turned_list rs)) ∙ ap (λ ss. final_state_of ss) (turned_list-turned_list rs)
 
 -- ---- the machine
-
-all_reversed : {X : Type 0} (P : X → Type 0) (xs : List X) → All P xs → All P (reverse xs)
-all_reversed P xs h = λ k d inside.
-    let long : length (reverse xs) ≡ length xs = length-reverse xs in
-    let low : k < length xs = omega arith in
-    subst P (sym (get_or-reverse xs k d low)) (h (length xs - 1 - k) d (omega arith))
 
 pub inverse_machine : InversesAreMachines
 inverse_machine m is =

@@ -35,8 +35,7 @@ module _ {Q : Type 0} where
   pub follows_in : (rs : List (Rule Q)) (c d : Configuration Q) → LeadsIn rs c d → Follows rs c d
   follows_in rs c d h = record {
     number = h.stands.place;
-    leads = record
-        { rule = h.rule; stands = h.stands.stands; leads = h.leads };
+    leads = record { rule = h.rule; stands = h.stands.stands; leads = h.leads };
   }
 
   to_state : (r : Rule Q) (c d : Configuration Q) → Leads r c d → d.state ≡ r.to
@@ -64,13 +63,11 @@ module _ {Q : Type 0} where
       active = λ r h. elim (in_append rs ss r h) [ inl left ↦ a.active r left | inr right ↦ b.active r right ];
       not_entered = λ r h. elim (in_append rs ss r h) [
         | inl left ↦ a.not_entered r left
-        | inr right
-            ↦ joins.after_initial r right
+        | inr right ↦ joins.after_initial r right
       ];
       not_left = λ r h. elim (in_append rs ss r h) [
         | inl left ↦ (joins.before_final r left).0
-        | inr right
-            ↦ b.not_left r right
+        | inr right ↦ b.not_left r right
       ];
     }
 
@@ -132,8 +129,7 @@ module _ {Q : Type 0} where
               run.0,
               record {
                 going = run.1.going;
-                follows = follows_in ss c run.0
-                    (record { rule = l.rule; stands = right; leads = l.leads });
+                follows = follows_in ss c run.0 (record { rule = l.rule; stands = right; leads = l.leads });
                 stays = run.1.stays;
               },
               past_run n run.0 d (λ r h is. joins.not_back r l.rule h right
@@ -179,8 +175,7 @@ module _ {Q : Type 0} where
                   omega arith,
                   there,
                   refl,
-                  past_run (suc n) c e
-                      (λ r h from. joins.not_left r h (sym from ∙ there)) run,
+                  past_run (suc n) c e (λ r h from. joins.not_left r h (sym from ∙ there)) run,
                 )
           ]
 

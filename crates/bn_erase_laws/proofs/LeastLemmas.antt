@@ -41,16 +41,14 @@ least_machine = record {
       state = omega arith;
       read = omega arith;
       write = omega arith;
-      next = omega
-          arith;
+      next = omega arith;
     }
     by_place (suc (suc k)) d low = absurd (omega arith)
 
 least_standard : IsStandard least.quints
 least_standard = record {
   unambiguous = record {
-    none = λ i j h. refute i j h.first h.second h.first_stands h.second_stands h.clashes.before
-        h.clashes.state;
+    none = λ i j h. refute i j h.first h.second h.first_stands h.second_stands h.clashes.before h.clashes.state;
   };
   begins = record { quint = one; stands = refl; begins = record { reads = refl; writes = refl; shifts = refl } };
   lone_start = record {
@@ -66,8 +64,7 @@ least_standard = record {
       reads = refl;
       writes = refl;
       shifts = refl;
-      apart = λ e.
-          absurd (omega arith);
+      apart = λ e. absurd (omega arith);
     };
   };
   lone_final = record {
@@ -141,8 +138,7 @@ no_output : IsOutput (shift blank_tape Right) []
 no_output = record {
   letters = λ k low. absurd (omega arith);
   spelled = λ k low. absurd (omega arith);
-  ended = cell-word
-      [] (pos 2);
+  ended = cell-word [] (pos 2);
 }
 
 least_halts : HaltsAfter least [] 2 []

@@ -51,8 +51,7 @@ module _ {Q : Type 0} (rs : List (Rule Q)) (final : Q) where
       let l = follows.leads in
       subst (AreNear (suc k)) (sym l.leads.gives) (record {
         one = deed_near k l.rule.one c.one h.one;
-        two = deed_near k
-            l.rule.two c.two h.two;
+        two = deed_near k l.rule.two c.two h.two;
         three = deed_near k l.rule.three c.three h.three;
       })
 
@@ -82,10 +81,8 @@ module _ {Q : Type 0} (rs : List (Rule Q)) (final : Q) where
         follows = follows;
         stays = record {
           one = allows_near n (suc i) rooms.one d.one.head low one next.one;
-          two = allows_near n (suc i)
-              rooms.two d.two.head low two next.two;
-          three = allows_near n (suc i) rooms.three d.three.head low three
-              next.three;
+          two = allows_near n (suc i) rooms.two d.two.head low two next.two;
+          three = allows_near n (suc i) rooms.three d.three.head low three next.three;
         };
       } in
       ends_there rooms rs final apart c d e (leaves tape' side' d going follows out why) step
@@ -102,10 +99,8 @@ module _ {Q : Type 0} (rs : List (Rule Q)) (final : Q) where
         follows = run.1.follows;
         stays = record {
           one = allows_near n (suc k) rooms.one run.0.one.head low one next.one;
-          two = allows_near n
-              (suc k) rooms.two run.0.two.head low two next.two;
-          three = allows_near n (suc k) rooms.three
-              run.0.three.head low three next.three;
+          two = allows_near n (suc k) rooms.two run.0.two.head low two next.two;
+          three = allows_near n (suc k) rooms.three run.0.three.head low three next.three;
         };
       } in
       (run.0, step, run_near n rooms one two three m (suc k) run.0 d (omega arith) next run.2)

@@ -47,8 +47,7 @@ module _ (p q : Program) (left : IsStandardMachine p) (right : IsStandardMachine
       nth_mapped (renamed First) (bennett p) 1 first.0 first.1 in (
         renamed First first.0,
         nth_left (first_half p) (second_half p q) 1 (renamed First first.0) there,
-        ap First
-            first.2,
+        ap First first.2,
       )
 
   -- the last of the second half is the second machine's first, turned round
@@ -63,8 +62,7 @@ module _ (p q : Program) (left : IsStandardMachine p) (right : IsStandardMachine
       let two : nth (backward q) l ≡ Some (exchanged_rule (turned first.0)) =
       nth_mapped exchanged_rule (turned_list (bennett q)) l (turned first.0) one in (
         renamed (second_name p q) (exchanged_rule (turned first.0)),
-        nth_mapped (renamed (second_name p q)) (backward q)
-            l (exchanged_rule (turned first.0)) two,
+        nth_mapped (renamed (second_name p q)) (backward q) l (exchanged_rule (turned first.0)) two,
         ap (second_name p q) first.2,
       )
 

@@ -91,21 +91,18 @@ outcome_of p q x n b (is_final is) =
         moment = b.last;
         run = b.run;
         in_time = b.in_time;
-        ends = halts work.0
-            output.0 is work.1 output.1 refl;
+        ends = halts work.0 output.0 is work.1 output.1 refl;
       },
     )
 outcome_of p q x n b (has_none going none) = (
   b.made,
   Stuck b.last.state,
-  record
-      { moment = b.last; run = b.run; in_time = b.in_time; ends = sticks going none refl },
+  record { moment = b.last; run = b.run; in_time = b.in_time; ends = sticks going none refl },
 )
 outcome_of p q x n b (steps_on d s) = (
   b.made,
   Running,
-  record
-      { moment = b.last; run = b.run; in_time = b.in_time; ends = runs d s (b.all d s) refl },
+  record { moment = b.last; run = b.run; in_time = b.in_time; ends = runs d s (b.all d s) refl },
 )
 
 pub outcome_exists : OutcomeExists
@@ -131,8 +128,7 @@ output_word : (p : Program) (x y : List ℕ) (v : ℕ) → HaltsAfter p x v y �
 output_word p x y v h = record {
   letters = h.output.letters;
   spelled = λ k low. scanned-ahead y k;
-  ended = scanned-past
-      y (length y) refl;
+  ended = scanned-past y (length y) refl;
 }
 
 module _ (p q : Program) (x : List ℕ) (left : IsStandardMachine p) (right : IsStandardMachine q)
@@ -181,6 +177,5 @@ module _ (p q : Program) (x : List ℕ) (left : IsStandardMachine p) (right : Is
 pub halts_exactly : HaltsExactly
 halts_exactly p q x left right same letters word n i work y = (
   halts_forth p q x left right same letters word n i work y,
-  halts_back p q x left right same letters word n i work
-      y,
+  halts_back p q x left right same letters word n i work y,
 )

@@ -86,8 +86,7 @@ module _ (p q : Program) (left : IsStandardMachine p) (right : IsStandardMachine
       let found = run_before (second_name p q) (backward q) (second_apart p q (backward q)) everywhere (initial_name q)
       (back_final_in q right.machine.some) n (exchanged_tapes c) e here run in (
         exchanged_tapes found.0,
-        run_exchanged_back (turned_list (bennett q)) (initial_name q) everywhere n c
-            (exchanged_tapes found.0) found.1,
+        run_exchanged_back (turned_list (bennett q)) (initial_name q) everywhere n c (exchanged_tapes found.0) found.1,
         found.2,
       )
 
@@ -149,8 +148,7 @@ module _ (p q : Program) (left : IsStandardMachine p) (right : IsStandardMachine
           h,
           found.1,
           omega arith,
-          back.2 ∙ ap (λ c. in_state (second_name p q) (exchanged_tapes c))
-              found.3 ∙ end_as_second y,
+          back.2 ∙ ap (λ c. in_state (second_name p q) (exchanged_tapes c)) found.3 ∙ end_as_second y,
         )
 
     first_part : IsWord x → (n i j : ℕ) (d e : Configuration ErasingName) → n ≡ i + j → d.state ≡ erasing_middle p
@@ -173,8 +171,7 @@ module _ (p q : Program) (left : IsStandardMachine p) (right : IsStandardMachine
         let first = (list_has_ends p left.machine.some).0 in (
           renamed First first.0,
           in_map (renamed First) (bennett p) first.0 (record { place = 1; stands = first.1 }),
-          ap
-              First first.2,
+          ap First first.2,
         )
 
     pub erases_back : IsWord x → (n : ℕ) (e : Configuration ErasingName)
@@ -189,6 +186,5 @@ module _ (p q : Program) (left : IsStandardMachine p) (right : IsStandardMachine
 pub erases_input : ErasesInput
 erases_input p q x left right same letters word = (
   erases_forth p q left right x same letters,
-  erases_back p q left
-      right x same letters word,
+  erases_back p q left right x same letters word,
 )

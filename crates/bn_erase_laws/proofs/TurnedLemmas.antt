@@ -90,8 +90,7 @@ module _ {Q : Type 0} where
   silent_before r h = record {
     one = idle_before r.one h.one;
     two = idle_before r.two h.two;
-    three = idle_before r.three
-        h.three;
+    three = idle_before r.three h.three;
   }
 
   -- ---- the list
@@ -169,10 +168,6 @@ module _ {Q : Type 0} where
       let low : h.number ≤ length rs = nth_within rs h.number h.leads.rule h.leads.stands in
       let m : ℕ = length rs + 1 - h.number in
       record { number = m; leads = (turned_list_steps_back rs h.number m c d (omega arith)).0 h.leads }
-
-  pub follows_turned_back : (rs : List (Rule Q)) (c d : Configuration Q) → Follows (turned_list rs) d c → Follows rs c d
-  follows_turned_back rs c d h = subst (λ ss. Follows ss c d) (turned_list-turned_list rs)
-      (follows_turned (turned_list rs) d c h)
 
   module _ (rs : List (Rule Q)) (initial final : Q) (uniform : IsUniformFrom initial final rs) (rooms : Rooms) where
     -- a step leads to no initial state, so the list turned round makes it backward

@@ -126,8 +126,7 @@ module _ (p q : Program) (left : IsStandardMachine p) (right : IsStandardMachine
       ready.blank k (part_within x z k part)
       (λ j low. on_tape h.moment.tape z h.output j (omega arith) ∙ same_letter x z j (part.agree j low)) in (
         found.0,
-        runs_join (StepsBackOf q everywhere) (2 * w + 2 * k + 2) (2 * w) (2 * k + 2) _ _ _ (omega arith) found.2
-            passed,
+        runs_join (StepsBackOf q everywhere) (2 * w + 2 * k + 2) (2 * w) (2 * k + 2) _ _ _ (omega arith) found.2 passed,
       )
 
   unequal_stuck : (v w : ℕ) (y z : List ℕ) → HaltsAfter p x v y → HaltsAfter q y w z → (k : ℕ) → PartAt x z k

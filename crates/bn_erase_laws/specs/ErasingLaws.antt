@@ -24,9 +24,8 @@ use Rattle.bn_erase_laws.specs.declared.name.ErasingName.{ErasingName}
 use Rattle.bn_erase_laws.specs.declared.name.ErasingName.TheVariants.{First, Second}
 use Rattle.bn_erase_laws.specs.Lists.{JoinsAt}
 use Rattle.bn_erase_laws.specs.Erasing.{first_half, second_half, erasing, erasing_initial, erasing_middle}
-use Rattle.bn_erase_laws.specs.Erasing.{erasing_final}
-use Rattle.bn_erase_laws.specs.Erasing.{erasing_symbols, second_name, IsErasingName, IsWord, erasing_start, erasing_end}
-use Rattle.bn_erase_laws.specs.Erasing.{ErasingSteps, StepsBackOf}
+use Rattle.bn_erase_laws.specs.Erasing.{erasing_final, erasing_symbols, second_name, IsErasingName, IsWord}
+use Rattle.bn_erase_laws.specs.Erasing.{erasing_start, erasing_end, ErasingSteps, StepsBackOf}
 
 -- ---- the erasing machine
 

@@ -8,8 +8,7 @@ use Rattle.bn_circuits.proofs.StepLemmas.{previous-Goes, previous-IsConfig}
 use Rattle.bn_circuits.proofs.RunLemmas.{run_makes, run-zero, back-zero, Reaches-run, Reaches-back, Reaches-IsConfig}
 use Rattle.bn_circuits.proofs.RunLemmas.{run_composes, back_composes}
 use Rattle.bn_circuits.specs.declared.config.Config.{Config}
-use Rattle.bn_farm.specs.Farms.{stepped, after_steps}
-use Rattle.bn_farm.specs.Farms.{FarmBoard, IsAdmitted, circuit_in, in_config}
+use Rattle.bn_farm.specs.Farms.{stepped, after_steps, FarmBoard, IsAdmitted, circuit_in, in_config}
 use Rattle.bn_netlist_laws.proofs.VersionLemmas.{spellings-move}
 use Rattle.bn_farm.specs.Undo.{other, steps_between}
 
@@ -51,8 +50,7 @@ module _ (k : Circuit) where
   back_returns circuit c good zero = record {
     number = 0;
     way = back-zero k c;
-    good = subst (IsConfig k)
-        (sym (back-zero k c)) good;
+    good = subst (IsConfig k) (sym (back-zero k c)) good;
   }
   back_returns circuit c good (suc t) = returns_more circuit c t (previous k (back k c t)) refl
       (back_returns circuit c good t)

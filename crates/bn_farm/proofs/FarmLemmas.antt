@@ -4,8 +4,7 @@ use Rattle.std.specs.Prelude.{refl}
 use Rattle.std.proofs.Common.{zero, suc, sym, ap, subst, ◌∙◌, inl, inr}
 use Rattle.std.proofs.lemmas.Bool.Decides.{eqb_tells}
 use Rattle.bn_farm.specs.Farms.{Tick, tick, after_steps, at_board, ticked, play, ticks_of, ticks, own, alone, IsFarm}
-use Rattle.bn_farm.specs.Farms.{farm_after}
-use Rattle.bn_farm.specs.Farms.{FarmBoard, IsAdmitted}
+use Rattle.bn_farm.specs.Farms.{farm_after, FarmBoard, IsAdmitted}
 use Rattle.bn_farm.specs.declared.event.Event.{Event}
 use Rattle.bn_farm.proofs.BoardLemmas.{after_zero, after_more, after_good}
 

@@ -6,8 +6,7 @@ use Rattle.std.proofs.lemmas.Bool.Decides.{nat_tests}
 use Rattle.std.proofs.lemmas.List.{length-map, map-append}
 use Rattle.bn_lists.specs.Lists.{IsFirstWith, nth}
 use Rattle.bn_net.specs.declared.net.TheConstants.{MOST_ELEMENTS}
-use Rattle.bn_farm.specs.Farms.{board_of, elements_together}
-use Rattle.bn_farm.specs.Farms.{FarmBoard, IsSpelled}
+use Rattle.bn_farm.specs.Farms.{board_of, elements_together, FarmBoard, IsSpelled}
 use Rattle.bn_netlist.specs.declared.net_config.NetConfig.{NetConfig}
 use Rattle.bn_base.specs.Cuts.{IsCut, IsUncut}
 use Rattle.bn_netlist_laws.proofs.AdmittedLemmas.{most_small}
@@ -20,7 +19,7 @@ use Rattle.bn_farm.specs.FarmTexts.{AreParts, IsSchedule, SpellBoards}
 use Rattle.bn_farm.specs.FarmRead.{HasPushed, IsFarmRead, IsFarmRefusal, IsPartRefusal, IsRefusedBehind, IsRestRead}
 use Rattle.bn_farm.specs.FarmRead.{IsRestRefusal, IsUnspelled}
 use Rattle.bn_farm.proofs.PartLemmas.{parts_there, spelled_farm}
-use Rattle.bn_farm.proofs.WriteLemmas.{board_good}
+use Rattle.bn_farm.proofs.WriteLemmas.{board_good, spell_more}
 
 -- ---- cuts
 
@@ -35,8 +34,7 @@ cuts_more bytes [] left part behind cuts cut = (behind, subst (λ b. IsCut b par
 cuts_more bytes (p ∷ parts) left part behind cuts cut = (
   cuts.0,
   cuts.1,
-  cuts_more cuts.0 parts left part behind cuts.2
-      cut,
+  cuts_more cuts.0 parts left part behind cuts.2 cut,
 )
 
 cuts_parts : (bytes : List ℕ) (parts others : List (List ℕ)) (left last : List ℕ) → CutsTo bytes parts left
@@ -45,8 +43,7 @@ cuts_parts bytes [] others left last cuts are = subst (λ b. AreParts b others l
 cuts_parts bytes (p ∷ parts) others left last cuts are = (
   cuts.0,
   cuts.1,
-  cuts_parts cuts.0 parts others left last
-      cuts.2 are,
+  cuts_parts cuts.0 parts others left last cuts.2 are,
 )
 
 -- each cut takes two bytes at least
@@ -66,13 +63,6 @@ cuts_short bytes (p ∷ parts) left cuts =
     omega (arith, rest, short)
 
 -- ---- boards
-
-spell_more : (parts : List (List ℕ)) (bs : List FarmBoard) (part : List ℕ) (b : FarmBoard) → SpellBoards parts bs
-    → IsSpelled b part → SpellBoards (parts ++ part ∷ []) (bs ++ b ∷ [])
-spell_more [] [] part b spell is = (is, tt)
-spell_more [] (c ∷ bs) part b spell is = absurd spell
-spell_more (p ∷ parts) [] part b spell is = absurd spell
-spell_more (p ∷ parts) (c ∷ bs) part b spell is = (spell.0, spell_more parts bs part b spell.1 is)
 
 spell_length : (parts : List (List ℕ)) (bs : List FarmBoard) → SpellBoards parts bs → length parts ≡ length bs
 spell_length [] [] spell = refl
@@ -107,14 +97,6 @@ pub record HasReadBoards (bytes : List ℕ) (boards : List NetConfig) (left : Li
   pub parts : List (List ℕ)
   pub cuts : CutsTo bytes parts left
   pub spell : SpellBoards parts (map board_of boards)
-
-pub none_read : (bytes : List ℕ) (boards : List NetConfig) → boards ≡ [] → HasReadBoards bytes boards bytes
-none_read bytes boards none = record {
-  parts = [];
-  cuts = refl;
-  spell = subst (λ bs. SpellBoards [] (map board_of bs))
-      (sym none) tt;
-}
 
 module _ (bytes : List ℕ) (boards : List NetConfig) (left : List ℕ) (h : HasReadBoards bytes boards left) where
   as_many : length h.parts ≡ length boards

@@ -7,8 +7,7 @@ use Rattle.bn_farm.specs.Laws.{CountsAreSteps, BoardsKeepCircuits}
 pub counts_are_steps : CountsAreSteps
 counts_are_steps = (
   λ b n _. forward_counted (circuit_in b) b.spelling.config n,
-  λ b n good. back_counted (circuit_in b)
-      good.circuit b.spelling.config good.config n,
+  λ b n good. back_counted (circuit_in b) good.circuit b.spelling.config good.config n,
 )
 
 pub boards_keep_circuits : BoardsKeepCircuits

@@ -31,8 +31,7 @@ pub keeps_circuit : (farm : List FarmBoard) (es : List Tick) (i : ℕ) (b : Farm
 keeps_circuit farm es i b is = (
   alone b (own i es),
   boards_are_apart farm es i ∙ ap (option_map (λ x. alone x (own i es))) is,
-  alone_circuit b
-      (own i es),
+  alone_circuit b (own i es),
 )
 
 all_append : (n : ℕ) (a b : List Event) → AllLawful n a → AllLawful n b → AllLawful n (a ++ b)

@@ -129,8 +129,7 @@ parts_back boards (part ∷ parts) (b ∷ bs) es spell all =
     sym (append_assoc part (37 ∷ 10 ∷ parts_text parts) (schedule_text es)) in (
       rest,
       subst (λ bytes. IsCut bytes part rest) is (text_cut b part rest spell.0),
-      parts_back boards parts bs es
-          spell.1 all,
+      parts_back boards parts bs es spell.1 all,
     )
 
 pub spelled_farm : (parts : List (List ℕ)) (bs : List FarmBoard) → SpellBoards parts bs → IsFarm bs

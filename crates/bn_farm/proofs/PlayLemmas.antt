@@ -10,8 +10,7 @@ use Rattle.bn_circuits.specs.Circuits.{Circuit, Goes, IsConfig}
 use Rattle.bn_circuits.specs.Stepping.{back, run}
 use Rattle.bn_circuits.specs.declared.config.Config.{Config}
 use Rattle.bn_net.specs.RotaryNets.{rotary_circuit}
-use Rattle.bn_farm.specs.Farms.{board_of}
-use Rattle.bn_farm.specs.Farms.{IsAdmitted, FarmBoard, circuit_in, in_config}
+use Rattle.bn_farm.specs.Farms.{board_of, IsAdmitted, FarmBoard, circuit_in, in_config}
 use Rattle.bn_netlist.specs.declared.net_config.NetConfig.{NetConfig}
 use Rattle.bn_netlist.proofs.NetLemmas.{circuits-agree}
 use Rattle.bn_farm.specs.declared.event.Event.{Event}
@@ -90,16 +89,6 @@ pub record IsPlayed (start : List FarmBoard) (es : List Event) (n : ℕ) (boards
   pub now : spelled boards ≡ farm_after start (take n es)
   pub undo_is : reverse undo ≡ undoing start (take n es)
   pub few : length undo ≤ n
-
-pub none_played : (start : List FarmBoard) (es : List Event) (boards : List NetConfig) → IsFarm start
-    → spelled boards ≡ start → IsPlayed start es 0 boards []
-none_played start es boards good is = record {
-  farm = subst IsFarm (sym is) good;
-  now = is;
-  undo_is = refl;
-  few = omega
-      arith;
-}
 
 -- the board of the next event is there
 pub board_there : (start : List FarmBoard) (es : List Event) (n : ℕ) (boards : List NetConfig) (undo : List Event)
@@ -191,20 +180,6 @@ module _ (start : List FarmBoard) (es : List Event) (n : ℕ) (boards : List Net
           ≡ undone m ∷ undoing start (take n es)
       by_number zero some = absurd (omega arith)
       by_number (suc m) some = refl
-
--- all events
-pub all_played : (start : List FarmBoard) (es : List Event) (n : ℕ) (boards : List NetConfig) (undo : List Event)
-    → IsPlayed start es n boards undo → length es ≤ n → (spelled boards ≡ farm_after start es)
-    × (reverse undo ≡ undoing start es)
-all_played start es n boards undo h all =
-    let whole : take n es ≡ es = take_whole n es all in
-    (h.now ∙ ap (farm_after start) whole, h.undo_is ∙ ap (undoing start) whole)
-  where
-    take_whole : (n : ℕ) (es : List Event) → length es ≤ n → take n es ≡ es
-    take_whole zero [] all = refl
-    take_whole zero (x ∷ es) all = absurd (omega arith)
-    take_whole (suc n) [] all = refl
-    take_whole (suc n) (x ∷ es) all = ap (λ ys. x ∷ ys) (take_whole n es (omega arith))
 
 -- ---- what the program reads
 

@@ -6,7 +6,7 @@ use Rattle.bn_circuits.specs.Alike.{AreAlike}
 use Rattle.bn_circuits.proofs.AlikeLemmas.{back-alike, run-alike}
 use Rattle.bn_circuits.specs.Stepping.{back, run}
 use Rattle.bn_element.specs.Rotary.{rotary}
-use Rattle.bn_netlist_laws.specs.Spelling.{AreSame, Spelling, Spelled, circuit_of}
+use Rattle.bn_netlist_laws.specs.Spelling.{AreSame, Spelled}
 use Rattle.bn_netlist_laws.proofs.TextLemmas.{spellings-agree}
 use Rattle.bn_netlist_laws.proofs.EntryLemmas.{same-have-one-text}
 use Rattle.bn_farm.specs.declared.event.Event.{Event}

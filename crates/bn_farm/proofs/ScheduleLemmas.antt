@@ -2,7 +2,6 @@
 use Rattle.std.specs.Prelude.{◌≡◌, ◌≢◌, ℕ, ◌+◌, ◌-◌, ◌<◌, ◌≤◌, ◌==◌, Bool, true, false, List, [], ◌∷◌, ◌++◌, length}
 use Rattle.std.specs.Prelude.{Option, Some, None, refl, ◌⊎◌}
 use Rattle.std.proofs.Common.{zero, suc, arith, sym, ap, subst, ◌∙◌, inl, inr, append_assoc, length-append}
-use Rattle.std.proofs.lemmas.List.{append-nil}
 use Rattle.std.proofs.lemmas.Bool.{cases_lt, cases_eq}
 use Rattle.bn_farm.specs.declared.event.Event.{Event}
 use Rattle.bn_farm.specs.FarmTexts.{AreEventsOf, HasScheduleFault, FailsAfter, IsEventOf, IsSayableOrder, IsSchedule}
@@ -115,8 +114,7 @@ module _ (boards : ℕ) where
   lacks o bytes behind sayable is why = inr (
     0,
     no_board,
-    record
-        { says = o; behind = behind; begins = is; sayable = sayable; lacking = why },
+    record { says = o; behind = behind; begins = is; sayable = sayable; lacking = why },
   )
 
   -- the event of an order whose board is there
@@ -178,9 +176,6 @@ module _ (boards : ℕ) where
 pub record HasRead (boards : ℕ) (bytes : List ℕ) (es : List Event) (left : List ℕ) : Type 0 where
   pub begins : bytes ≡ schedule_text es ++ left
   pub lawful : AreEventsOf boards es
-
-pub none_read : (boards : ℕ) (bytes : List ℕ) → HasRead boards bytes [] bytes
-none_read boards bytes = record { begins = refl; lawful = tt }
 
 text_joined : (es : List Event) (e : Event) → schedule_text (es ++ e ∷ [])
     ≡ schedule_text es ++ (order_text (order_of e) ++ 10 ∷ [])
@@ -245,14 +240,6 @@ fails_board boards bytes left behind es o h taken why =
     fails_behind boards es bytes left no_board h.begins h.lawful
     (record { says = o; behind = behind; begins = is.written; sayable = is.sayable; lacking = why })
 
-pub all_read : (boards : ℕ) (bytes left : List ℕ) (es : List Event) → HasRead boards bytes es left → left ≡ []
-    → IsSchedule boards bytes es
-all_read boards bytes left es h none = record {
-  spelled = h.begins ∙ ap (λ l. schedule_text es ++ l) none
-      ∙ append-nil (schedule_text es);
-  lawful = h.lawful;
-}
-
 -- ---- what the program reads
 
 pub some_left : (left : List ℕ) (b : Bool) → b ≡ (length left == 0) → b ≡ false → left ≢ []
@@ -272,8 +259,7 @@ pub form_at : (boards len : ℕ) (bytes left : List ℕ) (es : List Event) → l
 form_at boards len bytes left es count h some none = (
   length es,
   ap (λ n. n + 1) count,
-  fails_form boards bytes left es
-      h some none,
+  fails_form boards bytes left es h some none,
 )
 
 pub board_missing : (boards len : ℕ) (bytes left behind : List ℕ) (es : List Event) (o : Order) → len ≡ length es

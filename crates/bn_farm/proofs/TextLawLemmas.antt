@@ -2,17 +2,16 @@
 use Rattle.std.specs.Prelude.{◌≡◌, ℕ, ◌+◌, ◌<◌, ◌≤◌, Bool, List, [], ◌∷◌, ◌++◌, length, refl}
 use Rattle.std.proofs.Common.{zero, suc, arith, sym, ap, subst, ◌∙◌}
 use Rattle.bn_circuits.specs.Circuits.{clock}
-use Rattle.bn_netlist_laws.proofs.EntryLemmas.{same-have-one-text}
 use Rattle.bn_farm.specs.declared.event.Event.{Event}
 use Rattle.bn_farm.specs.Farms.{FarmBoard, IsFarm, Tick, after_steps, at_board, elements_together, play, ticked, ticks}
 use Rattle.bn_farm.specs.Farms.{ticks_of}
 use Rattle.bn_farm.specs.Undo.{event_of, made, other, undoing}
-use Rattle.bn_farm.specs.FarmTexts.{AreEventsOf, AreParts, IsEventOf, SpellBoards, parts_text, schedule_text}
+use Rattle.bn_farm.specs.FarmTexts.{AreEventsOf, AreParts, IsEventOf, parts_text, schedule_text}
 use Rattle.bn_farm.specs.TextLaws.{FarmTextsAreOne, FarmsAreReadBack, FarmsHaveTexts, UndoingIsASchedule}
 use Rattle.bn_farm.proofs.FarmLemmas.{farms_stay}
 use Rattle.bn_farm.proofs.LawfulLemmas.{length_play, made_where}
 use Rattle.bn_farm.proofs.PartLemmas.{farm_texts, parts_back}
-use Rattle.bn_farm.proofs.SameLemmas.{AreAllSame, spelled_same, texts_same}
+use Rattle.bn_farm.proofs.SameLemmas.{spelled_same, texts_same}
 
 -- ---- the undoing schedule
 

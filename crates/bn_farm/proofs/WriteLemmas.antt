@@ -1,20 +1,16 @@
 -- Writing a farm with a schedule.
-use Rattle.std.specs.Prelude.{◌≡◌, ℕ, ◌+◌, ◌<◌, ◌≤◌, List, [], ◌∷◌, ◌++◌, length, map, take, get_or, codes, decimal}
+use Rattle.std.specs.Prelude.{◌≡◌, ℕ, ◌+◌, ◌<◌, List, [], ◌∷◌, ◌++◌, length, map, take, get_or, codes, decimal}
 use Rattle.std.proofs.Common.{zero, suc, refl, sym, ap, subst, ◌∙◌, arith, append_assoc}
 use Rattle.std.proofs.lemmas.Option.{slice_get-get_or, slice_get-map}
-use Rattle.std.proofs.lemmas.List.{append-nil, take_all}
 use Rattle.bn_netlist_laws.specs.Spelling.{IsTextOf}
 use Rattle.bn_farm.specs.Farms.{FarmBoard, IsAdmitted, IsSpelled, board_of}
 use Rattle.bn_netlist.specs.declared.net_config.NetConfig.{NetConfig}
 use Rattle.std.specs.Prelude.{option_map}
 use Rattle.bn_farm.specs.declared.event.Event.{Event}
 use Rattle.bn_farm.specs.Farms.{IsFarm}
-use Rattle.bn_farm.specs.FarmTexts.{IsFarmText, SpellBoards, parts_text, order_of, order_text, schedule_text, sign_text}
+use Rattle.bn_farm.specs.FarmTexts.{SpellBoards, parts_text, order_of, order_text, schedule_text, sign_text}
 use Rattle.bn_farm.specs.Writing.{HasWritten}
 use Rattle.bn_farm.proofs.OrderLemmas.{pieces}
-
-pub none_written : (old : List ℕ) → HasWritten old old []
-none_written old = record { parts = []; spell = tt; is = sym (append-nil old) }
 
 joined_more : (parts : List (List ℕ)) (part : List ℕ) → parts_text (parts ++ part ∷ [])
     ≡ parts_text parts ++ (part ++ 37 ∷ 10 ∷ [])
@@ -23,7 +19,7 @@ joined_more (p ∷ parts) part =
     ap (λ rest. p ++ 37 ∷ 10 ∷ rest) (joined_more parts part) ∙ sym
     (append_assoc p (37 ∷ 10 ∷ parts_text parts) (part ++ 37 ∷ 10 ∷ []))
 
-spell_more : (parts : List (List ℕ)) (bs : List FarmBoard) (part : List ℕ) (b : FarmBoard) → SpellBoards parts bs
+pub spell_more : (parts : List (List ℕ)) (bs : List FarmBoard) (part : List ℕ) (b : FarmBoard) → SpellBoards parts bs
     → IsSpelled b part → SpellBoards (parts ++ part ∷ []) (bs ++ b ∷ [])
 spell_more [] [] part b spell is = (is, tt)
 spell_more [] (c ∷ bs) part b spell is = absurd spell
@@ -89,17 +85,3 @@ events_text_more old before after es i d so_far h is =
     is ∙ ap (λ xs. xs ++ event_text (get_or es i d)) so_far ∙ append_assoc old (schedule_text (take i es))
     (event_text (get_or es i d))
     ∙ ap (λ xs. old ++ xs) (sym (events_more es i d h)) ∙ ap (λ n. old ++ schedule_text (take n es)) next
-
--- the whole text
-pub farm_written : (bs cs : List FarmBoard) (es : List Event) (boards text : List ℕ) → bs ≡ cs → HasWritten [] boards bs
-    → text ≡ boards ++ schedule_text es → IsFarmText cs es text
-farm_written bs cs es boards text same h is = record {
-  parts = h.parts;
-  spell = subst (SpellBoards h.parts) same h.spell;
-  written = is ∙ ap (λ b. b ++ schedule_text es) h.is;
-}
-
--- all boards
-pub all_written : (old now : List ℕ) (bs : List NetConfig) (n : ℕ) → length bs ≤ n
-    → HasWritten old now (map board_of (take n bs)) → HasWritten old now (map board_of bs)
-all_written old now bs n all h = subst (λ xs. HasWritten old now (map board_of xs)) (take_all n bs all) h

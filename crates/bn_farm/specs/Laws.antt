@@ -5,8 +5,7 @@ use Rattle.bn_circuits.specs.Circuits.{Goes}
 use Rattle.bn_circuits.specs.Stepping.{run, back}
 use Rattle.bn_farm.specs.declared.event.Event.{Event}
 use Rattle.bn_farm.specs.Farms.{FarmBoard, IsAdmitted, IsFarm, Tick, after_steps, alone, at_board, circuit_in}
-use Rattle.bn_farm.specs.Farms.{farm_after, in_config}
-use Rattle.bn_farm.specs.Farms.{own, play, ticks, ticks_of}
+use Rattle.bn_farm.specs.Farms.{farm_after, in_config, own, play, ticks, ticks_of}
 use Rattle.bn_farm.specs.Undo.{AllLawful, steps_between, moving, undoing}
 use Rattle.bn_farm.specs.TextLaws.{UndoingIsASchedule, FarmsAreReadBack, FarmsHaveTexts, FarmTextsAreOne}
 use Rattle.bn_farm.specs.declared.farm_reader.TheConstants.{MOST_FARM_BYTES}

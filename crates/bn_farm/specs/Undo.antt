@@ -3,8 +3,7 @@ use Rattle.std.specs.Prelude.{ℕ, zero, suc, ◌-◌, ◌<◌, ◌≤◌, Bool,
 use Rattle.std.specs.Option.{option_map_or}
 use Rattle.bn_circuits.specs.Circuits.{clock}
 use Rattle.bn_circuits.specs.declared.config.Config.{Config}
-use Rattle.bn_farm.specs.Farms.{stepped, play, ticks_of}
-use Rattle.bn_farm.specs.Farms.{FarmBoard, circuit_in}
+use Rattle.bn_farm.specs.Farms.{stepped, play, ticks_of, FarmBoard, circuit_in}
 use Rattle.bn_farm.specs.declared.event.Event.{Event}
 
 -- the other direction

@@ -1,5 +1,4 @@
-mod Cases
-mod RoundLemmas
+pub mod Cases
 pub mod FormLemmas
 pub mod MachineLemmas
 pub mod TableLemmas

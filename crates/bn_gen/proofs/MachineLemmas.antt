@@ -33,8 +33,7 @@ in_range_by states q passed =
       state = ltb-true _ _ front.0;
       read = ltb-true _ _ front.1;
       write = ltb-true _ _ back.0;
-      next = ltb-true _ _
-          back.1;
+      next = ltb-true _ _ back.1;
     }
 
 all_range : (k : ℕ) → IsRoundCount k → list_all (ranges (3 * k + 2)) (quints_of k) ≡ true
@@ -102,8 +101,7 @@ standard k h = record {
   begins = record {
     quint = increment_rule 0 0 0 Right 1;
     stands = refl;
-    begins = record
-        { reads = refl; writes = refl; shifts = refl };
+    begins = record { reads = refl; writes = refl; shifts = refl };
   };
   lone_start = lone_start (quints_of k) refl (all_avoid_start k h);
   ends = record {

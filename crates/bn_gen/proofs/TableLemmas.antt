@@ -1,8 +1,6 @@
 -- The table of the machine of k increments is a table, and its names stand by number.
-use Rattle.std.specs.Prelude.{length, nat_eq, slice_index, slice_index_or, take, All, codes}
+use Rattle.std.specs.Prelude.{length, nat_eq, slice_index, slice_index_or, take, All}
 use Rattle.std.specs.List.{list_all}
-use Rattle.std.proofs.Math.ListN.{get_or-append}
-use Rattle.std.proofs.lemmas.List.{get_or-take}
 use Rattle.std.proofs.lemmas.Option.{slice_get-get_or}
 use Rattle.std.proofs.Common.{◌≡◌, ◌≤◌, ◌<◌, ◌+◌, ◌*◌, ◌∷◌, [], ℕ, zero, suc, ap, List, true, ◌∙◌, refl, sym, subst}
 use Rattle.std.proofs.Common.{arith}
@@ -17,7 +15,7 @@ use Rattle.bn_table.specs.Reading.{Reads}
 use Rattle.bn_table.specs.Rows.{IsTable, blank, letters_in, names_in, rows_by, rows_of}
 use Rattle.bn_table.proofs.Writing.{lines-all, reads-back}
 use Rattle.bn_gen.specs.Increments.{IsRoundCount, quints_of}
-use Rattle.bn_gen.specs.Text.{increments_table, increments_text, increment_letters, increment_names, round_names}
+use Rattle.bn_gen.specs.Text.{increments_table, increments_text, increment_letters, increment_names}
 use Rattle.bn_gen.proofs.Cases.{by_cases}
 use Rattle.bn_gen.proofs.MachineLemmas.{in_range}
 
@@ -59,22 +57,6 @@ is_table k h = record {
 }
 
 -- ---- its names
-
-long_enough : (k : ℕ) → IsRoundCount k → length (take (3 * k + 1) round_names) ≡ 3 * k + 1
-long_enough = by_cases (λ k. length (take (3 * k + 1) round_names) ≡ 3 * k + 1) refl refl refl refl
-
--- the final state's name
-pub final_name : (k : ℕ) → IsRoundCount k → slice_index_or (increment_names k) (3 * k + 1) [] ≡ codes "F"
-final_name = by_cases (λ k. slice_index_or (increment_names k) (3 * k + 1) [] ≡ codes "F") refl refl refl refl
-
--- any other state's
-pub other_name : (k s : ℕ) → IsRoundCount k → s < 3 * k + 1 → slice_index_or (increment_names k) s []
-    ≡ slice_index_or round_names s []
-other_name k s h low =
-    let count : length (take (3 * k + 1) round_names) ≡ 3 * k + 1 = long_enough k h in
-    let inside : s < length (take (3 * k + 1) round_names) = omega (arith, count, low) in
-    get_or-append (take (3 * k + 1) round_names) (codes "F" ∷ []) [] s inside
-    ∙ get_or-take (3 * k + 1) round_names s [] low
 
 -- the names and letters of a quintuple in range have their forms
 name_form : (k s : ℕ) → IsRoundCount k → s < 3 * k + 2 → is_state_name (slice_index_or (increment_names k) s []) ≡ true

@@ -77,8 +77,7 @@ module _ (p : Program) (l : Limits) (ns : List ℕ) (c : Moment) where
       b ∙ (λ j. (
         shift (ahead (counts j) c.tape) Right,
         history ns,
-        ahead (counts j)
-            (word_tape (take (counts j) (words j))),
+        ahead (counts j) (word_tape (take (counts j) (words j))),
       )) ∙ sym f
   tapes_one o x y (to_read z k final out a last b) (to_write w n also out_too e last_too f) =
       absurd (let same = tapes_apart 1 3 _ _ o a e in omega arith)
@@ -93,8 +92,7 @@ module _ (p : Program) (l : Limits) (ns : List ℕ) (c : Moment) where
       b ∙ (λ j. (
         shift (ahead (counts j) c.tape) Right,
         history ns,
-        shift
-            (ahead (counts j) (word_tape (take (counts j) (words j)))) Right,
+        shift (ahead (counts j) (word_tape (take (counts j) (words j)))) Right,
       )) ∙ sym f
 
 module _ (t : Named) (l : Limits) (symbols : List ℕ) (i : ℕ) where

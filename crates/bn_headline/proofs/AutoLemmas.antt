@@ -34,8 +34,7 @@ use Rattle.bn_headline.specs.AutoReply.{AutoIsSettled, AutoReplies, EndReplies, 
 use Rattle.bn_headline.specs.AutoReply.{SearchReplies, found, found_line, large, long, searched}
 use Rattle.bn_headline.specs.FoundHeadline.{IsWordGiven}
 use Rattle.bn_headline.specs.AutoLaws.{RoundsAreTheSearchs, RoundsBeginAnswers}
-use Rattle.bn_headline.proofs.SearchLemmas.{finding_once, first_on_way, stays_on_way, widens_once, stopped}
-use Rattle.bn_headline.proofs.SearchLemmas.{next_on_way}
+use Rattle.bn_headline.proofs.SearchLemmas.{finding_once, first_on_way, stays_on_way, widens_once, stopped, next_on_way}
 use Rattle.bn_headline.proofs.RoundLemmas.{Boards, asked, board_there, has_board, rounds_once, rounds_search}
 use Rattle.bn_headline.proofs.RoundLemmas.{search_rounds, standard, fits_table, round_widens, round_told}
 
@@ -155,8 +154,7 @@ module _ (laws : Answers) (bytes letters : List ℕ) (t : Named) (symbols : List
       statuses.Size,
       large_line count,
       [],
-      large count counts great refl
-          refl refl,
+      large count counts great refl refl refl,
     )
     stops_end a (halts b i y out e) =
         let flat = board_there laws.boards bytes letters t symbols given w on b in
@@ -189,8 +187,7 @@ module _ (laws : Answers) (bytes letters : List ℕ) (t : Named) (symbols : List
         let all = run_once f g comes also s u ran other x y tells says in
         record {
           statuses = all.statuses;
-          texts = h ∙ ap (λ r. found_line w ++ r) all.texts
-              ∙ sym k;
+          texts = h ∙ ap (λ r. found_line w ++ r) all.texts ∙ sym k;
           places = all.places;
         }
 
@@ -267,8 +264,7 @@ module _ (laws : Answers) (bytes letters : List ℕ) (t : Named) (symbols : List
       record {
         statuses = end.statuses;
         texts = end.texts;
-        places = h.told_is ∙ (λ i. both.1 i ++ end.places i)
-            ∙ sym k.told_is;
+        places = h.told_is ∙ (λ i. both.1 i ++ end.places i) ∙ sym k.told_is;
       }
 
   pub search_status : (s : Status) (text : List ℕ) (told : List Place) → SearchReplies t symbols s text told
@@ -279,8 +275,7 @@ module _ (laws : Answers) (bytes letters : List ℕ) (t : Named) (symbols : List
   search_settled = record {
     some = search_some;
     one = search_one;
-    status = λ s text told r.
-        (search_status s text told r).reply;
+    status = λ s text told r. (search_status s text told r).reply;
   }
 
 -- ---- a word of any length

@@ -7,7 +7,7 @@ use Rattle.bn_bennett_laws.specs.Renamed.{renamed}
 use Rattle.bn_bennett_laws.proofs.Counts.{list_counts_names, list_has_length}
 use Rattle.bn_bennett.specs.Translation.{name_of}
 use Rattle.bn_bennett.proofs.Counting.{each_mentioned, numbers_states}
-use Rattle.bn_board_spec.proofs.LetterLemmas.{some_symbols}
+use Rattle.bn_bennett.proofs.Machines.{some_symbols}
 use Rattle.bn_reply_boards.proofs.OpeningLemmas.{within_limits}
 use Rattle.bn_headline.specs.ControlLaws.{TranslationsHaveControls}
 

@@ -28,8 +28,7 @@ use Rattle.bn_headline.specs.AutoLaws.{AutosTellFindings, AutosTellPlaces, Tells
 use Rattle.bn_headline.proofs.SearchLemmas.{finding_once, first_on_way, stays_on_way, widens_once}
 use Rattle.bn_headline.proofs.RoundLemmas.{asked, board_places, ran as board_ran, rounds_places, rounds_search}
 use Rattle.bn_headline.proofs.RoundLemmas.{standard}
-use Rattle.bn_headline.proofs.AutoLemmas.{Answers, IsEndStatus, auto_searched, end_status, find_status}
-use Rattle.bn_headline.proofs.AutoLemmas.{search_finds}
+use Rattle.bn_headline.proofs.AutoLemmas.{Answers, IsEndStatus, auto_searched, end_status, find_status, search_finds}
 
 module _ (laws : Answers) (bytes letters : List ℕ) (t : Named) (symbols : List ℕ)
     (given : IsWordGiven bytes letters t symbols) where
@@ -170,22 +169,19 @@ autos-tell_places laws bytes letters t symbols s text told given reply n a h =
 -- a status that is neither
 text_neither : (s : Status) → s ≡ statuses.Text → (s ≢ statuses.Window) × (s ≢ statuses.Inside)
 text_neither s e = (
-  λ is. let h : statuses.Text ≡ statuses.Window = sym e
-      ∙ is in cc,
+  λ is. let h : statuses.Text ≡ statuses.Window = sym e ∙ is in cc,
   λ is. let h : statuses.Text ≡ statuses.Inside = sym e ∙ is in cc,
 )
 
 machine_neither : (s : Status) → s ≡ statuses.Machine → (s ≢ statuses.Window) × (s ≢ statuses.Inside)
 machine_neither s e = (
-  λ is. let h : statuses.Machine ≡ statuses.Window = sym e
-      ∙ is in cc,
+  λ is. let h : statuses.Machine ≡ statuses.Window = sym e ∙ is in cc,
   λ is. let h : statuses.Machine ≡ statuses.Inside = sym e ∙ is in cc,
 )
 
 word_neither : (s : Status) → s ≡ statuses.Word → (s ≢ statuses.Window) × (s ≢ statuses.Inside)
 word_neither s e = (
-  λ is. let h : statuses.Word ≡ statuses.Window = sym e
-      ∙ is in cc,
+  λ is. let h : statuses.Word ≡ statuses.Window = sym e ∙ is in cc,
   λ is. let h : statuses.Word ≡ statuses.Inside = sym e ∙ is in cc,
 )
 

@@ -99,8 +99,7 @@ module _ (p : Program) (standard : IsStandardMachine p) (fits : FitsTable p) whe
     pub stops_found : (w : Limits) → elements p w ≤ MOST_ELEMENTS → (i : ℕ) (o : Outcome) → HasOutcome p word w i o
         → EndsInside o → Stops p word w (Found w)
     stops_found w few i (outcome.Halted y) out inside = halts (board_of w few) i y out refl
-    stops_found w few i (outcome.Stuck state symbol) out inside =
-        sticks (board_of w few) i state symbol out refl
+    stops_found w few i (outcome.Stuck state symbol) out inside = sticks (board_of w few) i state symbol out refl
     stops_found w few i (outcome.Outside tape side) out inside = absurd inside
 
     ends_own : (last : Limits) (a : Finding) → Stops p word last a

@@ -16,7 +16,8 @@ use Rattle.bn_headline.specs.MachineHeadline.{IsOwnRun}
 use Rattle.bn_headline.specs.HeadlineLaws.{ElementsAreCounted, GeneratedTellsMachine, IncrementsAreCounted}
 use Rattle.bn_headline.specs.HeadlineLaws.{IncrementsRun}
 use Rattle.bn_headline.proofs.HeadlineLemmas as headline
-use Rattle.bn_headline.proofs.WalkLemmas.{by_cases, increments-halt}
+use Rattle.bn_headline.proofs.WalkLemmas.{increments-halt}
+use Rattle.bn_gen.proofs.Cases.{by_cases}
 
 pub increments-counted : IncrementsAreCounted
 increments-counted = (refl, refl, refl, refl)

@@ -46,9 +46,6 @@ found : (a c : ℕ) (qs : List Quint) (r : ℕ × Quint) → find_by a c qs ≡ 
 found a c [] r h = absurd (cc)
 found a c (q ∷ qs) r h = by (λ x e. found a c qs x e) (both q.state a q.read c)
   where
-    P : Quint → Type 0
-    P x = Matches x a c
-
     here : Some (1, q) ≡ Some r → a ≡ q.state → c ≡ q.read → IsFirstMatch (q ∷ qs) a c r.0 r.1
     here is from reads =
         let same : ◌≡◌ {A = ℕ × Quint} (1, q) r = cc in

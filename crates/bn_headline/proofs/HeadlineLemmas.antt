@@ -1,7 +1,6 @@
 -- The headline by the machine alone, from the reply to a run.
-use Rattle.std.specs.Prelude.{refl, ◌≡◌, ℕ, ◌+◌, ◌-◌, ◌*◌, ◌<◌, ◌≤◌, List, [], ◌∷◌, ◌++◌, length}
-use Rattle.std.specs.Prelude.{replicate, slice_get, Option, Some, None, slice_index}
-use Rattle.std.specs.Prelude.{decimal}
+use Rattle.std.specs.Prelude.{refl, ◌≡◌, ℕ, ◌+◌, ◌-◌, ◌*◌, ◌<◌, ◌≤◌, List, [], ◌∷◌, ◌++◌, length, replicate, slice_get}
+use Rattle.std.specs.Prelude.{Option, Some, None, slice_index, decimal}
 use Rattle.std.proofs.Common.{zero, suc, arith, zero-add, ap, subst, ◌∙◌, sym}
 use Rattle.std.proofs.lemmas.Option.{option_and_then_some}
 use Rattle.bn_bennett_laws.specs.List.{symbols_of}
@@ -44,17 +43,15 @@ use Rattle.bn_board_spec.specs.Boards.{size}
 use Rattle.bn_base.specs.Number.{greatest}
 use Rattle.bn_reply.specs.declared.limits.TheConstants.{MOST_INPUT_BYTES}
 use Rattle.bn_reply_laws.specs.Windows.{BoardReplies, long, large, board, ComesTo, CountsElements, large_line}
-use Rattle.bn_reply_laws.specs.RunText.{elements_line, exit_line, shown_lines}
-use Rattle.bn_reply_laws.specs.RunText.{steps_line, tape_lines, tapes_text}
+use Rattle.bn_reply_laws.specs.RunText.{elements_line, exit_line, shown_lines, steps_line, tape_lines, tapes_text}
 use Rattle.bn_reply_laws.specs.RunReply.{RunReplies, TellsRun, board_after}
 use Rattle.bn_reply_laws.specs.ToldRuns as within
 use Rattle.bn_reply_laws.specs.ToldRuns.{ComesOutOn, TellsOutcome, outcome_line, outcome_rest, run_words}
 use Rattle.bn_reply_laws.specs.Laws.{AnswersTellHeadline, BoardsAreCounted, RunsHaveOneOfEach}
 use Rattle.bn_reply_laws.proofs.WindowLemmas.{standard_machine}
 use Rattle.bn_headline.specs.Elements.{elements, most_steps}
-use Rattle.bn_headline.specs.MachineHeadline.{AreLastLines, AreTapes, IsOwnRun, MachineHeadline}
-use Rattle.bn_headline.specs.MachineHeadline.{MachineHeadlineWithin, TellsExit, TellsInside, TellsExitWithin}
-use Rattle.bn_headline.specs.MachineHeadline.{TookAnswer, least_steps}
+use Rattle.bn_headline.specs.MachineHeadline.{AreLastLines, AreTapes, IsOwnRun, MachineHeadline, MachineHeadlineWithin}
+use Rattle.bn_headline.specs.MachineHeadline.{TellsExit, TellsInside, TellsExitWithin, TookAnswer, least_steps}
 use Rattle.bn_headline.specs.HeadlineLaws.{ElementsAreCounted, RepliesTellMachine}
 
 -- ---- tapes

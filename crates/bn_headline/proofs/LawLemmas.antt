@@ -2,11 +2,12 @@
 use Rattle.bn_board_laws.proofs.LawLemmas.{flats_are_there, boards_run_to_their_exit}
 use Rattle.bn_board_spec.proofs.ExitLemmas.{exits-one}
 use Rattle.bn_board_spec.proofs.LawLemmas.{flats_are_one}
-use Rattle.bn_headline.proofs.AutoLemmas.{rounds-search, auto-settled, rounds-begin}
+use Rattle.bn_headline.proofs.AutoLemmas.{Answers, rounds-search, auto-settled, rounds-begin}
 use Rattle.bn_headline.proofs.ClosedLemmas.{one_of_each}
 use Rattle.bn_headline.proofs.FoundLemmas.{autos-tell_findings, autos-tell_places, autos-end_inside, answers-tell_found}
 use Rattle.bn_headline.proofs.GeneratedLemmas.{increments-run}
 use Rattle.bn_headline.proofs.ReturnLemmas.{own-runs_are_one}
+use Rattle.bn_headline.proofs.RoundLemmas.{Boards}
 use Rattle.bn_headline.proofs.SearchLemmas.{search-ends, search-short, search-one}
 use Rattle.bn_headline.proofs.SizeLemmas.{elements-grow}
 use Rattle.bn_headline.specs.AutoLaws.{RoundsAreTheSearchs, AutosTellFindings, AutosTellPlaces, AutosEndInside}
@@ -36,102 +37,37 @@ search_is_short = search-short flats_are_there boards_are_counted
 pub search_is_one : SearchIsOne
 search_is_one = search-one boards_are_counted
 
-pub rounds_are_the_searchs : RoundsAreTheSearchs
-rounds_are_the_searchs = rounds-search (record {
+-- what is known of all boards, and of what runs and rounds answer
+boards : Boards
+boards = record {
   machines = tables_machines;
   flats = flats_are_there;
   ones = flats_are_one;
   counted = boards_are_counted;
   exits_one = exits-one;
   runs = boards_run_to_their_exit;
-})
+}
+
+known : Answers
+known = record { boards = boards; settled = run_has_one_reply; tells = runs_tell_outcomes; ends = search_ends }
+
+pub rounds_are_the_searchs : RoundsAreTheSearchs
+rounds_are_the_searchs = rounds-search boards
 
 pub auto_has_one_reply : AutoIsSettled
-auto_has_one_reply = auto-settled (record {
-  boards = record {
-    machines = tables_machines;
-    flats = flats_are_there;
-    ones = flats_are_one;
-    counted = boards_are_counted;
-    exits_one = exits-one;
-    runs = boards_run_to_their_exit;
-  };
-  settled = run_has_one_reply;
-  tells = runs_tell_outcomes;
-  ends = search_ends;
-})
+auto_has_one_reply = auto-settled known
 
 pub autos_tell_findings : AutosTellFindings
-autos_tell_findings = autos-tell_findings (record {
-  boards = record {
-    machines = tables_machines;
-    flats = flats_are_there;
-    ones = flats_are_one;
-    counted = boards_are_counted;
-    exits_one = exits-one;
-    runs = boards_run_to_their_exit;
-  };
-  settled = run_has_one_reply;
-  tells = runs_tell_outcomes;
-  ends = search_ends;
-})
+autos_tell_findings = autos-tell_findings known
 
 pub autos_tell_places : AutosTellPlaces
-autos_tell_places = autos-tell_places (record {
-  boards = record {
-    machines = tables_machines;
-    flats = flats_are_there;
-    ones = flats_are_one;
-    counted = boards_are_counted;
-    exits_one = exits-one;
-    runs = boards_run_to_their_exit;
-  };
-  settled = run_has_one_reply;
-  tells = runs_tell_outcomes;
-  ends = search_ends;
-})
+autos_tell_places = autos-tell_places known
 
 pub autos_end_inside : AutosEndInside
-autos_end_inside = autos-end_inside (record {
-  boards = record {
-    machines = tables_machines;
-    flats = flats_are_there;
-    ones = flats_are_one;
-    counted = boards_are_counted;
-    exits_one = exits-one;
-    runs = boards_run_to_their_exit;
-  };
-  settled = run_has_one_reply;
-  tells = runs_tell_outcomes;
-  ends = search_ends;
-})
+autos_end_inside = autos-end_inside known
 
 pub answers_tell_found_window : AnswersTellFoundWindow
-answers_tell_found_window = answers-tell_found (record {
-  boards = record {
-    machines = tables_machines;
-    flats = flats_are_there;
-    ones = flats_are_one;
-    counted = boards_are_counted;
-    exits_one = exits-one;
-    runs = boards_run_to_their_exit;
-  };
-  settled = run_has_one_reply;
-  tells = runs_tell_outcomes;
-  ends = search_ends;
-})
+answers_tell_found_window = answers-tell_found known
 
 pub rounds_begin_answers : RoundsBeginAnswers
-rounds_begin_answers = rounds-begin (record {
-  boards = record {
-    machines = tables_machines;
-    flats = flats_are_there;
-    ones = flats_are_one;
-    counted = boards_are_counted;
-    exits_one = exits-one;
-    runs = boards_run_to_their_exit;
-  };
-  settled = run_has_one_reply;
-  tells = runs_tell_outcomes;
-  ends = search_ends;
-})
+rounds_begin_answers = rounds-begin known

@@ -25,8 +25,7 @@ use Rattle.bn_headline.proofs.Told.{is_reader, is_written, is_left, is_entered}
 use Rattle.bn_lists.proofs.ApartLemmas.{IsApart, IsWithin, same_length, joined, mapped, from_mapped, apart_mapped}
 use Rattle.bn_lists.proofs.ApartLemmas.{filtered, from_filtered, apart_filtered, apart_places, range_member, from_range}
 use Rattle.bn_lists.proofs.ApartLemmas.{range_apart}
-use Rattle.bn_headline.proofs.CountLemmas.{passing, passing_append, passing_mapped, all_pass, halves, either}
-use Rattle.bn_headline.proofs.CountLemmas.{just_one}
+use Rattle.bn_headline.proofs.CountLemmas.{passing, passing_append, passing_mapped, all_pass, halves, either, just_one}
 use Rattle.bn_headline.proofs.ToldLemmas.{any_found, next_not_start}
 
 abbrev kind : Name → ℕ
@@ -167,24 +166,20 @@ module _ (p : Program) (standard : IsStandardMachine p) (fits : FitsTable p) (or
 
   over_four : (x : Name) → Has (within_retracing ++ copying) x → 3 ≤ kind x
   over_four x h = elim (of_two within_retracing copying x h) [
-    | inl a
-        ↦ (let is = kind_of RetraceWithin 3 (λ k. refl) places x a in omega arith)
-    | inr b
-        ↦ (let is = kind_copying x b in omega arith)
+    | inl a ↦ (let is = kind_of RetraceWithin 3 (λ k. refl) places x a in omega arith)
+    | inr b ↦ (let is = kind_copying x b in omega arith)
   ]
 
   over_three : (x : Name) → Has (within_computing ++ (within_retracing ++ copying)) x → 2 ≤ kind x
   over_three x h = elim (of_two within_computing (within_retracing ++ copying) x h) [
     | inl a ↦ (let is = kind_of ComputeWithin 2 (λ k. refl) places x a in omega arith)
-    | inr b
-        ↦ (let is = over_four x b in omega arith)
+    | inr b ↦ (let is = over_four x b in omega arith)
   ]
 
   over_two : (x : Name) → Has (retracing ++ (within_computing ++ (within_retracing ++ copying))) x → 1 ≤ kind x
   over_two x h = elim (of_two retracing (within_computing ++ (within_retracing ++ copying)) x h) [
     | inl a ↦ (let is = kind_of Retrace 1 (λ k. refl) states x a in omega arith)
-    | inr b
-        ↦ (let is = over_three x b in omega arith)
+    | inr b ↦ (let is = over_three x b in omega arith)
   ]
 
   copying_apart : IsApart copying

@@ -17,8 +17,7 @@ length_inits (x ∷ l) = ap suc (length-map (inits l) (λ b. x ∷ b) ∙ length
 pub inits_apart : {A : Type 0} (l : List A) → IsApart (inits l)
 inits_apart [] = tt
 inits_apart {A = A} (x ∷ l) = (
-  (λ h. (let found = from_mapped (λ (b : List A). x ∷ b) (inits l) [] h in let e = found.2
-      in cc)),
+  (λ h. (let found = from_mapped (λ (b : List A). x ∷ b) (inits l) [] h in let e = found.2 in cc)),
   apart_mapped (λ (b : List A). x ∷ b) (λ b c e. cc) (inits l) (inits_apart l),
 )
 

@@ -42,6 +42,5 @@ pub headline-tells_circuit : BoardsReturn → HeadlineTellsCircuit
 unfolding CircuitHeadline
 headline-tells_circuit returned words bytes status taken took h short letters l given asks t symbols count i o on = (
   h short letters l given asks t symbols count i o on,
-  λ f comes. returned bytes letters l t symbols f on.given
-      comes,
+  λ f comes. returned bytes letters l t symbols f on.given comes,
 )

@@ -249,7 +249,6 @@ module _ (laws : Boards) (bytes letters : List ℕ) (t : Named) (symbols : List 
         made.2,
         goes,
         board_places w on made.3.flat made.3.comes made.1 made.3.told_is,
-        rounds_places n
-            made.0 v made.2 (next_on_way program symbols standard w made.0 goes on) made.4,
+        rounds_places n made.0 v made.2 (next_on_way program symbols standard w made.0 goes on) made.4,
         made.5,
       )

@@ -62,8 +62,7 @@ module _ (p : Program) (word : List ℕ) where
   first_on_way = record {
     whole = first_whole word;
     fits = first_fits word;
-    small = λ few.
-        (omega arith, omega arith, omega arith, omega arith);
+    small = λ few. (omega arith, omega arith, omega arith, omega arith);
   }
 
   module _ (counted : BoardsAreCounted) where

@@ -10,7 +10,8 @@ use Rattle.bn_quad.specs.Quadruples.{Quadruples}
 use Rattle.bn_bennett_laws.specs.Stages.{IsStandardMachine}
 use Rattle.bn_network.specs.Controls.{control_lines, symbol_count}
 use Rattle.bn_network.specs.Networks.{IsTape, bank_size, cell_size, elements_by}
-use Rattle.bn_board_spec.proofs.LetterLemmas.{some_symbols, tape_letters}
+use Rattle.bn_board_spec.proofs.LetterLemmas.{tape_letters}
+use Rattle.bn_bennett.proofs.Machines.{some_symbols}
 use Rattle.bn_network.specs.Limits.{AreSmall}
 use Rattle.bn_reply_laws.specs.Windows.{CountsElements}
 use Rattle.bn_reply_laws.specs.Laws.{BoardsAreCounted}

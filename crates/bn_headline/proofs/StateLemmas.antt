@@ -36,8 +36,7 @@ use Rattle.bn_bennett_laws.specs.Stages.{IsStandardMachine}
 use Rattle.bn_bennett_laws.specs.declared.name.Name.{Name}
 use Rattle.bn_bennett_laws.specs.declared.name.Name.TheVariants.{Compute, ComputeWithin, GoRight, CopyLetter, GoLeft}
 use Rattle.bn_bennett_laws.specs.declared.name.Name.TheVariants.{PassLetter, Retrace, RetraceWithin}
-use Rattle.bn_headline.proofs.Told.{is_reader, is_written, low, later, earlier, ReadsTell, WritesTell, Tells}
-use Rattle.bn_headline.proofs.Told.{is_left}
+use Rattle.bn_headline.proofs.Told.{is_reader, is_written, low, later, earlier, ReadsTell, WritesTell, Tells, is_left}
 use Rattle.bn_lists.proofs.ApartLemmas.{IsApart, split_at, joined, mapped, from_mapped, apart_mapped, filtered}
 use Rattle.bn_lists.proofs.ApartLemmas.{from_filtered, apart_filtered, range_member, from_range, range_apart}
 use Rattle.bn_headline.proofs.AlongLemmas.{along, along_member, from_along, apart_along}
@@ -497,8 +496,7 @@ module _ (p : Program) (standard : IsStandardMachine p) (order : List Name) (num
         | inl three ↦ from_shifts x three
         | inr rest ↦ elim (of_two lasts more_written x rest) [
           | inl four ↦ from_lasts x four
-          | inr five
-              ↦ from_writes x five
+          | inr five ↦ from_writes x five
         ]
       ]
     ]
@@ -630,8 +628,7 @@ module _ (p : Program) (standard : IsStandardMachine p) (order : List Name) (num
             c.1,
             symbols_read more,
             e ∙ ap (λ l. Writes r.to q.0 (symbols_read l)) follows,
-            told
-                (rising 1 (deeds_of r)) refl (symbols_read before) q.1 c.1 (symbols_read more) symbols,
+            told (rising 1 (deeds_of r)) refl (symbols_read before) q.1 c.1 (symbols_read more) symbols,
           )
 
   writes_apart : IsApart more_written
@@ -676,8 +673,7 @@ module _ (p : Program) (standard : IsStandardMachine p) (order : List Name) (num
         | inl a ↦ (let is = class_shifts x a in omega arith)
         | inr b ↦ elim (of_two lasts more_written x b) [
           | inl c ↦ (let is = class_lasts x c in omega arith)
-          | inr d
-              ↦ (let is = class_writes x d in omega arith)
+          | inr d ↦ (let is = class_writes x d in omega arith)
         ]
       ]
 

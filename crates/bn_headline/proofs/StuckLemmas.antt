@@ -104,8 +104,7 @@ module _ (m : Quadruples) (l : Limits) (word : List ℕ) (names : List ControlSt
         awaits = (is.is_control.awaiting number c.state t).1 (
           Reads c.state [],
           waits.named,
-          record
-              { state = refl; entry = stop.entry },
+          record { state = refl; entry = stop.entry },
         );
         answers = record {
           among = subst (λ zs. scanned (tape_of c t) < slice_index zs (t - 1)) (sym is.is_control.symbols) among;
@@ -157,8 +156,7 @@ strides_run f test (suc n) x y run =
     let here = passes_run (Turns f.network) (λ z. not (test z)) run.1.moves x.0 run.0.0 run.1.travels.path in
     let rest = strides_run f test n run.0 y run.2 in (
       run.1.moves + rest.0,
-      runs_join (Turns f.network) (run.1.moves + rest.0) run.1.moves rest.0 x.0 run.0.0 y.0 refl
-          here rest.1,
+      runs_join (Turns f.network) (run.1.moves + rest.0) run.1.moves rest.0 x.0 run.0.0 y.0 refl here rest.1,
     )
 
 comes_run : (f : Flat) (test : Situation → Bool) (n : ℕ) (d : Configuration ℕ) (e : Exit)
@@ -170,8 +168,7 @@ comes_run f test n d e h =
     let last = passes_run (Turns f.network) (λ z. not (test z)) h.moves h.moment h.last h.leaves.path in
     let two = runs_join (Turns f.network) (1 + middle.0) 1 middle.0 _ h.first h.moment refl begun middle.1 in (
       1 + middle.0 + h.moves,
-      runs_join (Turns f.network) (1 + middle.0 + h.moves) (1 + middle.0) h.moves _ h.moment
-          h.last refl two last,
+      runs_join (Turns f.network) (1 + middle.0 + h.moves) (1 + middle.0) h.moves _ h.moment h.last refl two last,
     )
 
 pub stuck-runs : StuckRunsAreNamed
@@ -233,6 +230,5 @@ stuck-runs p l word t names a may is_t is i j c out =
       run.1,
       comes.ended,
       ended.2,
-      subst
-          (λ x. IsNamedStop is.control comes.last ended.0.state x) symbol stop.2,
+      subst (λ x. IsNamedStop is.control comes.last ended.0.state x) symbol stop.2,
     )

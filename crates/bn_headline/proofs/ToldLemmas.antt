@@ -57,10 +57,6 @@ module _ (p : Program) (standard : IsStandardMachine p) where
   pub entered_is : (m : ℕ) (q : Quint) → nth p.quints m ≡ Some q → is_entered p.quints q.next ≡ true
   entered_is m q here = any_nth (λ v. v.next == q.next) p.quints m q here (eq-eqb q.next q.next refl)
 
-  or_true : (b : Bool) → (b || true) ≡ true
-  or_true true = refl
-  or_true false = refl
-
   pub rules_tell : (r : Rule Name) → IsIn (bennett p) r → Tells p r
   rules_tell =
       let final = eq-eqb (final_of p.quints) (final_of p.quints) refl in

@@ -24,6 +24,7 @@ use Rattle.bn_gen.specs.Increments.{IsRoundCount, incrementer, quints_of, final}
 use Rattle.bn_gen.proofs.MachineLemmas.{standard}
 use Rattle.bn_reply_boards.specs.GenerateReply.{window}
 use Rattle.bn_headline.specs.Generated.{binary}
+use Rattle.bn_gen.proofs.Cases.{by_cases}
 
 -- a state, and the cells from 0 on with the head at one of them
 record Spot : Type 0 where
@@ -33,15 +34,6 @@ record Spot : Type 0 where
 
 abbrev moment_of : Spot → Moment
 moment_of s = record { state = s.state; tape = record { cells = cells_from (pos 0) s.cells; head = pos s.at } }
-
--- what holds of 1 to 4 increments holds of each number of increments
-pub by_cases : (P : ℕ → Type 0) → P 1 → P 2 → P 3 → P 4 → (k : ℕ) → IsRoundCount k → P k
-by_cases P one two three four zero h = absurd (omega (arith, h.some))
-by_cases P one two three four (suc zero) h = one
-by_cases P one two three four (suc (suc zero)) h = two
-by_cases P one two three four (suc (suc (suc zero))) h = three
-by_cases P one two three four (suc (suc (suc (suc zero)))) h = four
-by_cases P one two three four (suc (suc (suc (suc (suc k))))) h = absurd (omega (arith, h.few))
 
 -- ---- one step
 
@@ -138,8 +130,7 @@ module _ (p : Program) (standard : IsStandard p.quints) (right : ℕ) where
               clashes = record {
                 before = below;
                 state = sym other.from ∙ sym state;
-                read = sym other.reads
-                    ∙ (scans ∙ sym read);
+                read = sym other.reads ∙ (scans ∙ sym read);
               };
             });
           };

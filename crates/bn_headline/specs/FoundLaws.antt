@@ -1,6 +1,6 @@
 -- What the answers of `run` with `auto` tell of the machine alone and of the circuit; and the search by the machine
 -- alone, which is that of the boards.
-use Rattle.std.specs.Prelude.{◌≡◌, ℕ, ◌<◌, ◌≤◌, List, Option, ◌⊎◌}
+use Rattle.std.specs.Prelude.{ℕ, ◌<◌, ◌≤◌, List, Option, ◌⊎◌}
 use Rattle.bn_lists.specs.Runs.{Reaches}
 use Rattle.bn_machine.specs.Machine.{Program}
 use Rattle.bn_machine.specs.Outcome.{Limits, Outcome, HasOutcome}
@@ -10,7 +10,6 @@ use Rattle.bn_table.specs.Rows.{FitsTable}
 use Rattle.bn_assembly.specs.Widening.{first_window}
 use Rattle.bn_reply.specs.declared.status.Status.{Status}
 use Rattle.bn_headline.specs.FoundHeadline.{TellsFoundWindow}
-use Rattle.bn_headline.specs.Searches.{Found, HasFinding, Large}
 use Rattle.bn_headline.specs.Elements.{elements}
 use Rattle.bn_headline.specs.FoundCircuitHeadline.{FoundCircuitHeadline}
 use Rattle.bn_headline.specs.FoundMachineHeadline.{EndsInside, FoundMachineHeadline, WidensTo}

@@ -25,8 +25,7 @@ use Rattle.bn_reply.specs.declared.status.Status.{Status}
 use Rattle.bn_reply_laws.specs.Laws.{TookReplies}
 use Rattle.bn_headline.specs.Elements.{elements, most_steps}
 use Rattle.bn_headline.specs.Generated.{TellsIncrements, binary}
-use Rattle.bn_headline.specs.MachineHeadline.{IsOwnRun, MachineHeadline, MachineHeadlineWithin, TookRun}
-use Rattle.bn_headline.specs.MachineHeadline.{least_steps}
+use Rattle.bn_headline.specs.MachineHeadline.{IsOwnRun, MachineHeadline, MachineHeadlineWithin, TookRun, least_steps}
 
 -- the network of a machine has so many elements
 abbrev pub ElementsAreCounted : Type 0

@@ -5,10 +5,6 @@ use Rattle.std.specs.Prelude.{ℕ, ◌≤◌}
 use Rattle.std.proofs.Common.{arith}
 use Rattle.bn_io.specs.Faults.{Rose}
 
--- a count that rose early in a call rose in the call
-pub Rose-early : (before middle now : ℕ) → Rose before middle → middle ≤ now → Rose before now
-Rose-early before middle now rose later = omega arith
-
 -- a count that rose late in a call rose in the call
 pub Rose-late : (before middle now : ℕ) → before ≤ middle → Rose middle now → Rose before now
 Rose-late before middle now later rose = omega arith

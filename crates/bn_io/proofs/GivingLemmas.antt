@@ -15,7 +15,6 @@ pub front_of_piece : (a b : Option (List ℕ)) (text piece rest : List ℕ) → 
 front_of_piece a b text piece rest split grows = (
   grows.0,
   grows.1 ++ rest,
-  split ∙ ap (λ (z : List ℕ). z ++ rest) grows.2
-      ∙ append_assoc grows.0 grows.1 rest,
+  split ∙ ap (λ (z : List ℕ). z ++ rest) grows.2 ∙ append_assoc grows.0 grows.1 rest,
   grows.3,
 )

@@ -1,7 +1,7 @@
 -- Facts on lists that are given and taken in pieces.
-use Rattle.std.proofs.Common.{◌≡◌, ◌≤◌, ◌<◌, ◌+◌, ◌-◌, ℕ, List, [], ◌++◌, length, take, drop, sym, ◌∙◌, ap, arith}
-use Rattle.std.proofs.Common.{append_assoc, length-append, length-drop, Option, Some, None, IfSome}
-use Rattle.std.proofs.lemmas.List.{append-nil, drop-drop, take-append-drop, take-append-le, length-take-le}
+use Rattle.std.proofs.Common.{◌≡◌, ◌≤◌, ◌+◌, ◌-◌, ℕ, List, ◌++◌, length, take, drop, sym, ◌∙◌, ap, arith, append_assoc}
+use Rattle.std.proofs.Common.{length-append, length-drop, Option}
+use Rattle.std.proofs.lemmas.List.{drop-drop, take-append-drop, take-append-le, length-take-le}
 use Rattle.std.proofs.Math.Seq.{take-length}
 use Rattle.bn_io.specs.Told.{Loses, ReadsWithin}
 use Rattle.bn_io.proofs.ToldLemmas.{Loses-joins}
@@ -46,20 +46,3 @@ reads-behind a b c limit count part whole p q first is_count fits up down second
       refused = λ more. up (second.refused (omega arith));
       longer = λ is. let h = second.longer (down is) in omega arith;
     }
-
--- what was told and lost to the last byte is what was read
-pub reads-whole : (a b : Option (List ℕ)) (p : List ℕ) → Loses a b p → IfSome b (λ ys. ys ≡ [])
-    → IfSome a (λ xs. p ≡ xs)
-reads-whole None b p lost ended = tt
-reads-whole (Some xs) None p lost ended = absurd lost
-reads-whole (Some xs) (Some ys) p lost ended = sym (lost ∙ ap (λ s. p ++ s) ended ∙ append-nil p)
-
--- a source that gave more than the limit had more than the limit
-pub reads-too_long : (a b : Option (List ℕ)) (limit : ℕ) (too_long : Type 0) (p : List ℕ)
-    → ReadsWithin a b limit too_long p → too_long → IfSome a (λ xs. limit < length xs)
-reads-too_long None b limit too_long p read is = tt
-reads-too_long (Some xs) None limit too_long p read is = absurd read.lost
-reads-too_long (Some xs) (Some ys) limit too_long p read is =
-    let h = read.longer is in
-    let e = ap length read.lost in
-    omega (arith, length-append p ys)

@@ -9,8 +9,7 @@ pub Loses-joins : (a b c : Option (List ℕ)) (p q : List ℕ) → Loses a b p �
 Loses-joins None b c p q first second = tt
 Loses-joins (Some xs) None c p q first second = absurd first
 Loses-joins (Some xs) (Some ys) None p q first second = absurd second
-Loses-joins (Some xs) (Some ys) (Some zs) p q first second =
-    first ∙ ap (λ s. p ++ s) second ∙ sym (append_assoc p q zs)
+Loses-joins (Some xs) (Some ys) (Some zs) p q first second = first ∙ ap (λ s. p ++ s) second ∙ sym (append_assoc p q zs)
 
 -- two texts taken one after the other are one
 pub Grows-joins : (a b c : Option (List ℕ)) (p q : List ℕ) → Grows a b p → Grows b c q → Grows a c (p ++ q)

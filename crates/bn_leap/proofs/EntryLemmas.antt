@@ -1,6 +1,6 @@
 -- Leaps, by the numbers that the program has.
-use Rattle.std.specs.Prelude.{◌≡◌, ℕ, ◌+◌, ◌-◌, ◌*◌, ◌<◌, ◌≤◌, Bool, true, false, not, List, [], ◌∷◌, length, map}
-use Rattle.std.specs.Prelude.{Option, Some, None, slice_get, refl, ◌⊎◌}
+use Rattle.std.specs.Prelude.{◌≡◌, ℕ, ◌+◌, ◌-◌, ◌*◌, ◌<◌, ◌≤◌, Bool, true, false, not, List, length, Option, Some, None}
+use Rattle.std.specs.Prelude.{slice_get, refl, ◌⊎◌}
 use Rattle.std.specs.Option.{option_map}
 use Rattle.std.specs.Bool.{OnFalse}
 use Rattle.std.proofs.Common.{zero, suc, arith, sym, ap, subst, ◌∙◌, inl, inr}
@@ -34,14 +34,11 @@ use Rattle.bn_realise.specs.Banks.{states_after, exit_after}
 use Rattle.bn_realise.proofs.BankWiresLemmas.{column_once, bank_wire-IsWithinLines, bank_wire-no_input}
 use Rattle.bn_realise.proofs.BankCrossingLemmas.{later_column}
 use Rattle.bn_board_spec.specs.Boards.{base}
-use Rattle.bn_board_spec.proofs.BankedLemmas.{modules-banks}
-use Rattle.bn_board_spec.proofs.ModuleLemmas.{bank_within}
+use Rattle.bn_board_spec.proofs.BankedLemmas.{modules-banks, base-within as bank_within}
 use Rattle.bn_leap.specs.Leaps.{IsUnderWay, IsEntered}
 use Rattle.bn_leap.specs.Inside.{IsInside, PassesThrough}
 use Rattle.bn_leap.specs.Entries.{IsLeapable, IsAt, Fits, IsMoveOf, IsLeap, IsCrossing, IsAdvance, leap_of}
-use Rattle.bn_leap.specs.Entries.{leapt}
 use Rattle.bn_leap.specs.declared.entry.Entry.{Entry}
-use Rattle.bn_leap.specs.declared.leap.Leap.{Leap}
 use Rattle.bn_leap.proofs.LeapLemmas.{left_enters, cost-low, boards-leap, moves-read, stay-under_way}
 
 -- an element of a column of a bank is below the bank's end
@@ -212,14 +209,10 @@ at-Known net c v at =
     subst (Known (rotary_circuit net) c) (sym same) (known at.network (rotary_circuit net) e.at_module v.row e.table c
     at.way (record { has_table = e.has_table; row = row; enters = enters }))
 
-mapped : (xs : List Rotary) → length (map (λ (_ : Rotary). rotary) xs) ≡ length xs
-mapped [] = refl
-mapped (x ∷ xs) = ap suc (mapped xs)
-
-pub at-Fits : (net : Parts Rotary) (c : Config) (v : Entry) → IsAt net c v → Fits v (length net.elements)
+pub at-Fits : (net : Parts Rotary) (c : Config) (v : Entry) → IsAt net c v → Fits v (length c.states)
 at-Fits net c v at =
     let h = at-Known net c v at in
-    record { within = subst (λ x. column_at v.first v.lines v.states ≤ x) (mapped net.elements) h.fits; few = h.few }
+    record { within = subst (λ x. column_at v.first v.lines v.states ≤ x) (sym at.good.count) h.fits; few = h.few }
 
 -- where the table leads, by the element of the line that turns the signal back
 pub at-Led : (net : Parts Rotary) (c : Config) (v : Entry) (q e : ℕ) (to : Line) → IsAt net c v → q < v.states
@@ -257,17 +250,6 @@ run-IsAdvance k stops asked most made c d run some low =
             | inl more ↦ absurd (omega arith)
             | inr stuck ↦ subst (IsStuck k) (subst (λ x. Reaches (Goes k) x c d) none run.made) stuck
           ];
-    }
-
--- so is a leap
-pub leap-IsAdvance : (k : Circuit) (stops : Line → Bool) (most : ℕ) (c d : Config) (v : Leap) → IsLeap k stops c v
-    → c.steps + v.steps ≤ clock → v.steps ≤ most → d ≡ leapt k c v → IsAdvance k stops most v.steps c d
-leap-IsAdvance k stops most c d v leap room low is =
-    let some = leap.some in
-    record {
-      bound = low;
-      passes = subst (PassesBy k stops v.steps c) (sym is) (leap.passes room);
-      ended = λ none. absurd (omega arith);
     }
 
 -- one advance after another

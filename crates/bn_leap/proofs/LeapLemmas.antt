@@ -27,17 +27,18 @@ use Rattle.bn_rsm.specs.RunCosts.{step_cost, entry_cost}
 use Rattle.bn_rsm.proofs.RunCostLemmas.{some_cost}
 use Rattle.bn_rsm.proofs.CostLemmas.{costs-bounded}
 use Rattle.bn_column.specs.Columns.{bar}
-use Rattle.bn_realise.specs.Banks.{AreMarked, IsResting, IsBankWire, across, IsBankEntering}
-use Rattle.bn_realise.specs.Banks.{column_at, bank_input_line, turning_line}
-use Rattle.bn_realise.proofs.BankWiresLemmas.{bank_wire-IsWithinLines, bank_wire-no_input, turning-wire}
+use Rattle.bn_realise.specs.Banks.{AreMarked, IsResting, across, IsBankEntering, column_at, bank_input_line}
+use Rattle.bn_realise.specs.Banks.{turning_line}
+use Rattle.bn_realise.proofs.BankWiresLemmas.{bank_wire-IsWithinLines, bank_wire-no_input}
 use Rattle.bn_realise.proofs.BankCrossingLemmas.{bank_crosses}
-use Rattle.bn_board_spec.specs.Boards.{AreModules, IsBoard, IsBoardWire, own, between, base, size, size_of, on_board}
-use Rattle.bn_board_spec.specs.Boards.{output_at, StandsFor, IsAmid}
+use Rattle.bn_board_spec.specs.Boards.{AreModules, IsBoard, own, base, size, size_of, on_board, output_at, StandsFor}
+use Rattle.bn_board_spec.specs.Boards.{IsAmid}
 use Rattle.bn_board_spec.specs.Layouts.{same_place}
 use Rattle.bn_board_spec.proofs.BankedLemmas.{modules-banks}
-use Rattle.bn_board_spec.proofs.MovedLemmas.{in_bank, other_bank, one-move}
-use Rattle.bn_board_spec.proofs.LooseLemmas.{loose-move}
-use Rattle.bn_board_spec.proofs.ModuleLemmas.{input_table, one_table, place_once, bank_within, banks_apart}
+use Rattle.bn_board_spec.proofs.MovedLemmas.{in_bank, one-move}
+use Rattle.bn_board_spec.proofs.LooseLemmas.{loose-move, no_turning_wire}
+use Rattle.bn_board_spec.proofs.ModuleLemmas.{input_table, one_table, place_once, banks_apart}
+use Rattle.bn_board_spec.proofs.BankedLemmas.{base-within as bank_within}
 use Rattle.bn_board_spec.proofs.AgreedLemmas.{same_place_not, same_place_is}
 use Rattle.bn_leap.specs.Laws.{BoundariesStand, BoundariesRest, BoardsLeap, BoardsStayUnderWay, MovesAreRead}
 
@@ -310,8 +311,7 @@ boundaries-stand n k m i t c way at =
     let found = on_way-stands n k way.modules way.board way.few c m i t at.has_table at.row at.enters on in (
       found.0,
       found.1,
-      same_entry n k way.modules way.board way.few found.0 c m i t at.has_table at.row at.enters
-          found.1,
+      same_entry n k way.modules way.board way.few found.0 c m i t at.has_table at.row at.enters found.1,
     )
 
 pub boundaries-rest : BoundariesRest
@@ -356,28 +356,6 @@ stay-under_way n k e c d way path = record {
 }
 
 module _ (n k : Circuit) (modules : AreModules n) (board : IsBoard n k) where
-  no_wire : (e q i : ℕ) (t : Table) (to : Line) → slice_get n.tables e ≡ Some t → q < t.states → i < t.inputs
-      → t.go q i ≡ None → IsBoardWire n (turning_line (base n.tables e) t q i) to → ⊥
-  no_wire e q i t to has state row none (own m u is wire) =
-      elim (eqb_tells m e) [
-        | inl same ↦ (let one : u ≡ t = (let h = subst (λ x. slice_get n.tables x ≡ Some u) same.1 is in cc) in
-            let wire' = subst (λ (v : Table). IsBankWire (base n.tables e) v (turning_line (base n.tables e) t q i) to)
-            one (subst (λ x. IsBankWire (base n.tables x) u (turning_line (base n.tables e) t q i) to) same.1 wire)
-            in
-            let turned = turning-wire (base n.tables e) t (modules.circuit.reversible e t has) (modules.square e t has)
-            q i to row wire' in
-            let goes = turned.goes in cc)
-        | inr apart ↦ (let lines = bank_wire-IsWithinLines (base n.tables m) u (modules.circuit.reversible m u is)
-            (modules.square m u is) (turning_line (base n.tables e) t q i) to wire in
-            let place = in_bank (base n.tables e) t q i state (omega arith) in
-            let low = lines.from_low in
-            let high = lines.from_high in
-            elim (other_bank n.tables m e u t (column_at (base n.tables e) t.inputs q + i) is has apart.1 low
-            (omega arith)) [ inl before ↦ omega arith | inr after ↦ omega arith ])
-      ]
-  no_wire e q i t to has state row none (between from into u wired is starts ends) = let sides : west ≡ east =
-      ap (λ (l : Line). l.line) starts in omega arith
-
   read : (m q i : ℕ) (t : Table) → slice_get n.tables m ≡ Some t → q < t.states → i < t.inputs → (o : Option (ℕ × ℕ))
       → t.go q i ≡ o
       → target k.wires (turning_line (base n.tables m) t q i) ≡ option_map
@@ -386,7 +364,7 @@ module _ (n k : Circuit) (modules : AreModules n) (board : IsBoard n k) where
     where
       by_target : (v : Option Line) → target k.wires (turning_line (base n.tables m) t q i) ≡ v → v ≡ None
       by_target None h = refl
-      by_target (Some to) h = absurd (no_wire m q i t to has state row is
+      by_target (Some to) h = absurd (no_turning_wire n k modules board m q i t to has state row is
           ((board.wires (turning_line (base n.tables m) t q i) to).0 h))
   read m q i t has state row (Some p) is =
       (board.wires (turning_line (base n.tables m) t q i) (line_at (column_at (base n.tables m) t.inputs p.0 + p.1)

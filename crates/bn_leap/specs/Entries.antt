@@ -41,6 +41,7 @@ pub record IsLeapable (net : Parts Rotary) (c : Config) (has : Entry → Type 0)
 pub record IsAt (net : Parts Rotary) (c : Config) (v : Entry) : Type 0 where
   pub network : Circuit
   pub way : IsUnderWay network (rotary_circuit net) c
+  pub good : IsConfig (rotary_circuit net) c
   pub entry : IsEntryOf network v
   pub enters : c.place ≡ Enter (bank_input_line v.first v.row).element (bank_input_line v.first v.row).line
 

@@ -50,7 +50,7 @@ fn leap_from(packed: &Packed, entry: &Entry) -> Option<Leap>
 
 // The marked column of a bank.
 fn marked_column(packed: &Packed, entry: &Entry) -> Option<u32>
-    requires { Fits entry.now (length packed.now.net.elements) }
+    requires { Fits entry.now (length packed.now.config.states) }
     ensures { IfSome result (λ q. (q < entry.now.states)
         × (slice_get packed.now.config.states (bottom_at entry.now.first entry.now.lines q) ≡ Some horizontal)) }
 {

@@ -52,8 +52,7 @@ pub joined : {A : Type 0} (l k : List A) → IsApart l → IsApart k → ((x : A
 joined [] k a b far = b
 joined (x ∷ l) k a b far = (
   λ h. elim (of_two l k x h) [ inl one ↦ a.0 one | inr two ↦ far x (inl refl) two ],
-  joined l
-      k a.1 b (λ y h. far y (inr h)),
+  joined l k a.1 b (λ y h. far y (inr h)),
 )
 
 -- images
@@ -71,8 +70,7 @@ pub apart_mapped : {A B : Type 0} (f : A → B) → ((x y : A) → f x ≡ f y �
     → IsApart (map f l)
 apart_mapped f one [] a = tt
 apart_mapped f one (x ∷ l) a = (
-  λ h. (let found = from_mapped f l (f x) h in a.0
-      (subst (λ z. Has l z) (one found.0 x found.2) found.1)),
+  λ h. (let found = from_mapped f l (f x) h in a.0 (subst (λ z. Has l z) (one found.0 x found.2) found.1)),
   apart_mapped f one l a.1,
 )
 
@@ -118,8 +116,7 @@ pub range_member : (a n x : ℕ) → a ≤ x → x < a + n → Has (range_with_l
 range_member a zero x low high = absurd (omega arith)
 range_member a (suc n) x low high = elim (eqb_tells x a) [
   | inl same ↦ inl same.1
-  | inr other
-      ↦ (let ne = other.1 in inr (range_member (a + 1) n x (omega arith) (omega arith)))
+  | inr other ↦ (let ne = other.1 in inr (range_member (a + 1) n x (omega arith) (omega arith)))
 ]
 
 pub from_range : (a n x : ℕ) → Has (range_with_len a n) x → (a ≤ x) × (x < a + n)

@@ -1,9 +1,9 @@
 -- The entries of a list by their numbers, and searches for the first that has a property.
 use Rattle.std.specs.Prelude.{◌≡◌, ℕ, zero, suc, ◌<◌, ◌≤◌, List, [], ◌∷◌, length, Some, All}
-use Rattle.std.proofs.Common.{refl, sym, ap, subst, arith, get_or, inl, inr, ◌⊎◌}
+use Rattle.std.proofs.Common.{refl, subst, arith, get_or, inl, inr, ◌⊎◌}
 use Rattle.std.proofs.lemmas.Option.{slice_get_within, slice_get-get_or}
 use Rattle.std.proofs.lemmas.Bool.{cases_lt}
-use Rattle.bn_lists.specs.Lists.{nth, AllBefore, IsFirstWith, HasNone, IsIn, Has}
+use Rattle.bn_lists.specs.Lists.{nth, AllBefore, IsFirstWith, HasNone}
 use Rattle.bn_lists.proofs.LeastLemmas.{least_once}
 
 pub nth_within : {X : Type 0} (xs : List X) (n : ℕ) (x : X) → nth xs n ≡ Some x → n ≤ length xs
@@ -15,28 +15,6 @@ nth-get_or xs i d h = slice_get-get_or xs i d h
 
 pub nth_once : {X : Type 0} (xs : List X) (n : ℕ) (x y : X) → nth xs n ≡ Some x → nth xs n ≡ Some y → x ≡ y
 nth_once xs n x y e f = cc
-
--- to stand in a list, and to be had by it, is one
-pub has-in : {X : Type 0} (xs : List X) (x : X) → Has xs x → IsIn xs x
-has-in [] x h = absurd h
-has-in (y ∷ ys) x (inl same) = record { place = 1; stands = ap Some (sym same) }
-has-in (y ∷ ys) x (inr behind) = further (has-in ys x behind)
-  where
-    further : IsIn ys x → IsIn (y ∷ ys) x
-    further h = record { place = suc h.place; stands = at_place h.place h.stands }
-      where
-        at_place : (n : ℕ) → nth ys n ≡ Some x → nth (y ∷ ys) (suc n) ≡ Some x
-        at_place zero e = absurd (cc)
-        at_place (suc n) e = e
-
-pub in-has : {X : Type 0} (xs : List X) (x : X) → IsIn xs x → Has xs x
-in-has xs x h = at_place xs h.place h.stands
-  where
-    at_place : (zs : List _) (n : ℕ) → nth zs n ≡ Some x → Has zs x
-    at_place zs zero e = absurd (cc)
-    at_place [] (suc n) e = absurd (cc)
-    at_place (z ∷ zs) (suc zero) e = let same : x ≡ z = cc in inl same
-    at_place (z ∷ zs) (suc (suc n)) e = inr (at_place zs (suc n) e)
 
 -- no entry is numbered 0
 pub all_before_one : {X : Type 0} (P : X → Type 0) (xs : List X) → AllBefore P xs 1

@@ -64,8 +64,7 @@ module _ {S : Type 0} (step : S → S → Type 0) where
         first.0,
         first.1,
         here,
-        passes_join test (m + n) m n first.0 y z refl
-            (λ _ more. middle (omega arith) more) first.3 second,
+        passes_join test (m + n) m n first.0 y z refl (λ _ more. middle (omega arith) more) first.3 second,
       )
     where
       passes_here : (test : S → Bool) (m n : ℕ) (x y : S) → (0 < n → test y ≡ true) → Before m (test x ≡ true)

@@ -37,8 +37,7 @@ matches_or_not q s a =
     elim (decided s q.state) [
       | inl from ↦ elim (decided a q.read) [
         | inl reads ↦ inl (record { from = from; reads = reads })
-        | inr other
-            ↦ inr (λ m. other m.reads)
+        | inr other ↦ inr (λ m. other m.reads)
       ]
       | inr other ↦ inr (λ m. other m.from)
     ]
@@ -61,8 +60,7 @@ pub goes_by_once : (room other : Room) (p : Program) (n m : ℕ) (c d e : Moment
 goes_by_once room other p n m c d e f g =
     let same = first_match_once p.quints c.state (scanned c.tape) n m f.quint g.quint f.match g.match in (
       same.0,
-      applies_once f.quint c d f.applies ∙ ap (λ q. moment_after q c) same.1
-          ∙ sym (applies_once g.quint c e g.applies),
+      applies_once f.quint c d f.applies ∙ ap (λ q. moment_after q c) same.1 ∙ sym (applies_once g.quint c e g.applies),
     )
 
 pub goes_once : (room other : Room) (p : Program) (c d e : Moment) → MachineRunsTo room p c d
@@ -181,8 +179,7 @@ run_inside left right p (suc i) c d low high run =
     } in (
       run.0,
       goes_inside (within left right) p c run.0 stays run.1,
-      run_inside left right p i run.0 d
-          (omega (arith, ints)) (omega (arith, ints)) run.2,
+      run_inside left right p i run.0 d (omega (arith, ints)) (omega (arith, ints)) run.2,
     )
 
 pub run_anywhere : (room : Room) (p : Program) (i : ℕ) (c d : Moment) → Reaches (MachineRunsTo room p) i c d

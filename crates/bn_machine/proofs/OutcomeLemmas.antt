@@ -184,8 +184,7 @@ next_turn p word l i c in_time run =
       | inr more ↦ elim more [
         | inl stuck ↦ inl (
           Stuck c.state (scanned c.tape),
-          record
-              { moment = c; run = run; in_time = in_time; ends = sticks stuck refl },
+          record { moment = c; run = run; in_time = in_time; ends = sticks stuck refl },
         )
         | inr step ↦ elim (cases_lt i l.steps) [
           | inl early ↦ goes_on step.0 step.1 early
@@ -195,8 +194,7 @@ next_turn p word l i c in_time run =
               moment = c;
               run = run;
               in_time = in_time;
-              ends = runs_out step.0 step.1 last
-                  refl;
+              ends = runs_out step.0 step.1 last refl;
             },
           )
         ]
@@ -219,8 +217,7 @@ next_turn p word l i c in_time run =
           early,
           (
             d,
-            goes_inside (within l.left l.right) p c d (record { above = above; below = below })
-                goes,
+            goes_inside (within l.left l.right) p c d (record { above = above; below = below }) goes,
           ),
         )))
 
@@ -298,21 +295,18 @@ ending_from p word n zero i c sum run =
       | inl final ↦ let out = output_exists c.tape in (
         i,
         free.Halted out.0,
-        record
-            { moment = c; run = run; in_time = omega arith; ends = free.halts out.0 final out.1 refl },
+        record { moment = c; run = run; in_time = omega arith; ends = free.halts out.0 final out.1 refl },
       )
       | inr more ↦ elim more [
         | inl stuck ↦ (
           i,
           free.Stuck c.state (scanned c.tape),
-          record
-              { moment = c; run = run; in_time = omega arith; ends = free.sticks stuck refl },
+          record { moment = c; run = run; in_time = omega arith; ends = free.sticks stuck refl },
         )
         | inr step ↦ let last : i ≡ n = omega arith in (
           i,
           free.Running,
-          record
-              { moment = c; run = run; in_time = omega arith; ends = free.runs step.0 step.1 last refl },
+          record { moment = c; run = run; in_time = omega arith; ends = free.runs step.0 step.1 last refl },
         )
       ]
     ]
@@ -322,15 +316,13 @@ ending_from p word n (suc fuel) i c sum run =
       | inl final ↦ let out = output_exists c.tape in (
         i,
         free.Halted out.0,
-        record
-            { moment = c; run = run; in_time = omega arith; ends = free.halts out.0 final out.1 refl },
+        record { moment = c; run = run; in_time = omega arith; ends = free.halts out.0 final out.1 refl },
       )
       | inr more ↦ elim more [
         | inl stuck ↦ (
           i,
           free.Stuck c.state (scanned c.tape),
-          record
-              { moment = c; run = run; in_time = omega arith; ends = free.sticks stuck refl },
+          record { moment = c; run = run; in_time = omega arith; ends = free.sticks stuck refl },
         )
         | inr step ↦ ending_from p word n fuel (i + 1) step.0 next
             (runs_more (MachineRunsTo anywhere p) i (start p word) c step.0 run step.1)

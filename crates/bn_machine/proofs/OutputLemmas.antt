@@ -95,8 +95,7 @@ follows_some m k blank (suc fuel) p h =
       | inl blank_here ↦ ([], none_follows m p blank_here.1)
       | inr letter ↦ (
         symbol_at m (p +ℤ pos 1) ∷ rest.0,
-        one_follows m p (symbol_at m (p +ℤ pos 1)) rest.0 letter.1 refl
-            rest.1,
+        one_follows m p (symbol_at m (p +ℤ pos 1)) rest.0 letter.1 refl rest.1,
       )
     ]
 

@@ -187,11 +187,6 @@ moved-back p Left = omega (arith, ints)
 moved-back p Stay = refl
 moved-back p Right = omega (arith, ints)
 
-pub moved-forth : (p : ℤ) (s : Shift) → moved (moved p (opposite s)) s ≡ p
-moved-forth p Left = omega (arith, ints)
-moved-forth p Stay = refl
-moved-forth p Right = omega (arith, ints)
-
 pub opposite-opposite : (s : Shift) → opposite (opposite s) ≡ s
 opposite-opposite Left = refl
 opposite-opposite Stay = refl
@@ -199,9 +194,6 @@ opposite-opposite Right = refl
 
 pub shift-back : (t : Tape) (s : Shift) → shift (shift t s) (opposite s) ≡ t
 shift-back t s = same_parts _ _ refl (moved-back t.head s)
-
-pub shift-forth : (t : Tape) (s : Shift) → shift (shift t (opposite s)) s ≡ t
-shift-forth t s = same_parts _ _ refl (moved-forth t.head s)
 
 pub scanned-ahead : (xs : List ℕ) (k : ℕ) → scanned (ahead (suc k) (word_tape xs)) ≡ get_or xs k 0
 scanned-ahead xs k = let there : pos 0 +ℤ pos (suc k) ≡ pos 1 +ℤ pos k =

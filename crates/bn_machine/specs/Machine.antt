@@ -1,6 +1,5 @@
 -- Machines given by quintuples, and the step of such a machine (Bennett 1973).
-use Rattle.std.specs.Prelude.{◌≡◌, ◌≢◌, ℕ, ◌<◌, ◌^◌, List, [], ◌∷◌, length, Some}
-use Rattle.std.specs.Prelude.{All}
+use Rattle.std.specs.Prelude.{◌≡◌, ◌≢◌, ℕ, ◌<◌, ◌^◌, List, [], ◌∷◌, length, Some, All}
 use Rattle.bn_machine.specs.Tape.{Tape, scanned, write, shift, word_tape}
 use Rattle.bn_machine.specs.Window.{Room, Allows, Windowed, Leaves}
 use Rattle.bn_machine.specs.declared.quint.Quint.{Quint}

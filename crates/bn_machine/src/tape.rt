@@ -81,10 +81,11 @@ impl Tape {
         i64::from(self.at) - i64::from(self.left)
     }
 
-    /// The symbol at a position, `None` exactly outside of the window.
+    /// The symbol at a position, `None` exactly outside of the window. Its contract also tells what every tape keeps.
     pub fn symbol(&self, position: i64) -> Option<u32>
         ensures inside { IsSome result ↔ IsInside self.now position }
         ensures value { IfSome result (λ s. s ≡ cell self.now.tape position) }
+        ensures valid { IsWindowed self.now }
     {
         if position < -i64::from(self.left) || position > i64::from(self.right) {
             return None;

@@ -87,8 +87,7 @@ source_turned (w ∷ ws) from =
 wires_turned : (ws : List Wire) → IsOneToOne ws → AreMirrored ws (mirrored_wires ws)
 wires_turned ws one from to = (
   λ h. target_turned ws to ∙ ap turned_option ((one from to).0 h),
-  λ h. (one from to).1
-      (turned_some (source ws to) from (sym (target_turned ws to) ∙ h)),
+  λ h. (one from to).1 (turned_some (source ws to) from (sym (target_turned ws to) ∙ h)),
 )
 
 one_turned : (ws : List Wire) → IsOneToOne ws → (f t : Line)
@@ -165,16 +164,14 @@ module _ (v : Version) (s : Spelling) (admitted : Admits v s) (vs : List Wire) (
       let ends = admitted.circuit.wired (mirrored_line to) (mirrored_line from)
       (unturned s.wires vs wires from to h) in (
         subst (IsOutputOf tables) (line_twice from) (input_turned (mirrored_line from) ends.1),
-        subst (IsInputOf tables)
-            (line_twice to) (output_turned (mirrored_line to) ends.0),
+        subst (IsInputOf tables) (line_twice to) (output_turned (mirrored_line to) ends.0),
       )
 
   fed_IsPlace : (to : Line) (o : Option Line) → source s.wires to ≡ o → IsInputOf tables to
       → IsPlace turned_circuit (fed_place o to)
   fed_IsPlace to None is input = (
     input_turned to input,
-    unfed s.wires vs wires admitted.circuit.one_to_one to is
-        (target vs (mirrored_line to)) refl,
+    unfed s.wires vs wires admitted.circuit.one_to_one to is (target vs (mirrored_line to)) refl,
   )
   fed_IsPlace to (Some from) is input = output_turned from (admitted.circuit.wired from to
       ((admitted.circuit.one_to_one from to).1 is)).0
@@ -202,8 +199,7 @@ module _ (v : Version) (s : Spelling) (admitted : Admits v s) (vs : List Wire) (
           config = record {
             count = admitted.config.count;
             range = admitted.config.range;
-            place = mirrored_IsPlace
-                s.config.place admitted.config.place;
+            place = mirrored_IsPlace s.config.place admitted.config.place;
             in_time = omega arith;
           };
           start = output_turned s.end admitted.end;

@@ -14,7 +14,7 @@ use Rattle.bn_net.specs.Parts.{Parts}
 use Rattle.bn_net.specs.RotaryNets.{IsNetOf, rotary_circuit}
 use Rattle.bn_net.specs.Wirings.{AreFitting, AreWiresOf}
 use Rattle.bn_net.proofs.RotaryNetLemmas.{rotary-tables}
-use Rattle.bn_net.proofs.WiringsLemmas.{IsWire, apart-wire, more_wire, no_wires, same_wires}
+use Rattle.bn_net.proofs.WiringsLemmas.{IsWire, apart-wire, more_wire, same_wires}
 use Rattle.bn_netlist_laws.proofs.WireLemmas.{rotary_input, rotary_output}
 use Rattle.bn_mirror.specs.Listing.{IsListing, IsMirroredBelow, IsMirroredWire, number_of}
 use Rattle.bn_mirror.specs.Mirror.{AreMirrored, mirrored_line}
@@ -116,8 +116,7 @@ module _ (net : Parts Rotary) (circuit : IsCircuit (rotary_circuit net)) where
           let back : mirrored_line f ≡ to = same_some (mirrored_line f) to (sym some ∙ wired) in
           inr (record {
             leaves = sym (line_twice f) ∙ ap mirrored_line back ∙ sym leaves;
-            ends = sym (line_twice t)
-                ∙ ap mirrored_line same ∙ sym ends;
+            ends = sym (line_twice t) ∙ ap mirrored_line same ∙ sym ends;
           })
 
       behind : (f t : Line) → IsMirroredBelow net.wires (k + 1) f t → IsMirroredBelow net.wires k f t ⊎ IsWire w f t
@@ -131,8 +130,7 @@ module _ (net : Parts Rotary) (circuit : IsCircuit (rotary_circuit net)) where
       (λ f t h. h.wire)
       (λ f t h. record {
         wire = h;
-        below = let low = (ends_low (mirrored_line t) (mirrored_line f) h).0 in omega
-            (arith, low.0, low.1);
+        below = let low = (ends_low (mirrored_line t) (mirrored_line f) h).0 in omega (arith, low.0, low.1);
       })
 
   -- the lines of the mirror's wires are there
@@ -159,9 +157,3 @@ module _ (net : Parts Rotary) (circuit : IsCircuit (rotary_circuit net)) where
         let there = are.sound (mirrored_line to) (mirrored_line from) (sym (is.targets (mirrored_line to)) ∙ h) in
         ap (target net.wires) (sym (line_twice from)) ∙ there ∙ ap Some (line_twice to),
   )
-
-pub none_listed : (net : Parts Rotary) → IsListing net.wires 0 []
-none_listed net = record {
-  wires = no_wires (IsMirroredBelow net.wires 0) (λ f t h. let b = h.below in omega arith);
-  few = omega arith;
-}

@@ -21,8 +21,7 @@ stays line not_east not_west =
       | inl is ↦ absurd (not_east is.1)
       | inr other ↦ elim (eqb_tells line west) [
         | inl is ↦ absurd (not_west is.1)
-        | inr apart
-            ↦ rw (other.0, apart.0) refl
+        | inr apart ↦ rw (other.0, apart.0) refl
       ]
     ]
 

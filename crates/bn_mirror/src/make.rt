@@ -29,8 +29,6 @@ pub fn mirror(alloc: Global, config: &NetConfig) -> Result<NetConfig, NoMemory>
 {
     let wires = mirrored_wires(alloc, &config.net)?;
     let net = rotary_net(alloc, config.net.len(), wires.as_slice())?;
-    // (for the prover: the contract of this call tells what the type keeps. So below.)
-    let _ = net.len();
     let states = Vec::from_slice(alloc, config.config.states.as_slice())?;
     Ok(NetConfig {
         version: config.version,

@@ -263,8 +263,7 @@ module _ (k : Renumbering) (p m : Quadruples) (machine : IsQuadMachine p) (is : 
     x,
     record {
       run = refl;
-      ends =
-          ends_after c x e within alike (subst (λ v. EndsAt rooms p.rules end v e) (sym run) ends);
+      ends = ends_after c x e within alike (subst (λ v. EndsAt rooms p.rules end v e) (sym run) ends);
     },
     subst (λ v. IsRenumbered k v x) run alike,
   )

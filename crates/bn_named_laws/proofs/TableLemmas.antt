@@ -11,8 +11,7 @@ use Rattle.std.proofs.lemmas.Option.{slice_get-map, slice_get_within, get_or_fro
 use Rattle.bn_csv.specs.Entries.{entries_of}
 use Rattle.bn_quad.specs.Names.{AreApart}
 use Rattle.bn_quad.specs.Quadruples.{inverse_of, turned}
-use Rattle.bn_qtable.specs.Rows.{QuadTable, IsQuadTableOf, state_names_in, symbol_names_in}
-use Rattle.bn_qtable.specs.Rows.{blank_name}
+use Rattle.bn_qtable.specs.Rows.{QuadTable, IsQuadTableOf, state_names_in, symbol_names_in, blank_name}
 use Rattle.bn_qtable.proofs.RowsLemmas.{table_has_names}
 use Rattle.bn_table.specs.Rows.{blank}
 use Rattle.bn_bennett.specs.Printed.{one_byte, number_names}
@@ -127,8 +126,7 @@ module _ (entries : List (List (List ℕ))) (t : QuadTable) (is : IsQuadTableOf 
   table_tabled : AreTableNames t.names
   table_tabled = record {
     states = record {
-      same = λ name m n.
-          firsts_once (state_names_in entries) t.names.states is.spelled.states_by_first m n name;
+      same = λ name m n. firsts_once (state_names_in entries) t.names.states is.spelled.states_by_first m n name;
     };
     one = record {
       same = λ name m n.

@@ -27,8 +27,7 @@ nothing_built tables wires built is =
     record {
       targets = λ from. ap (λ ws. target ws from) is;
       sources = λ to. ap (λ ws. source ws to) is;
-      faultless = λ j
-          h. absurd (omega arith);
+      faultless = λ j h. absurd (omega arith);
     }
 
 -- the test against the net is the test against the list

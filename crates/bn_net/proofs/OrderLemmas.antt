@@ -120,8 +120,7 @@ row_first a e l [] ws same low first = first
 row_first a e l (None ∷ row) ws same low first = row_first a e (suc l) row ws same (omega arith) first
 row_first a e l (Some to ∷ row) ws same low first = (
   inr (same, low),
-  row_first a e (suc l) row ws same (omega arith)
-      first,
+  row_first a e (suc l) row ws same (omega arith) first,
 )
 
 later_row_first : (a : Line) (e l : ℕ) (row : List (Option Line)) (ws : List Wire) → a.element < e → ComesFirst a ws

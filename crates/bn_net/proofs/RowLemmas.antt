@@ -85,8 +85,7 @@ cell_of (a ∷ b ∷ starts) cells are zero l h =
       reads = ap (λ o. option_and_then (λ cell. cell) o) (slice_get-range cells a b l here);
       writes = λ to. rw (
         range-set_in cells a b l (Some to) here,
-        rows-set_below starts cells b (a + l) (Some to) are.1
-            (omega arith),
+        rows-set_below starts cells b (a + l) (Some to) are.1 (omega arith),
       ) refl;
     }
 cell_of (a ∷ b ∷ starts) cells are (suc e) l h =
@@ -101,8 +100,7 @@ cell_of (a ∷ b ∷ starts) cells are (suc e) l h =
       reads = rest.reads;
       writes = λ to. rw (
         range-set_above cells a b (get_or (b ∷ starts) e 0 + l) (Some to) up (omega arith),
-        rest.writes
-            to,
+        rest.writes to,
       ) refl;
     }
 

@@ -57,8 +57,7 @@ walk_starts k c told good =
     record {
       reaches = refl;
       good = good;
-      heard = subst (λ ts. Hears told ts told) (sym (places-zero k c))
-          (hears-nothing told);
+      heard = subst (λ ts. Hears told ts told) (sym (places-zero k c)) (hears-nothing told);
     }
 
 pub walk_goes : (k : Circuit) (c d e : Config) (made : ℕ) (old mid new : Option (List Place))
@@ -116,8 +115,7 @@ walk_back_starts k c told good =
     record {
       reaches = refl;
       good = good;
-      heard = subst (λ ts. Hears told ts told) (sym (places_back-zero k c))
-          (hears-nothing told);
+      heard = subst (λ ts. Hears told ts told) (sym (places_back-zero k c)) (hears-nothing told);
     }
 
 pub walk_goes_back : (k : Circuit) → IsCircuit k → (c d e : Config) (made : ℕ) (old mid new : Option (List Place))

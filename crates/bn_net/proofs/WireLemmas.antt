@@ -5,11 +5,11 @@ use Rattle.std.specs.Prelude.{option_and_then, refl}
 use Rattle.std.specs.Option.{option_map_or}
 use Rattle.std.proofs.Common.{zero, suc, arith, sym, ap, subst, ◌∙◌, inl, inr, length-set}
 use Rattle.std.proofs.lemmas.Bool.Decides.{eqb_tells, nat_tests}
-use Rattle.std.proofs.lemmas.List.{length-replicate}
+use Rattle.std.proofs.lemmas.List.{length-map, length-replicate}
 use Rattle.std.proofs.lemmas.Option.{option_and_then_some, slice_get_within}
 use Rattle.bn_element.specs.Tables.{Table, IsReversible}
-use Rattle.bn_circuits.specs.Circuits.{same_line, target, source, IsCircuit, IsInputOf, IsOutputOf, states_of}
-use Rattle.bn_circuits.specs.Circuits.{inputs_of, outputs_of}
+use Rattle.bn_circuits.specs.Circuits.{same_line, target, source, IsCircuit, IsInputOf, IsOutputOf, inputs_of}
+use Rattle.bn_circuits.specs.Circuits.{outputs_of}
 use Rattle.bn_circuits.proofs.StepLemmas.{same_lines, slice_get-set_same, slice_get-set_other}
 use Rattle.bn_circuits.specs.declared.line.Line.{Line}
 use Rattle.bn_circuits.specs.declared.line.Wire.{Wire}
@@ -50,7 +50,8 @@ target-row_at e l (Some to ∷ row) from (suc i) same at_line =
       | inr there ↦ rw there.0 (target-row_at e (suc l) row from i same (omega arith))
     ]
 
-target-append_none : (xs ys : List Wire) (from : Line) → target xs from ≡ None → target (xs ++ ys) from ≡ target ys from
+pub target-append_none : (xs ys : List Wire) (from : Line) → target xs from ≡ None
+    → target (xs ++ ys) from ≡ target ys from
 target-append_none [] ys from none = refl
 target-append_none (x ∷ xs) ys from none =
     elim (line_tells x.from from) [
@@ -58,7 +59,8 @@ target-append_none (x ∷ xs) ys from none =
       | inr there ↦ rw there.0 (target-append_none xs ys from (rw there.0 at none))
     ]
 
-target-append_some : (xs ys : List Wire) (from to : Line) → target xs from ≡ Some to → target (xs ++ ys) from ≡ Some to
+pub target-append_some : (xs ys : List Wire) (from to : Line) → target xs from ≡ Some to
+    → target (xs ++ ys) from ≡ Some to
 target-append_some [] ys from to some = absurd (cc)
 target-append_some (x ∷ xs) ys from to some =
     elim (line_tells x.from from) [
@@ -114,8 +116,7 @@ each_of_row P e l [] all = tt
 each_of_row P e l (None ∷ row) all = each_of_row P e (suc l) row (λ i m to sum has. all (suc i) m to (omega arith) has)
 each_of_row P e l (Some to ∷ row) all = (
   all 0 l to (omega arith) refl,
-  each_of_row P e (suc l) row
-      (λ i m t sum has. all (suc i) m t (omega arith) has),
+  each_of_row P e (suc l) row (λ i m t sum has. all (suc i) m t (omega arith) has),
 )
 
 each_of_rows : (P : Wire → Type 0) (e : ℕ) (rows : Rows) → ((i m : ℕ) (row : List (Option Line)) (j : ℕ) (to : Line)
@@ -348,7 +349,7 @@ empty_wires e [] = refl
 empty_wires e (w ∷ widths) = rw (empty_row-wires e 0 w) (empty_wires (suc e) widths)
 
 -- rows without a wire, as wide as the elements have lines
-pub unwired_rows : (tables : List Table) (outs ins : List ℕ) → length tables < 2 ^ 32
+unwired_rows : (tables : List Table) (outs ins : List ℕ) → length tables < 2 ^ 32
     → ((e : ℕ) → option_map_or (λ w. w) (slice_get outs e) 0 ≡ outputs_of tables e)
     → ((e : ℕ) → option_map_or (λ w. w) (slice_get ins e) 0 ≡ inputs_of tables e)
     → IsWired tables (map (λ w. replicate w None) outs) (map (λ w. replicate w None) ins)
@@ -370,17 +371,28 @@ unwired_rows tables outs ins few outputs inputs =
     empty_width (w ∷ widths) (suc e) = empty_width widths e
 
 -- the counts of lines of each element, element by element
-pub counts-outputs : {E : Type 0} (table : E → Table) (elements : List E) (e : ℕ)
+counts-outputs : {E : Type 0} (table : E → Table) (elements : List E) (e : ℕ)
     → option_map_or (λ w. w) (slice_get (map (λ x. (table x).outputs) elements) e) 0 ≡ outputs_of (map table elements) e
 counts-outputs table [] e = refl
 counts-outputs table (x ∷ elements) zero = refl
 counts-outputs table (x ∷ elements) (suc e) = counts-outputs table elements e
 
-pub counts-inputs : {E : Type 0} (table : E → Table) (elements : List E) (e : ℕ)
+counts-inputs : {E : Type 0} (table : E → Table) (elements : List E) (e : ℕ)
     → option_map_or (λ w. w) (slice_get (map (λ x. (table x).inputs) elements) e) 0 ≡ inputs_of (map table elements) e
 counts-inputs table [] e = refl
 counts-inputs table (x ∷ elements) zero = refl
 counts-inputs table (x ∷ elements) (suc e) = counts-inputs table elements e
+
+-- rows with an empty cell for each line are those of no wire
+pub unwired-IsWired : {E : Type 0} (table : E → Table) (elements : List E) (outs ins : List ℕ) (targets sources : Rows)
+    → length elements < 2 ^ 32 → outs ≡ map (λ x. (table x).outputs) elements
+    → ins ≡ map (λ x. (table x).inputs) elements → targets ≡ map (λ w. replicate w None) outs
+    → sources ≡ map (λ w. replicate w None) ins → IsWired (map table elements) targets sources
+unwired-IsWired table elements outs ins targets sources few outs_are ins_are targets_are sources_are =
+    let few' : length (map table elements) < 2 ^ 32 = omega (arith, length-map elements table, few) in
+    rw (targets_are, sources_are, outs_are, ins_are) (unwired_rows (map table elements)
+    (map (λ x. (table x).outputs) elements) (map (λ x. (table x).inputs) elements) few' (counts-outputs table elements)
+    (counts-inputs table elements))
 
 -- each table of the elements is reversible, where each element's is
 pub tables-reversible : {E : Type 0} (table : E → Table) → ((x : E) → IsReversible (table x))
@@ -432,13 +444,6 @@ connected-source tables targets sources w wired free to =
     source-wires (put targets w.from w.to) (put sources w.to w.from) after.paired to
     ∙ entry-put sources w.to w.from inp to ∙ ap (λ o. if same_line w.to to then Some w.from else o)
     (sym (source-wires targets sources wired.paired to))
-
--- the states of an element
-pub states-at : {E : Type 0} (table : E → Table) (elements : List E) (e : ℕ) (x : E) → slice_get elements e ≡ Some x
-    → states_of (map table elements) e ≡ (table x).states
-states-at table [] e x has = absurd (cc)
-states-at table (y ∷ elements) zero x has = let same : y ≡ x = cc in ap (λ z. (table z).states) same
-states-at table (y ∷ elements) (suc e) x has = states-at table elements e x has
 
 -- a net's circuit
 pub view-IsCircuit : {E : Type 0} (table : E → Table) → ((x : E) → IsReversible (table x))

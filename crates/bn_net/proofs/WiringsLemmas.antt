@@ -10,6 +10,7 @@ use Rattle.bn_element.specs.Rotary.{rotary}
 use Rattle.bn_net.specs.Faults.{AreFaultless}
 use Rattle.bn_net.proofs.WireListLemmas.{line_tells}
 use Rattle.bn_net.specs.Wirings.{AreApart, AreWiresOf, AreFitting}
+use Rattle.bn_net.proofs.WireLemmas.{target-append_none, target-append_some}
 
 -- what the first wire of a list leads to, and where it comes from, among others
 target-here : (w : Wire) (ws : List Wire) (from to : Line) → target (w ∷ ws) from ≡ Some to
@@ -37,8 +38,7 @@ source-first w ws = elim (line_tells w.to w.to) [ inl here ↦ rw here.0 refl | 
 target-skip : (w : Wire) (ws : List Wire) (from : Line) → w.from ≢ from → target (w ∷ ws) from ≡ target ws from
 target-skip w ws from apart = elim (line_tells w.from from) [
   | inl here ↦ absurd (apart here.1)
-  | inr there
-      ↦ rw there.0 refl
+  | inr there ↦ rw there.0 refl
 ]
 
 source-skip : (w : Wire) (ws : List Wire) (to : Line) → w.to ≢ to → source (w ∷ ws) to ≡ source ws to
@@ -78,22 +78,6 @@ apart-wire (v ∷ ws) (suc n) w apart h =
     target-skip v ws w.from (λ same. let none : target ws v.from ≡ None = apart.0 in let at_w : target ws w.from
     ≡ None = rw same at none in cc) ∙ rest
 
-target-append_some : (xs ys : List Wire) (from to : Line) → target xs from ≡ Some to → target (xs ++ ys) from ≡ Some to
-target-append_some [] ys from to some = absurd (cc)
-target-append_some (x ∷ xs) ys from to some =
-    elim (line_tells x.from from) [
-      | inl here ↦ rw here.0 (rw here.0 at some)
-      | inr there ↦ rw there.0 (target-append_some xs ys from to (rw there.0 at some))
-    ]
-
-target-append_none : (xs ys : List Wire) (from : Line) → target xs from ≡ None → target (xs ++ ys) from ≡ target ys from
-target-append_none [] ys from none = refl
-target-append_none (x ∷ xs) ys from none =
-    elim (line_tells x.from from) [
-      | inl here ↦ absurd (let found = rw here.0 at none in cc)
-      | inr there ↦ rw there.0 (target-append_none xs ys from (rw there.0 at none))
-    ]
-
 source-append_none : (xs ys : List Wire) (to : Line) → source xs to ≡ None → source (xs ++ ys) to ≡ source ys to
 source-append_none [] ys to none = refl
 source-append_none (x ∷ xs) ys to none =
@@ -116,7 +100,7 @@ apart-append (x ∷ xs) ys left right clear =
     )
 
 -- no line from which the relation leads has a wire
-none_of : (o : Option Line) → ((to : Line) → o ≡ Some to → ⊥) → o ≡ None
+pub none_of : (o : Option Line) → ((to : Line) → o ≡ Some to → ⊥) → o ≡ None
 none_of None h = refl
 none_of (Some to) h = absurd (h to refl)
 
@@ -145,8 +129,7 @@ pub one_wire : (w : Wire) → AreWiresOf (IsWire w) (w ∷ [])
 one_wire w =
     record {
       sound = λ from to h. elim (target-here w [] from to h) [
-        | inl here
-            ↦ record { leaves = sym here.0; ends = sym here.1 }
+        | inl here ↦ record { leaves = sym here.0; ends = sym here.1 }
         | inr there ↦ absurd (let none = there.1 in cc)
       ];
       complete = λ from to h. rw (h.leaves, h.ends) (target-first w []);
@@ -166,8 +149,7 @@ joined_wires One Other Both xs ys left right no_from no_to first second either =
       apart = apart-append xs ys left.apart right.apart (λ from to h.
           let one = left.sound from to h in (
             no_target Other ys right from (λ line other. no_from from to line one other),
-            no_source Other ys right to
-                (λ line other. no_to from to line one other),
+            no_source Other ys right to (λ line other. no_to from to line one other),
           ));
     }
   where
@@ -200,8 +182,7 @@ pub same_wires : (One Other : Line → Line → Type 0) (ws : List Wire) → Are
 same_wires One Other ws are first second =
     record {
       sound = λ from to h. first from to (are.sound from to h);
-      complete = λ from to h. are.complete from to
-          (second from to h);
+      complete = λ from to h. are.complete from to (second from to h);
       apart = are.apart;
     }
 

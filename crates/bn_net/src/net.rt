@@ -69,8 +69,6 @@ impl<E: Element> Net<E> {
             net.check(wires[index], index as u32 + 1)?;
             net.connect(wires[index]);
         }
-        // (for the prover: a function knows what its type keeps where it uses a field. So below.)
-        let _ = &net.elements;
         Ok(net)
     }
 
@@ -89,7 +87,6 @@ impl<E: Element> Net<E> {
         for index in 0..count {
             net.connect(wires[index]);
         }
-        let _ = &net.elements;
         Ok(net)
     }
 
@@ -143,15 +140,15 @@ impl<E: Element> Net<E> {
     }
 
     /// Makes one element step. `false` exactly where none can be made, and then nothing changed: the
-    /// signal has left, or the element has no move, or the steps are `CLOCK`.
+    /// signal has left, or the element has no move, or the steps are `CLOCK`. A step back undoes it.
     pub fn step(&self, config: &mut Config) -> bool
         requires { IsConfig (circuit E.table self.now) config.old }
         ensures made { OnTrue result (Goes (circuit E.table self.now) config.old config.new) }
         ensures kept { OnFalse result (config.new ≡ config.old) }
         ensures stuck { OnFalse result (IsStuck (circuit E.table self.now) config.old) }
+        ensures undone { OnTrue result (back (circuit E.table self.now) config.new 1 ≡ config.old) }
         ensures good { IsConfig (circuit E.table self.now) config.new }
     {
-        let _ = &self.elements;
         let Place::Enter { element, line } = config.place else {
             return false;
         };
@@ -179,9 +176,9 @@ impl<E: Element> Net<E> {
         ensures made { OnTrue result (Goes (circuit E.table self.now) config.new config.old) }
         ensures kept { OnFalse result (config.new ≡ config.old) }
         ensures first { OnFalse result (IsFirst (circuit E.table self.now) config.old) }
+        ensures back { config.new ≡ back (circuit E.table self.now) config.old 1 }
         ensures good { IsConfig (circuit E.table self.now) config.new }
     {
-        let _ = &self.elements;
         if config.steps == 0 {
             return false;
         }
@@ -212,7 +209,6 @@ impl<E: Element> Net<E> {
         ensures undone { back (circuit E.table self.now) config.new result ≡ config.old }
         ensures good { IsConfig (circuit E.table self.now) config.new }
     {
-        let _ = &self.elements;
         for made in 0..e {
             if !self.step(config) {
                 return made;
@@ -232,7 +228,6 @@ impl<E: Element> Net<E> {
         ensures undone { run (circuit E.table self.now) config.new result ≡ config.old }
         ensures good { IsConfig (circuit E.table self.now) config.new }
     {
-        let _ = &self.elements;
         for made in 0..e {
             if !self.back_step(config) {
                 return made;
@@ -246,6 +241,7 @@ impl<E: Element> Net<E> {
         requires { length elements.items < 2 ^ 32 }
         ensures elements { IfOk result (λ net. net.elements ≡ elements.items) }
         ensures wires { IfOk result (λ net. net.wires ≡ []) }
+        ensures circuit { IfOk result (λ net. IsCircuit (circuit E.table net)) }
     {
         let outputs = output_counts(alloc, elements.as_slice())?;
         let targets = RowMap::try_new(alloc, outputs.as_slice())?;
@@ -285,6 +281,7 @@ impl<E: Element> Net<E> {
         ensures sources { (to : Line)
             → source self.new.wires to
             ≡ (if same_line wire.to to then Some wire.from else source self.old.wires to) }
+        ensures circuit { IsCircuit (circuit E.table self.new) }
     {
         self.targets.set(wire.from, wire.to);
         self.sources.set(wire.to, wire.from);
@@ -338,7 +335,8 @@ impl<E: Element> Net<E> {
     fn go(&self, element: u32, state: u32, line: u32) -> Option<(u32, u32)>
         requires state { state < states_of (map E.table self.now.elements) element }
         requires line { line < inputs_of (map E.table self.now.elements) element }
-        ensures { result ≡ go_of (map E.table self.now.elements) element state line }
+        ensures made { result ≡ go_of (map E.table self.now.elements) element state line }
+        ensures circuit { IsCircuit (circuit E.table self.now) }
     {
         self.elements[element as usize].go(state, line)
     }
@@ -347,7 +345,8 @@ impl<E: Element> Net<E> {
     fn back(&self, element: u32, state: u32, line: u32) -> Option<(u32, u32)>
         requires state { state < states_of (map E.table self.now.elements) element }
         requires line { line < outputs_of (map E.table self.now.elements) element }
-        ensures { result ≡ back_of (map E.table self.now.elements) element state line }
+        ensures made { result ≡ back_of (map E.table self.now.elements) element state line }
+        ensures circuit { IsCircuit (circuit E.table self.now) }
     {
         self.elements[element as usize].back(state, line)
     }
@@ -374,8 +373,8 @@ impl<E: Element> Net<E> {
         requires { IsPlace (circuit E.table self.now) place }
         ensures line { result ≡ line_before self.now.wires place }
         ensures output { IfSome result (IsOutputOf (map E.table self.now.elements)) }
+        ensures circuit { result ≡ None → IsCircuit (circuit E.table self.now) }
     {
-        let _ = &self.elements;
         match place {
             Place::Enter { element, line } => self.source(Line { element, line }),
             Place::Left { element, line } => Some(Line { element, line }),

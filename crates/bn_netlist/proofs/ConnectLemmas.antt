@@ -1,11 +1,9 @@
 -- The wires of some outputs of an element as they are added one by one.
 use Rattle.std.specs.Prelude.{◌≡◌, ℕ, ◌+◌, ◌*◌, ◌<◌, ◌≤◌, Bool, true, List, [], ◌∷◌, ◌++◌, length, drop, Option, Some}
-use Rattle.std.specs.Prelude.{None, Ok, Err, false, is_some, nat_lt, slice_get, slice_set, refl}
+use Rattle.std.specs.Prelude.{None, Ok, Err, slice_get, slice_set, refl}
 use Rattle.std.proofs.Common.{zero, suc, arith, sym, ap, subst, ◌∙◌}
 use Rattle.std.proofs.lemmas.List.{append_assoc, append-nil}
-use Rattle.std.proofs.lemmas.Bool.Decides.{nat_tests}
 use Rattle.std.proofs.lemmas.Option.{same_Some}
-use Rattle.bn_circuits.specs.Circuits.{same_line, source}
 use Rattle.bn_circuits.specs.declared.line.Line.{Line}
 use Rattle.bn_circuits.specs.declared.line.Wire.{Wire}
 use Rattle.bn_netlist_laws.specs.Sentences.{AreNameable}
@@ -15,14 +13,12 @@ use Rattle.bn_net.specs.Wirings.{AreApart}
 use Rattle.bn_packed.specs.Drafts.{AreDrawn}
 use Rattle.bn_packed.specs.Ends.{EndList}
 use Rattle.bn_netlist.specs.Drafting.{AreKept, HasDrawn, IsFed}
-use Rattle.bn_netlist_laws.specs.Faults.{Fault, is_left_by, wire_fault, outputs_fault}
+use Rattle.bn_netlist_laws.specs.Faults.{Fault, wire_fault, outputs_fault}
 use Rattle.bn_netlist_laws.specs.Spelling.{header_then}
 use Rattle.bn_netlist_laws.specs.declared.header.Header.{Header}
 use Rattle.bn_netlist_laws.proofs.FitLemmas.{wire_passes}
 use Rattle.bn_netlist.specs.Drafting.{tested, RefusesBy, wants_memory, finds, Connects, ConnectsAll}
 use Rattle.bn_netlist.specs.declared.line_refusal.NetlistRefusal.{NetlistRefusal}
-use Rattle.bn_netlist.specs.declared.line_refusal.NetlistRefusal.TheVariants.{EndWired, LeftWired, StartFed, Target}
-use Rattle.bn_netlist.specs.declared.line_refusal.NetlistRefusal.TheVariants.{TwoSources}
 use Rattle.bn_netlist.proofs.DraftLemmas.{drawn_more, fed_more}
 
 -- what a test answered
@@ -163,36 +159,6 @@ connected_fault h e o n ts to old drawn fed i p r has is (finds f found named_r)
     ∙ fault_here) named_r
 
 -- what a test answers, by the first of the faults of a wire that it has
-
-module _ (h : Header) (ws : List Wire) (from to : Line) (n : ℕ) where
-  inside : to.element < h.count → nat_lt to.element h.count ≡ true
-  inside there = grind (arith, nat_tests)
-
-  pub tested_target : h.count ≤ to.element
-      → Err (Target n) ≡ tested (wire_fault (header_then h []) ws from to) n to
-  tested_target past = let test : nat_lt to.element h.count ≡ false = grind (arith, nat_tests) in rw test refl
-
-  pub tested_end : to.element < h.count → same_line h.end from ≡ true
-      → Err (EndWired n) ≡ tested (wire_fault (header_then h []) ws from to) n to
-  tested_end there end = rw (inside there, end) refl
-
-  pub tested_left : to.element < h.count → same_line h.end from ≡ false → is_left_by h.place from ≡ true
-      → Err (LeftWired n) ≡ tested (wire_fault (header_then h []) ws from to) n to
-  tested_left there end left = rw (inside there, end, left) refl
-
-  pub tested_start : to.element < h.count → same_line h.end from ≡ false → is_left_by h.place from ≡ false
-      → same_line h.start to ≡ true → Err (StartFed n) ≡ tested (wire_fault (header_then h []) ws from to) n to
-  tested_start there end left start = rw (inside there, end, left, start) refl
-
-  pub tested_source : to.element < h.count → same_line h.end from ≡ false → is_left_by h.place from ≡ false
-      → same_line h.start to ≡ false → is_some (source ws to) ≡ true
-      → Err (TwoSources n) ≡ tested (wire_fault (header_then h []) ws from to) n to
-  tested_source there end left start fed = rw (inside there, end, left, start, fed) refl
-
-  pub tested_none : to.element < h.count → same_line h.end from ≡ false → is_left_by h.place from ≡ false
-      → same_line h.start to ≡ false → is_some (source ws to) ≡ false
-      → Ok to ≡ tested (wire_fault (header_then h []) ws from to) n to
-  tested_none there end left start fed = rw (inside there, end, left, start, fed) refl
 
 pub nameable_at : (ts : List (Option (ℕ × ℕ))) (i : ℕ) (to : ℕ × ℕ) → AreNameable (named_targets ts)
     → slice_get ts i ≡ Some (Some to) → to.1 < 4

@@ -17,25 +17,14 @@ use Rattle.bn_net.specs.Wirings.{AreApart, AreFitting}
 use Rattle.bn_packed.specs.Drafts.{AreDrawn}
 use Rattle.bn_packed.specs.Ends.{EndList}
 use Rattle.bn_column.specs.Columns.{IsInner, down, up, under, over, top}
-use Rattle.bn_column.specs.Nets.{wire_of}
 use Rattle.bn_netlist.specs.Drafting.{IsFed}
 use Rattle.bn_netlist_laws.specs.Faults.{is_left_by}
 use Rattle.bn_netlist_laws.proofs.WireLemmas.{other_line, Each}
-use Rattle.bn_netlist_laws.specs.Columns.{rungs, inner_wires}
+use Rattle.bn_netlist_laws.specs.Columns.{inner_wires}
 use Rattle.bn_netlist_laws.specs.Faults.{no_element, end_wired, left_wired, start_fed, second_source, some_wire}
 use Rattle.bn_netlist_laws.specs.declared.header.Header.{Header}
 use Rattle.bn_netlist_laws.proofs.SaidLemmas.{inner_each}
 use Rattle.bn_netlist.specs.Drafting.{AreKept, column_fault, IsInnerOf, ConnectsColumn, HasDrawn}
-
--- one rung more
-pub rungs_next : (b r x : ℕ) (ws ms : List Wire) → x ≡ b + r → ws ≡ rungs b r
-    → ms ≡ (ws ++ wire_of x 2 (x + 1) 0 ∷ []) ++ wire_of (x + 1) 0 x 2 ∷ [] → ms ≡ rungs b (r + 1)
-rungs_next b r x ws ms place is more =
-    let next : suc r ≡ r + 1 = omega arith in
-    more
-    ∙ ap (λ (vs : List Wire). (vs ++ wire_of x 2 (x + 1) 0 ∷ []) ++ wire_of (x + 1) 0 x 2 ∷ []) is
-    ∙ ap (λ (n : ℕ). (rungs b r ++ wire_of n 2 (n + 1) 0 ∷ []) ++ wire_of (n + 1) 0 n 2 ∷ []) place
-    ∙ ap (λ (n : ℕ). rungs b n) next
 
 -- ---- tests over a list
 
@@ -124,8 +113,7 @@ module _ (h : Header) (ws : List Wire) (e k : ℕ) (inner : List Wire) (is : inn
   fault_left within end left = rw (
     inside within,
     at_inner (λ w. same_line h.end w.from) false end,
-    at_inner
-        (λ w. is_left_by h.place w.from) true left,
+    at_inner (λ w. is_left_by h.place w.from) true left,
   ) refl
 
   pub fault_start : e + k < h.count → false ≡ some_wire (λ w. same_line h.end w.from) inner
@@ -134,8 +122,7 @@ module _ (h : Header) (ws : List Wire) (e k : ℕ) (inner : List Wire) (is : inn
   fault_start within end left start = rw (
     inside within,
     at_inner (λ w. same_line h.end w.from) false end,
-    at_inner
-        (λ w. is_left_by h.place w.from) false left,
+    at_inner (λ w. is_left_by h.place w.from) false left,
     at_inner (λ w. same_line h.start w.to) true start,
   ) refl
 
@@ -145,11 +132,9 @@ module _ (h : Header) (ws : List Wire) (e k : ℕ) (inner : List Wire) (is : inn
   fault_source within end left start fed = rw (
     inside within,
     at_inner (λ w. same_line h.end w.from) false end,
-    at_inner
-        (λ w. is_left_by h.place w.from) false left,
+    at_inner (λ w. is_left_by h.place w.from) false left,
     at_inner (λ w. same_line h.start w.to) false start,
-    at_inner
-        (λ w. is_some (source ws w.to)) true fed,
+    at_inner (λ w. is_some (source ws w.to)) true fed,
   ) refl
 
   pub fault_none : e + k < h.count → false ≡ some_wire (λ w. same_line h.end w.from) inner
@@ -158,11 +143,9 @@ module _ (h : Header) (ws : List Wire) (e k : ℕ) (inner : List Wire) (is : inn
   fault_none within end left start fed = rw (
     inside within,
     at_inner (λ w. same_line h.end w.from) false end,
-    at_inner
-        (λ w. is_left_by h.place w.from) false left,
+    at_inner (λ w. is_left_by h.place w.from) false left,
     at_inner (λ w. same_line h.start w.to) false start,
-    at_inner
-        (λ w. is_some (source ws w.to)) false fed,
+    at_inner (λ w. is_some (source ws w.to)) false fed,
   ) refl
 
 -- ---- the ends of a column's wires
@@ -194,16 +177,14 @@ source-same : (ws : List Wire) (w : Wire) → is_some (source (ws ++ w ∷ []) w
 source-same [] w = elim (line_tells w.to w.to) [ inl same ↦ rw same.0 refl | inr other ↦ absurd (other.1 refl) ]
 source-same (v ∷ ws) w = elim (line_tells v.to w.to) [
   | inl same ↦ rw same.0 refl
-  | inr other
-      ↦ rw other.0 (source-same ws w)
+  | inr other ↦ rw other.0 (source-same ws w)
 ]
 
 source-other : (ws : List Wire) (w : Wire) (l : Line) → w.to ≢ l → source (ws ++ w ∷ []) l ≡ source ws l
 source-other [] w l apart = let e = other_line w.to l apart in rw e refl
 source-other (v ∷ ws) w l apart = elim (line_tells v.to l) [
   | inl same ↦ rw same.0 refl
-  | inr other
-      ↦ rw other.0 (source-other ws w l apart)
+  | inr other ↦ rw other.0 (source-other ws w l apart)
 ]
 
 pub fed_more : (n : ℕ) (ws : List Wire) (w : Wire) (fed : List Bool) → IsFed n ws fed → w.to.element < n → w.to.line < 4

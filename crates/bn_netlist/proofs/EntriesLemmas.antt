@@ -1,7 +1,7 @@
 -- The entries of a text as they are read, line by line.
 use Rattle.std.specs.Prelude.{◌≡◌, ◌≢◌, ℕ, ◌+◌, ◌-◌, ◌==◌, Bool, true, false, List, [], ◌∷◌, ◌++◌, length, replicate}
 use Rattle.std.specs.Prelude.{Option, Some, None, refl}
-use Rattle.std.proofs.Common.{zero, suc, arith, sym, ap, subst, ◌∙◌, inl, inr}
+use Rattle.std.proofs.Common.{suc, arith, sym, ap, subst, ◌∙◌, inl, inr}
 use Rattle.std.proofs.lemmas.Bool.Decides.{nat_tests, eqb_tells}
 use Rattle.std.proofs.lemmas.List.{append_assoc, append-nil}
 use Rattle.bn_circuits.specs.declared.line.Line.{Line}
@@ -151,8 +151,7 @@ column_read h rows lines left more k q n states states_new own own_new drawn new
     read_at lines_are =
         let made = length_more rows (Column lines k q) in
         record {
-          faultless = column_line_fault h rows (wires_after 6 rows) lines k q (sym lines_are) refl
-              ∙ connects.faultless;
+          faultless = column_line_fault h rows (wires_after 6 rows) lines k q (sym lines_are) refl ∙ connects.faultless;
           holds = record {
             lines_are = omega arith;
             left_are = sym (rows_left-append 0 rows (Column lines k q ∷ []));
@@ -173,15 +172,6 @@ refuses_same found other n m r same lines is = subst (λ (o : Option Fault). Ref
 
 pub refuses_order : (found : Option Fault) (n m : ℕ) → found ≡ Some out_of_order → n ≡ m → RefusesBy found m (Order n)
 refuses_order found n m is lines = finds out_of_order is (ap Order lines)
-
-pub replicate_more : {X : Type 0} (n : ℕ) (x : X) → replicate (n + 1) x ≡ replicate n x ++ x ∷ []
-replicate_more n x =
-    let next : n + 1 ≡ suc n = omega arith in
-    ap (λ (m : ℕ). replicate m x) next ∙ more n
-  where
-    more : (m : ℕ) → replicate (suc m) x ≡ replicate m x ++ x ∷ []
-    more zero = refl
-    more (suc m) = ap (λ xs. x ∷ xs) (more m)
 
 pub element_fault_at : (h : Header) (rows : List Sentence) (ws : List Wire) (n e q : ℕ) (ts : List (Option Line))
     → n ≡ e → length rows ≡ e → ws ≡ wires_after 6 rows → outputs_fault (header_then h []) ws e 0 ts

@@ -13,7 +13,7 @@ use Rattle.bn_circuits.specs.declared.line.Line.{Line}
 use Rattle.bn_circuits.specs.declared.line.Wire.{Wire}
 use Rattle.bn_net.proofs.WireListLemmas.{line_tells}
 use Rattle.bn_net.proofs.WiringsLemmas.{apart-append, apart-IsOneToOne}
-use Rattle.bn_net.specs.Wirings.{AreApart, AreFitting}
+use Rattle.bn_net.specs.Wirings.{AreApart}
 use Rattle.bn_packed.specs.Drafts.{AreDrawn}
 use Rattle.bn_packed.specs.Ends.{EndList}
 use Rattle.bn_element.specs.Rotary.{rotary, vertical, east}
@@ -27,21 +27,16 @@ use Rattle.bn_netlist_laws.specs.declared.header.Header.{Header}
 use Rattle.bn_netlist_laws.proofs.LineLemmas.{length_more}
 use Rattle.bn_netlist_laws.proofs.TextLemmas.{first_after}
 use Rattle.bn_netlist_laws.proofs.BlockLemmas.{Blocks, no_block, single, group, blocks, row_lines, element_line}
-use Rattle.bn_netlist_laws.proofs.FitLemmas.{Fits, AllFit, blocks_fit}
-use Rattle.bn_netlist_laws.proofs.WholeLemmas.{said_by}
+use Rattle.bn_netlist_laws.proofs.FitLemmas.{Fits, AllFit, blocks_fit, length_rows}
+use Rattle.bn_netlist_laws.proofs.WholeLemmas.{said_by, get_behind}
 use Rattle.bn_netlist_laws.proofs.SpellsLemmas.{said-admitted, whole-said}
 use Rattle.bn_netlist_laws.proofs.VersionLemmas.{spelled-alike}
 use Rattle.bn_netlist.specs.Drafting.{HasDrawn, own_in, IsOwnColumn}
 use Rattle.bn_netlist.specs.Finishing.{IsWholeDraft}
 use Rattle.bn_netlist.specs.WireSpelling.{spelling_by}
+use Rattle.bn_netlist_laws.proofs.AdmittedLemmas.{none_is_not_some as none_some}
 
 -- ---- the wires of whole lines are apart and fit, and their bars and place are a configuration
-
-none_some : (l : Line) (o : Option Line) → o ≡ None → o ≡ Some l → ⊥
-none_some l o h k = let e : ◌≡◌ {A = Option Line} None (Some l) = sym h ∙ k in apart e
-  where
-    apart : ◌≡◌ {A = Option Line} None (Some l) → ⊥
-    apart e = cc
 
 fit-AreApart : (h : Header) (earlier ws : List Wire) → AreApart earlier → AllFit h earlier ws → AreApart (earlier ++ ws)
 fit-AreApart h earlier [] apart fit = subst AreApart (sym (append-nil earlier)) apart
@@ -61,16 +56,6 @@ fit-AreApart h earlier (w ∷ ws) apart fit =
       ],
     ))) fit.1)
 
-fit-fits : (h : Header) (earlier ws : List Wire) → AllFit h earlier ws → (n : ℕ) (w : Wire) → slice_get ws n ≡ Some w
-    → (w.from.element < h.count) × (w.from.line < 4) × (w.to.element < h.count) × (w.to.line < 4)
-fit-fits h earlier [] fit n w has = absurd (cc)
-fit-fits h earlier (v ∷ ws) fit zero w has =
-    let P : Wire → Type 0 = λ u. (u.from.element < h.count) × (u.from.line < 4) × (u.to.element < h.count)
-    × (u.to.line < 4) in
-    let here : Fits h earlier v = fit.0 in
-    subst P (same_Some v w has) (here.from_there, here.from_low, here.to_there, here.to_low)
-fit-fits h earlier (v ∷ ws) fit (suc n) w has = fit-fits h (earlier ++ v ∷ []) ws fit.1 n w has
-
 whole_blocks : (h : Header) (rows : List Sentence) → AreWhole (header_then h rows) → Blocks rows
 whole_blocks h rows whole =
     let complete : length (header_then h rows) ≡ header_lines + h.count = whole.complete in
@@ -82,10 +67,6 @@ module _ (h : Header) (rows : List Sentence) (whole : AreWhole (header_then h ro
 
   pub whole-AreApart : (wires : List Wire) → wires ≡ wires_after 6 rows → AreApart wires
   whole-AreApart wires is = subst AreApart (sym is) (fit-AreApart h [] (wires_after 6 rows) tt whole_fit)
-
-  pub whole-AreFitting : (wires : List Wire) → wires ≡ wires_after 6 rows → AreFitting h.count wires
-  whole-AreFitting wires is = subst (AreFitting h.count) (sym is)
-      (record { fits = fit-fits h [] (wires_after 6 rows) whole_fit })
 
   pub whole-IsConfig : (wires : List Wire) (states : List ℕ) → wires ≡ wires_after 6 rows → states ≡ bars_in rows
       → IsConfig (circuit_of (spelling_by h wires states)) (spelling_by h wires states).config
@@ -109,11 +90,6 @@ record IsOwnLine (rows : List Sentence) (n e : ℕ) : Type 0 where
   state : ℕ
   targets : List (Option Line)
   has : slice_get rows e ≡ Some (Element n state targets)
-
-get_behind : {X : Type 0} (xs ys : List X) (i n : ℕ) → n ≡ length xs + i → slice_get (xs ++ ys) n ≡ slice_get ys i
-get_behind [] ys i n place = let same : n ≡ i = omega arith in ap (λ (m : ℕ). slice_get ys m) same
-get_behind (x ∷ xs) ys i zero place = absurd (omega arith)
-get_behind (x ∷ xs) ys i (suc n) place = get_behind xs ys i n (omega arith)
 
 false_is_not_true : false ≡ true → ⊥
 false_is_not_true e = cc
@@ -144,10 +120,6 @@ rows_not_own [] rest e n q ts low has = omega arith
 rows_not_own (p ∷ ps) rest zero n q ts low has = no_row p.0 p.1 n q ts has
 rows_not_own (p ∷ ps) rest (suc e) n q ts low has = rows_not_own ps rest e n q ts (omega arith) has
 
-length_rows : (sides : List (Option Line × Option Line)) → length (row_lines sides) ≡ length sides
-length_rows [] = refl
-length_rows (p ∷ ps) = ap suc (length_rows ps)
-
 own_rows : (sides : List (Option Line × Option Line)) (rest : List Sentence)
     → own_in (row_lines sides ++ rest) ≡ own_in rest
 own_rows [] rest = refl
@@ -167,8 +139,7 @@ own_line h done rows zero n (single m q ts rest is more) place f has =
     record {
       state = q;
       targets = ts;
-      has = ap (λ (zs : List Sentence). slice_get zs 0) is
-          ∙ ap (λ (i : ℕ). Some (Element i q ts)) same;
+      has = ap (λ (zs : List Sentence). slice_get zs 0) is ∙ ap (λ (i : ℕ). Some (Element i q ts)) same;
     }
 own_line h done rows (suc e) n (single m q ts rest is more) place f has =
     let g : AreFaultlessAfter (header_then h done) (Element m q ts ∷ rest) =
@@ -179,8 +150,7 @@ own_line h done rows (suc e) n (single m q ts rest is more) place f has =
     record {
       state = behind.state;
       targets = behind.targets;
-      has = ap (λ (zs : List Sentence). slice_get zs (suc e)) is
-          ∙ behind.has;
+      has = ap (λ (zs : List Sentence). slice_get zs (suc e)) is ∙ behind.has;
     }
 own_line h done rows e n (group b k q sides rest count is more) place f has =
     let x : Sentence = Column b k q in

@@ -86,8 +86,7 @@ given_none v s a kept is =
         entries = [];
         writes = writes_none v s;
         after = after_none s.elements;
-        text_is = is
-            ∙ sym (append-nil (header_text v s));
+        text_is = is ∙ sym (append-nil (header_text v s));
       };
     }
 
@@ -134,8 +133,7 @@ given_text v s old now kept lines e m are all =
     record {
       entries = whole.0;
       are = writes_all v s whole.0 s.elements refl whole.1;
-      written = whole.2
-          ∙ sym (text_of_entries v s whole.0);
+      written = whole.2 ∙ sym (text_of_entries v s whole.0);
     }
 
 pub given_whole : (v : Version) (s : Spelling) (old now new : Option (List ℕ)) (kept : List ℕ) (lines e m : ℕ)
@@ -155,7 +153,3 @@ given_last v s old now new kept lines e m a are all grows text is =
       sym same ∙ ap (λ (z : List ℕ). are.given ++ z) grows.2 ∙ sym (append_assoc are.given grows.0 grows.1),
       Grows-joins old now new are.given grows.0 are.grown grows.3,
     )
-
--- the header alone has been made, or not even that
-pub none_given : (a : Option (List ℕ)) (text : List ℕ) → GrowsByFront a a text
-none_given a text = ([], text, refl, grows_none a)

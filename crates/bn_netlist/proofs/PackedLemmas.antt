@@ -37,8 +37,7 @@ module _ (h : Header) (wires : List Wire) (states : List ℕ) (net : Parts Rotar
   place_in (Enter e i) there = subst (λ (ts : List Table). i < inputs_of ts e) (sym tables) there
   place_in (Left e o) there = (
     subst (λ (ts : List Table). o < outputs_of ts e) (sym tables) there.0,
-    is.targets
-        (line_at e o) ∙ there.1,
+    is.targets (line_at e o) ∙ there.1,
   )
 
   -- a net of these wires has the configuration of what they spell

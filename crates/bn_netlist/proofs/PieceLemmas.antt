@@ -18,10 +18,7 @@ use Rattle.bn_netlist.specs.declared.stage.Stage.{Stage}
 use Rattle.bn_netlist.specs.declared.stage.Stage.TheVariants as stage
 use Rattle.bn_netlist.specs.declared.line_refusal.NetlistRefusal.{NetlistRefusal}
 use Rattle.bn_netlist.specs.declared.line_refusal.NetlistRefusal.TheVariants.{Syntax}
-use Rattle.bn_netlist.proofs.StageLemmas.{nothing_taken, nothing_in_line, text_refused, text_taken, cut_short}
-
-pub nothing_come : HasCome [] [] stage.Title
-nothing_come = record { lines = []; begins = refl; in_line = nothing_in_line; are = nothing_taken }
+use Rattle.bn_netlist.proofs.StageLemmas.{nothing_in_line, text_refused, text_taken, cut_short}
 
 -- a part of a piece has been read: whatever had come, with that part it is what is kept
 pub record IsPieceRead (piece left line : List ℕ) (s : Stage) (now : List ℕ) (t : Stage) : Type 0 where
@@ -33,8 +30,7 @@ pub none_read : (piece line : List ℕ) (s : Stage) → IsPieceRead piece piece 
 none_read piece line s = record {
   read = [];
   split = refl;
-  come = λ text come. subst (λ (t : List ℕ). HasCome t line s)
-      (sym (append-nil text)) come;
+  come = λ text come. subst (λ (t : List ℕ). HasCome t line s) (sym (append-nil text)) come;
 }
 
 -- a line that grows too long
@@ -173,12 +169,6 @@ pub come_cut : (text line : List ℕ) (s : Stage) (n : ℕ) → HasCome text lin
 come_cut text line s n come some numbers =
     subst (λ (z : List ℕ). IsTextRefusal z (Syntax n)) (sym come.begins)
     (cut_short come.lines line n come.are.faultless come.in_line some (numbers come.lines come.are))
-
--- all of the text has been taken
-pub come_whole : (text line : List ℕ) (s : Stage) (come : HasCome text line s) → line ≡ []
-    → text ≡ lines_text come.lines
-come_whole text line s come none = come.begins ∙ ap (λ (z : List ℕ). lines_text come.lines ++ z) none
-    ∙ append-nil (lines_text come.lines)
 
 pub some_bytes : (n : ℕ) (xs : List ℕ) → n ≡ length xs → false ≡ (n == 0) → xs ≢ []
 some_bytes n xs count test none =

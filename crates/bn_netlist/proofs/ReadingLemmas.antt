@@ -5,8 +5,7 @@ use Rattle.std.proofs.Common.{subst}
 use Rattle.bn_base.specs.Line.{IsInLine, IsNextLine}
 use Rattle.bn_base.specs.declared.lines.NextLine.{NextLine}
 use Rattle.bn_base.specs.declared.lines.NextLine.TheVariants.{Whole, Cut}
-use Rattle.bn_netlist_laws.specs.Spelling.{Spelling}
-use Rattle.bn_netlist_laws.specs.Spelling.{Spelled}
+use Rattle.bn_netlist_laws.specs.Spelling.{Spelling, Spelled}
 use Rattle.bn_netlist_laws.specs.Faults.{malformed, too_many, no_element, out_of_order, end_wired, left_wired}
 use Rattle.bn_netlist_laws.specs.Faults.{start_fed, second_source, spelled_out}
 use Rattle.bn_netlist_laws.specs.declared.version.Version.{Version}

@@ -1,23 +1,18 @@
 -- Lines of a text that are taken one after another.
-use Rattle.std.specs.Prelude.{◌≡◌, ◌≢◌, ℕ, ◌+◌, ◌<◌, ◌≤◌, nat_le, List, [], ◌∷◌, ◌++◌, length, Option, Some, None}
-use Rattle.std.specs.Prelude.{if◌then◌else◌, refl}
+use Rattle.std.specs.Prelude.{◌≡◌, ◌≢◌, ℕ, ◌+◌, ◌<◌, ◌≤◌, List, [], ◌∷◌, ◌++◌, length, refl}
 use Rattle.std.proofs.Common.{arith, sym, ap, subst, ◌∙◌, inl, inr}
-use Rattle.std.proofs.lemmas.Bool.{cases_Bool, cases_lt}
-use Rattle.std.proofs.lemmas.Bool.Decides.{nat_tests}
+use Rattle.std.proofs.lemmas.Bool.{cases_lt}
 use Rattle.std.proofs.lemmas.List.{append_assoc, append-nil}
-use Rattle.bn_net.specs.declared.net.TheConstants.{MOST_ELEMENTS}
 use Rattle.bn_base.specs.Line.{IsInLine}
 use Rattle.bn_circuits.specs.declared.line.Line.{Line}
 use Rattle.bn_circuits.specs.declared.place.Place.{Place}
 use Rattle.bn_netlist_laws.specs.Sentences.{Sentence, Title, Count, Start, End, Steps, At, sentence_text, lines_text}
-use Rattle.bn_netlist_laws.specs.Spelling.{header_then, most_elements}
-use Rattle.bn_netlist_laws.specs.Faults.{Fault, too_many, header_lines, count_in, rows_left, fault_of, malformed}
-use Rattle.bn_netlist_laws.specs.Faults.{IsFirstBadLine, IsNext, AreFaultlessAfter, AreFaultless}
+use Rattle.bn_netlist_laws.specs.Spelling.{header_then}
+use Rattle.bn_netlist_laws.specs.Faults.{header_lines, count_in, malformed, IsFirstBadLine, AreFaultless}
 use Rattle.bn_netlist_laws.specs.declared.header.Header.{Header}
 use Rattle.bn_netlist_laws.specs.declared.version.Version.{Version}
 use Rattle.bn_netlist_laws.proofs.LineLemmas.{length_more}
 use Rattle.bn_netlist_laws.proofs.TextLemmas.{lines_text-append}
-use Rattle.bn_netlist_laws.proofs.AdmittedLemmas.{most_small}
 use Rattle.bn_netlist.specs.Drafting.{Holds}
 use Rattle.bn_netlist.specs.LineReading.{TakesLine, RefusesLine, no_memory, no_form, has_fault}
 use Rattle.bn_netlist.specs.NetText.{IsTextRefusal}
@@ -28,23 +23,7 @@ use Rattle.bn_netlist.specs.declared.stage.Stage.TheVariants as stage
 use Rattle.bn_netlist.specs.declared.line_refusal.NetlistRefusal.{NetlistRefusal}
 use Rattle.bn_netlist.specs.declared.line_refusal.NetlistRefusal.TheVariants.{Syntax}
 use Rattle.bn_netlist.proofs.TakenLineLemmas.{refused-lines-refuse, rests-are-malformed, lines-behind-are-malformed}
-
-faultless_more : (earlier xs : List Sentence) (x : Sentence) → AreFaultlessAfter earlier xs → IsNext (earlier ++ xs) x
-    → fault_of (earlier ++ xs) x ≡ None → AreFaultlessAfter earlier (xs ++ x ∷ [])
-faultless_more earlier [] x f next none =
-    let same : earlier ++ [] ≡ earlier = append-nil earlier in (
-      subst (λ (zs : List Sentence). IsNext zs x) same next,
-      subst (λ (zs : List Sentence). fault_of zs x ≡ None) same
-          none,
-      tt,
-    )
-faultless_more earlier (y ∷ xs) x f next none =
-    let same : earlier ++ y ∷ xs ≡ (earlier ++ y ∷ []) ++ xs = sym (append_assoc earlier (y ∷ []) xs) in (
-      f.0,
-      f.1,
-      faultless_more (earlier ++ y ∷ []) xs x f.2 (subst (λ (zs : List Sentence). IsNext zs x) same next)
-          (subst (λ (zs : List Sentence). fault_of zs x ≡ None) same none),
-    )
+use Rattle.bn_netlist_laws.proofs.DecideLemmas.{faultless_more}
 
 count_rises : (xs ys : List Sentence) → count_in xs ≤ count_in (xs ++ ys)
 count_rises [] ys = omega arith
@@ -79,39 +58,9 @@ pub refused_behind : (lines b : List Sentence) (line : List ℕ) (r : NetlistRef
     → RefusesLine lines line r
 refused_behind lines b line r same refuses = subst (λ (zs : List Sentence). RefusesLine zs line r) (sym same) refuses
 
-few_counted : (c n : ℕ) (f : Fault) → (if nat_le c n then None else Some f) ≡ None → c ≤ n
-few_counted c n f h =
-    elim (cases_Bool (nat_le c n)) [
-      | inl low ↦ grind (arith, nat_tests, low)
-      | inr high ↦ absurd (some_is_none f (rw high at h))
-    ]
-  where
-    some_is_none : (f : Fault) → ◌≡◌ {A = Option Fault} (Some f) None → ⊥
-    some_is_none f e = cc
-
-pub nothing_taken : AreTaken [] stage.Title
-nothing_taken = record { faultless = tt; within = omega arith; say = refl }
-
 -- ---- behind the header
 
 module _ (h : Header) (e : behind.Entries) (lines : List Sentence) (taken : AreTaken lines (stage.Entries h e)) where
-  faultless_then : AreFaultless (header_then h taken.say.rows)
-  faultless_then = subst AreFaultless taken.say.are taken.faultless
-
-  pub few : h.count ≤ MOST_ELEMENTS
-  few =
-      let low : h.count ≤ most_elements h.version = few_counted h.count (most_elements h.version) too_many
-      faultless_then.2.1 in
-      let most = most_small h.version in
-      omega arith
-
-  pub begun : 0 < e.rows → 0 < e.lines
-  begun some = begun_by taken.say.rows taken.say.holds.lines_are taken.say.holds.left_are some
-    where
-      begun_by : (rows : List Sentence) → e.lines ≡ length rows → e.rows ≡ rows_left 0 rows → 0 < e.rows → 0 < e.lines
-      begun_by [] count left some = absurd (omega arith)
-      begun_by (x ∷ xs) count left some = omega arith
-
   counted : length lines ≡ 6 + e.lines
   counted =
       let are = ap length taken.say.are in
@@ -139,14 +88,6 @@ module _ (h : Header) (e : behind.Entries) (lines : List Sentence) (taken : AreT
       → RefusesLine (header_then h rows) line r) → RefusesLine lines line r
   entry_refused line r refused = refused_behind lines (header_then h taken.say.rows) line r taken.say.are
       (refused taken.say.rows taken.say.holds)
-
-  -- all lines are there
-  pub full_refused : (n : ℕ) (line : List ℕ) → n ≡ e.lines → h.count ≤ e.lines → RefusesLine lines line (Syntax (n + 7))
-  full_refused n line same full =
-      let count = counted in
-      let has = count_is in
-      no_form (ap Syntax (numbered n same)) (λ x next _. absurd
-      (let room : length lines < header_lines + count_in lines = next.room in omega arith))
 
 pub same_stage : (s t : Stage) (lines : List Sentence) → s ≡ t → AreTaken lines s → AreTaken lines t
 same_stage s t lines same taken = subst (λ (u : Stage). AreTaken lines u) same taken

@@ -86,8 +86,7 @@ refused-lines-refuse before line rest r faultless in_line room (has_fault x faul
 pub rests-are-malformed : RestsAreMalformed
 rests-are-malformed before left faultless in_line some =
     bad_line before left malformed faultless (record {
-      unsaid = λ x behind next. cut-lines-differ left (sentence_text x)
-          behind in_line;
+      unsaid = λ x behind next. cut-lines-differ left (sentence_text x) behind in_line;
       unfinished = some;
     })
 

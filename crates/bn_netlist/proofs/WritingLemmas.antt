@@ -59,8 +59,7 @@ line_left v s e (suc (suc m)) f n x xs (a_row is next) left =
     record {
       rest = behind.rest;
       rows = (λ i. is i ∷ behind.rows i);
-      behind = subst
-          (λ (i : ℕ). AreEntries v s i behind.rest) same behind.behind;
+      behind = subst (λ (i : ℕ). AreEntries v s i behind.rest) same behind.behind;
     }
 
 pub writes_more : (v : Version) (s : Spelling) (done : List Sentence) (e m f n : ℕ) (x : Sentence) → Writes v s done e m
@@ -82,10 +81,6 @@ IsAfter count lines e m = (lines ≡ e + min m 1) × (e ≤ count) × (0 < m →
 
 pub after_none : (count : ℕ) → IsAfter count 0 0 0
 after_none count = (omega arith, omega arith, λ h. absurd (omega arith))
-
-pub place_in : (count lines e m : ℕ) → lines < count → IsAfter count lines e m → IsPlaceIn count e m
-place_in count lines e zero short is = let lines_are : lines ≡ e + min 0 1 = is.0 in omega arith
-place_in count lines e (suc m) short is = is.2 (omega arith)
 
 pub row_within : (count e m : ℕ) → 0 < m → IsPlaceIn count e m → e + m < count
 row_within count e zero some is = absurd (omega arith)
@@ -135,15 +130,6 @@ pub record AreWritten (v : Version) (s : Spelling) (old text : List ℕ) (lines 
   pub writes : Writes v s entries e m
   pub after : IsAfter s.elements lines e m
   pub text_is : text ≡ old ++ lines_text entries
-
-pub written_none : (v : Version) (s : Spelling) (text : List ℕ) → AreWritten v s text text 0 0 0
-written_none v s text = record {
-  entries = [];
-  writes = writes_none v s;
-  after = after_none s.elements;
-  text_is = sym
-      (append-nil text);
-}
 
 pub written_more : (v : Version) (s : Spelling) (old text more : List ℕ) (lines e m f n : ℕ) → lines < s.elements
     → AreWritten v s old text lines e m → ((x : Sentence) × NextLine v s e m f n x

@@ -1,7 +1,6 @@
 -- Reading a text line by line: what has been read, and what a refusal says of the next line.
 use Rattle.std.specs.Prelude.{◌≡◌, ℕ, ◌+◌, ◌*◌, ◌<◌, Bool, true, false, List, [], ◌∷◌, ◌++◌, length, replicate, Option}
-use Rattle.std.specs.Prelude.{Some, None, slice_get}
-use Rattle.std.specs.Prelude.{is_some}
+use Rattle.std.specs.Prelude.{Some, None, slice_get, is_some}
 use Rattle.bn_circuits.specs.Circuits.{Circuit, source}
 use Rattle.bn_circuits.specs.declared.line.Line.{Line}
 use Rattle.bn_circuits.specs.declared.line.Wire.{Wire}
@@ -12,16 +11,14 @@ use Rattle.bn_netlist_laws.specs.Columns.{HasColumnAt, inner_wires}
 use Rattle.bn_netlist_laws.specs.Spelling.{header_then}
 use Rattle.bn_netlist_laws.specs.Faults.{Fault, malformed, too_many, no_element, out_of_order, end_wired, left_wired}
 use Rattle.bn_netlist_laws.specs.Faults.{start_fed, second_source, spelled_out, inner_fault, wire_fault, outputs_fault}
-use Rattle.bn_netlist_laws.specs.Faults.{bars_in, wires_after, rows_left, fault_of}
-use Rattle.bn_netlist_laws.specs.Faults.{wires_from}
+use Rattle.bn_netlist_laws.specs.Faults.{bars_in, wires_after, rows_left, fault_of, wires_from}
 use Rattle.std.specs.Prelude.{Result, Ok, Err}
 use Rattle.bn_netlist_laws.specs.Sentences.{Sentence, Element, Column}
 use Rattle.bn_netlist_laws.specs.declared.header.Header.{Header}
 use Rattle.bn_netlist.specs.declared.line_refusal.NetlistRefusal.{NetlistRefusal}
 use Rattle.bn_netlist.specs.declared.line_refusal.NetlistRefusal.TheVariants.{Syntax, Order, Target, TwoSources}
-use Rattle.bn_netlist.specs.declared.line_refusal.NetlistRefusal.TheVariants.{StartFed}
-use Rattle.bn_netlist.specs.declared.line_refusal.NetlistRefusal.TheVariants.{EndWired, LeftWired, TooMany, Spelling}
-use Rattle.bn_netlist.specs.declared.line_refusal.NetlistRefusal.TheVariants.{NoMemory}
+use Rattle.bn_netlist.specs.declared.line_refusal.NetlistRefusal.TheVariants.{StartFed, EndWired, LeftWired, TooMany}
+use Rattle.bn_netlist.specs.declared.line_refusal.NetlistRefusal.TheVariants.{Spelling, NoMemory}
 
 -- the refusal that names a fault and a line
 abbrev pub refusal_of : Fault → ℕ → NetlistRefusal

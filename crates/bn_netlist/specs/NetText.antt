@@ -4,14 +4,12 @@ use Rattle.bn_net.specs.RotaryNets.{rotary_circuit}
 use Rattle.bn_netlist_laws.specs.Spelling as what
 use Rattle.bn_netlist_laws.specs.Spelling.{circuit_of}
 use Rattle.bn_netlist_laws.specs.Faults.{IsFirstFault, malformed, too_many, no_element, out_of_order, end_wired}
-use Rattle.bn_netlist_laws.specs.Faults.{left_wired}
-use Rattle.bn_netlist_laws.specs.Faults.{start_fed, second_source, spelled_out}
+use Rattle.bn_netlist_laws.specs.Faults.{left_wired, start_fed, second_source, spelled_out}
 use Rattle.bn_netlist.specs.declared.net_config.NetConfig.{NetConfig}
 use Rattle.bn_netlist.specs.declared.line_refusal.NetlistRefusal.{NetlistRefusal}
 use Rattle.bn_netlist.specs.declared.line_refusal.NetlistRefusal.TheVariants.{Syntax, Order, Target, TwoSources}
-use Rattle.bn_netlist.specs.declared.line_refusal.NetlistRefusal.TheVariants.{StartFed}
-use Rattle.bn_netlist.specs.declared.line_refusal.NetlistRefusal.TheVariants.{EndWired, LeftWired, TooMany, Spelling}
-use Rattle.bn_netlist.specs.declared.line_refusal.NetlistRefusal.TheVariants.{NoMemory}
+use Rattle.bn_netlist.specs.declared.line_refusal.NetlistRefusal.TheVariants.{StartFed, EndWired, LeftWired, TooMany}
+use Rattle.bn_netlist.specs.declared.line_refusal.NetlistRefusal.TheVariants.{Spelling, NoMemory}
 
 -- what the text of a net with its configuration spells
 abbrev pub spelling_of : NetConfig → what.Spelling

@@ -54,8 +54,6 @@ impl Spellable for PackedConfig {
     }
 
     fn bar(&self, element: u32) -> u32 {
-        // (for the prover: the contract of this call tells what the type keeps.)
-        let _elements = self.packed.len();
         self.packed.bar(element)
     }
 

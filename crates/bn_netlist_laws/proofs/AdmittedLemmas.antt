@@ -1,18 +1,16 @@
 -- The lines of a configuration that may be spelled have no fault, and none of its columns is spelled out.
-use Rattle.std.specs.Prelude.{◌≡◌, ◌≢◌, ℕ, ◌+◌, ◌-◌, ◌*◌, ◌<◌, ◌≤◌, min, ◌==◌, nat_lt, nat_le, Bool, true, false, List}
-use Rattle.std.specs.Prelude.{[], ◌∷◌, ◌++◌, length, drop, replicate, Option, Some, None, is_some, slice_get}
-use Rattle.std.specs.Prelude.{if◌then◌else◌, refl}
+use Rattle.std.specs.Prelude.{◌≡◌, ◌≢◌, ℕ, ◌+◌, ◌-◌, ◌<◌, ◌≤◌, ◌==◌, nat_lt, nat_le, Bool, true, false, List, [], ◌∷◌}
+use Rattle.std.specs.Prelude.{◌++◌, length, Option, Some, None, is_some, slice_get, refl}
 use Rattle.std.proofs.Common.{zero, suc, arith, sym, ap, subst, ◌∙◌, inl, inr, ◌⊎◌}
-use Rattle.std.proofs.lemmas.Bool.{cases_lt, cases_eq}
 use Rattle.std.proofs.lemmas.Bool.Decides.{nat_tests}
-use Rattle.std.proofs.lemmas.List.{append_assoc, append-nil, length-append, length-replicate}
+use Rattle.std.proofs.lemmas.List.{length-append}
 use Rattle.std.proofs.lemmas.Option.{same_Some, slice_get_within}
-use Rattle.bn_circuits.specs.Circuits.{clock, same_line, target, source, IsCircuit, IsPlace}
+use Rattle.bn_circuits.specs.Circuits.{clock, same_line, target, source, IsPlace}
 use Rattle.bn_circuits.specs.declared.line.Line.{Line}
 use Rattle.bn_circuits.specs.declared.line.Wire.{Wire}
 use Rattle.bn_circuits.specs.declared.place.Place.{Place}
 use Rattle.bn_circuits.specs.declared.place.Place.TheVariants.{Enter, Left}
-use Rattle.bn_element.specs.Rotary.{rotary, north, east, south, west}
+use Rattle.bn_element.specs.Rotary.{north, east, south, west}
 use Rattle.bn_column.specs.Columns.{IsInner, down, up, under, over, top}
 use Rattle.bn_circuits.specs.Circuits.{line_at}
 use Rattle.bn_netlist_laws.specs.Sentences.{AreNameable}
@@ -20,21 +18,21 @@ use Rattle.bn_netlist_laws.specs.Spelling.{Spelling, circuit_of, targets_of}
 use Rattle.bn_netlist_laws.specs.Faults.{is_left_by, wires_from, element_at}
 use Rattle.bn_netlist_laws.proofs.WireLemmas.{rotary_input, rotary_output, rotary_state, other_line, Each, each_append}
 use Rattle.bn_netlist_laws.proofs.WireLemmas.{each_weaker, source-none}
-use Rattle.bn_netlist_laws.specs.Columns.{IsColumnAt, HasColumnAt, inner_wires, rotary_elements}
+use Rattle.bn_netlist_laws.specs.Columns.{IsColumnAt, inner_wires}
 use Rattle.bn_netlist_laws.specs.Sentences.{Sentence, Title, Count, Start, End, Steps, At, Element, Column, Row}
 use Rattle.bn_netlist_laws.specs.Sentences.{IsSayable}
 use Rattle.bn_netlist_laws.specs.Spelling.{Admits, most_elements, header_of, header_then, IsWrittenAt, row_sentences}
 use Rattle.bn_netlist_laws.specs.Spelling.{AreEntries, no_entry, element_entry, column_entry}
-use Rattle.bn_netlist_laws.specs.Faults.{header_lines, next_number, row_number, line_wires, wires_after, wires_in}
-use Rattle.bn_netlist_laws.specs.Faults.{bars_in, rows_left, row_targets, wire_fault, outputs_fault, some_wire}
-use Rattle.bn_netlist_laws.specs.Faults.{inner_fault, named_fault, fault_of, IsOfVersion, IsNext, AreFaultlessAfter}
-use Rattle.bn_netlist_laws.specs.Faults.{AreFaultless, AreWhole, IsSpelledOut}
+use Rattle.bn_netlist_laws.specs.Faults.{header_lines, next_number, row_number, wires_after, bars_in, rows_left}
+use Rattle.bn_netlist_laws.specs.Faults.{row_targets, wire_fault, outputs_fault, some_wire, inner_fault, named_fault}
+use Rattle.bn_netlist_laws.specs.Faults.{fault_of, IsOfVersion, IsNext, AreFaultlessAfter, AreFaultless, AreWhole}
+use Rattle.bn_netlist_laws.specs.Faults.{IsSpelledOut}
 use Rattle.bn_netlist_laws.specs.declared.version.Version.{Version}
 use Rattle.bn_netlist_laws.specs.declared.version.Version.TheVariants.{One, Two}
 use Rattle.bn_net.specs.declared.net.TheConstants.{MOST_ELEMENTS}
 use Rattle.bn_netlist_laws.specs.declared.header.Header.{Header}
 use Rattle.bn_netlist_laws.proofs.EntryLemmas.{count_states, column_within, column_alike}
-use Rattle.bn_netlist_laws.proofs.LineLemmas.{AreOf, AreLeading, lead, row_leading, from_are, wires_after-more}
+use Rattle.bn_netlist_laws.proofs.LineLemmas.{AreOf, AreLeading, row_leading, from_are, wires_after-more}
 use Rattle.bn_netlist_laws.proofs.LineLemmas.{rows_left-append, length_more}
 use Rattle.bn_netlist_laws.proofs.SaidLemmas.{inner_each, inner_of, targets_leading, states-said, wires-said}
 
@@ -46,7 +44,7 @@ wire_fault-none h rows earlier from to within not_end not_left not_start free =
     let inside : nat_lt to.element h.count ≡ true = grind (arith, nat_tests) in
     rw (inside, not_end, not_left, not_start, free) refl
 
-none_is_not_some : (l : Line) (o : Option Line) → o ≡ None → o ≡ Some l → ⊥
+pub none_is_not_some : (l : Line) (o : Option Line) → o ≡ None → o ≡ Some l → ⊥
 none_is_not_some l o h k = let e : ◌≡◌ {A = Option Line} None (Some l) = sym h ∙ k in apart e
   where
     apart : ◌≡◌ {A = Option Line} None (Some l) → ⊥
@@ -87,7 +85,7 @@ pub most_small : (v : Version) → most_elements v ≤ MOST_ELEMENTS
 most_small One = omega arith
 most_small Two = omega arith
 
-element_version : (v : Version) (n q : ℕ) (xs : List (Option Line)) → IsOfVersion v (Element n q xs)
+pub element_version : (v : Version) (n q : ℕ) (xs : List (Option Line)) → IsOfVersion v (Element n q xs)
 element_version One n q xs = tt
 element_version Two n q xs = tt
 
@@ -353,8 +351,7 @@ module _ (v : Version) (s : Spelling) (a : Admits v s) where
       subst (AreFaultlessAfter (header_then head done)) (sym is) (
         next,
         rw number outputs,
-        entries_ok (done ++ x ∷ []) (suc e) rest more (omega arith) left_more are_more
-            before_more,
+        entries_ok (done ++ x ∷ []) (suc e) rest more (omega arith) left_more are_more before_more,
       )
     where
       inside : (e q : ℕ) → slice_get s.config.states e ≡ Some q → e < s.elements
@@ -370,8 +367,7 @@ module _ (v : Version) (s : Spelling) (a : Admits v s) where
       record {
         sayable = (omega arith, written.column.some, omega arith, state);
         kind = omega arith;
-        version = subst
-            (λ (u : Version). IsOfVersion u x) (sym written.second) tt;
+        version = subst (λ (u : Version). IsOfVersion u x) (sym written.second) tt;
         room = omega arith;
       }
       in
@@ -428,9 +424,6 @@ module _ (v : Version) (s : Spelling) (a : Admits v s) where
       let test : nat_lt e s.elements ≡ true = grind (arith, nat_tests) in
       ((omega arith, there.1), rw test refl)
 
-  header_version : (x : Sentence) → ((u : Version) → IsOfVersion u x) → IsOfVersion v x
-  header_version x all = all v
-
   any_version_title : (u w : Version) → IsOfVersion u (Title w)
   any_version_title One w = tt
   any_version_title Two w = tt
@@ -477,8 +470,7 @@ module _ (v : Version) (s : Spelling) (a : Admits v s) where
             sayable = (some, omega arith);
             kind = refl;
             version = any_version_count s.elements v;
-            room = omega
-                arith;
+            room = omega arith;
           },
           rw counted refl,
           (
@@ -486,8 +478,7 @@ module _ (v : Version) (s : Spelling) (a : Admits v s) where
               sayable = (omega arith, start.1);
               kind = refl;
               version = any_version_start s.start v;
-              room = omega
-                  arith;
+              room = omega arith;
             },
             rw start_there refl,
             (
@@ -495,8 +486,7 @@ module _ (v : Version) (s : Spelling) (a : Admits v s) where
                 sayable = (omega arith, end.1);
                 kind = refl;
                 version = any_version_end s.end v;
-                room = omega
-                    arith;
+                room = omega arith;
               },
               rw end_there refl,
               (
@@ -593,8 +583,7 @@ module _ (v : Version) (s : Spelling) (a : Admits v s) where
       record {
         elements = s.elements;
         wires = wires_after 6 xs;
-        config = record
-            { states = bars_in xs; place = s.config.place; steps = s.config.steps };
+        config = record { states = bars_in xs; place = s.config.place; steps = s.config.steps };
         start = s.start;
         end = s.end;
       }

@@ -1,47 +1,27 @@
 -- Whole lines of which none has a fault, and in which no column is spelled out, are those of a configuration.
-use Rattle.std.specs.Prelude.{◌≡◌, ◌≢◌, ℕ, ◌+◌, ◌-◌, ◌*◌, ◌<◌, ◌≤◌, min, ◌==◌, nat_lt, nat_le, Bool, true, false, List}
-use Rattle.std.specs.Prelude.{[], ◌∷◌, ◌++◌, length, drop, replicate, Option, Some, None, is_some, slice_get}
-use Rattle.std.specs.Prelude.{if◌then◌else◌, refl}
-use Rattle.std.proofs.Common.{zero, suc, arith, sym, ap, subst, ◌∙◌, inl, inr, ◌⊎◌}
-use Rattle.std.proofs.lemmas.Bool.{cases_lt, cases_eq, cases_Bool}
+use Rattle.std.specs.Prelude.{◌≡◌, ℕ, ◌+◌, ◌-◌, ◌<◌, ◌≤◌, min, ◌==◌, nat_lt, Bool, false, List, [], ◌∷◌, ◌++◌, length}
+use Rattle.std.specs.Prelude.{Option, Some, None, is_some, if◌then◌else◌, refl}
+use Rattle.std.proofs.Common.{zero, suc, arith, sym, ap, subst, ◌∙◌, inl, inr}
+use Rattle.std.proofs.lemmas.Bool.{cases_Bool}
 use Rattle.std.proofs.lemmas.Bool.Decides.{nat_tests, eqb_tells}
-use Rattle.std.proofs.lemmas.List.{append_assoc, append-nil, length-append, length-replicate}
-use Rattle.std.proofs.lemmas.Option.{same_Some, slice_get_within}
-use Rattle.bn_circuits.specs.Circuits.{clock, same_line, target, source, IsCircuit, IsOneToOne, IsPlace, IsInputOf}
-use Rattle.bn_circuits.specs.Circuits.{IsOutputOf, states_of}
+use Rattle.std.proofs.lemmas.List.{length-append}
+use Rattle.bn_circuits.specs.Circuits.{same_line, source}
 use Rattle.bn_circuits.specs.declared.line.Line.{Line}
 use Rattle.bn_circuits.specs.declared.line.Wire.{Wire}
 use Rattle.bn_circuits.specs.declared.place.Place.{Place}
-use Rattle.bn_circuits.specs.declared.place.Place.TheVariants.{Enter, Left}
-use Rattle.bn_net.proofs.WireListLemmas.{line_tells, target-push, source-push}
-use Rattle.bn_element.specs.Rotary.{rotary, vertical, north, east, south, west}
-use Rattle.bn_column.specs.Columns.{IsInner, down, up, under, over, top}
-use Rattle.bn_circuits.specs.Circuits.{line_at}
-use Rattle.bn_net.specs.Wirings.{AreApart, AreWiresOf}
-use Rattle.bn_net.proofs.WiringsLemmas.{no_target}
 use Rattle.bn_netlist_laws.specs.Sentences.{AreNameable}
-use Rattle.bn_netlist_laws.specs.Spelling.{Spelling, circuit_of, targets_of}
-use Rattle.bn_netlist_laws.specs.Faults.{is_left_by, wires_from, element_at}
-use Rattle.bn_netlist_laws.proofs.WireLemmas.{rotary_inputs, rotary_outputs, rotary_states, rotary_reversible}
-use Rattle.bn_netlist_laws.proofs.WireLemmas.{other_line, other_lines, Each, each_append, each_weaker, target-none}
-use Rattle.bn_netlist_laws.proofs.WireLemmas.{source-none, wire_within_none}
-use Rattle.bn_netlist_laws.specs.Columns.{IsColumnAt, HasColumnAt, inner_wires, rotary_elements}
+use Rattle.bn_netlist_laws.specs.Faults.{is_left_by}
+use Rattle.bn_netlist_laws.proofs.WireLemmas.{Each}
+use Rattle.bn_netlist_laws.specs.Columns.{inner_wires}
 use Rattle.bn_netlist_laws.specs.Sentences.{Sentence, Title, Count, Start, End, Steps, At, Element, Column, Row}
-use Rattle.bn_netlist_laws.specs.Sentences.{IsSayable, lines_text}
-use Rattle.bn_netlist_laws.specs.Spelling.{Admits, most_elements, header_of, header_then, IsWrittenAt, row_sentences}
-use Rattle.bn_netlist_laws.specs.Spelling.{AreEntries, no_entry, element_entry, column_entry, Spelled}
-use Rattle.bn_netlist_laws.specs.Faults.{Fault, header_lines, count_in, next_number, row_number, line_wires}
-use Rattle.bn_netlist_laws.specs.Faults.{wires_after, wires_in, bars_in, rows_left, row_targets, wire_fault, or_else}
+use Rattle.bn_netlist_laws.specs.Spelling.{header_then}
+use Rattle.bn_netlist_laws.specs.Faults.{Fault, header_lines, count_in, next_number, wires_after, rows_left}
 use Rattle.bn_netlist_laws.specs.Faults.{outputs_fault, some_wire, inner_fault, fault_of, kind_of, IsOfVersion, IsNext}
-use Rattle.bn_netlist_laws.specs.Faults.{AreFaultlessAfter, AreFaultless, AreWhole, IsSpelledOut}
+use Rattle.bn_netlist_laws.specs.Faults.{AreFaultlessAfter, AreFaultless}
 use Rattle.bn_netlist_laws.specs.declared.version.Version.{Version}
 use Rattle.bn_netlist_laws.specs.declared.version.Version.TheVariants.{One, Two}
 use Rattle.bn_netlist_laws.specs.declared.header.Header.{Header}
-use Rattle.bn_netlist_laws.proofs.ColumnLemmas.{inner-are, rotary_at}
-use Rattle.bn_netlist_laws.proofs.LineLemmas.{wires_after-append, wires_after-more, rows_left-append, length_more}
-use Rattle.bn_netlist_laws.proofs.SaidLemmas.{inner_each}
-use Rattle.bn_netlist_laws.proofs.AdmittedLemmas.{IsClearOf, IsPast, past_clear, wires_of_element, inner_low}
-use Rattle.bn_netlist_laws.proofs.AdmittedLemmas.{inner_high}
+use Rattle.bn_netlist_laws.proofs.LineLemmas.{rows_left-append, length_more}
 use Rattle.bn_netlist_laws.proofs.TextLemmas.{first_after}
 
 -- ---- the header
@@ -203,8 +183,7 @@ take_rows h (suc m) done (Row x y ∷ rows) left long f =
       sides = (x, y) ∷ more.sides;
       rest = more.rest;
       count = ap suc more.count;
-      are = ap
-          (λ (zs : List Sentence). Row x y ∷ zs) more.are;
+      are = ap (λ (zs : List Sentence). Row x y ∷ zs) more.are;
     }
 
 -- ---- what a line without a fault says

@@ -1,21 +1,19 @@
 -- Columns of a configuration: their number of rows is one, and it is found.
-use Rattle.std.specs.Prelude.{◌≡◌, ◌≢◌, ℕ, ◌+◌, ◌-◌, ◌<◌, ◌≤◌, ◌==◌, ◌&&◌, nat_lt, Bool, true, false, List, [], ◌∷◌}
-use Rattle.std.specs.Prelude.{◌++◌, length, replicate, Option, Some, None, slice_get, if◌then◌else◌, option_and_then}
-use Rattle.std.specs.Prelude.{refl}
+use Rattle.std.specs.Prelude.{◌≡◌, ℕ, ◌+◌, ◌-◌, ◌<◌, ◌&&◌, nat_lt, true, List, [], ◌∷◌, replicate, Option, Some, None}
+use Rattle.std.specs.Prelude.{slice_get, refl}
 use Rattle.std.proofs.Common.{zero, suc, arith, sym, ap, subst, ◌∙◌, inl, inr, ◌⊎◌}
 use Rattle.std.proofs.lemmas.Bool.{cases_lt, and_parts, and_from}
 use Rattle.std.proofs.lemmas.Bool.Decides.{nat_tests, eqb_tells}
 use Rattle.std.proofs.lemmas.List.{length-replicate}
 use Rattle.std.proofs.lemmas.Option.{same_Some, cond_some, option_and_then_some, slice_get_within}
-use Rattle.bn_circuits.specs.Circuits.{Circuit, same_line, target, source}
+use Rattle.bn_circuits.specs.Circuits.{target}
 use Rattle.bn_circuits.specs.declared.line.Line.{Line}
 use Rattle.bn_circuits.specs.declared.line.Wire.{Wire}
 use Rattle.bn_element.specs.Tables.{Table}
 use Rattle.bn_net.proofs.WireListLemmas.{line_tells}
-use Rattle.bn_element.specs.Rotary.{rotary, vertical, north, east, south, west}
-use Rattle.bn_column.specs.Columns.{IsInner, IsColumn, top}
+use Rattle.bn_element.specs.Rotary.{rotary, vertical, north, east}
+use Rattle.bn_column.specs.Columns.{IsInner, top}
 use Rattle.bn_circuits.specs.Circuits.{line_at}
-use Rattle.bn_column.specs.Nets.{wire_of}
 use Rattle.bn_net.specs.Wirings.{AreApart, AreWiresOf}
 use Rattle.bn_column.proofs.LadderLemmas.{IsLadder, no_rung, ladder_more, ladder_closed}
 use Rattle.bn_netlist_laws.specs.Columns.{IsColumnAt, HasColumnAt, rotary_elements, rungs, inner_wires, leads_to}

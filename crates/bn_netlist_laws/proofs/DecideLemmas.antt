@@ -1,13 +1,13 @@
 -- Each text spells a configuration or has a first fault: it is read line by line.
-use Rattle.std.specs.Prelude.{◌≡◌, ◌≢◌, ℕ, ◌+◌, ◌-◌, ◌<◌, ◌≤◌, min, nat_lt, nat_le, ◌==◌, Bool, true, false, List, []}
-use Rattle.std.specs.Prelude.{◌∷◌, ◌++◌, length, slice_get, Option, Some, None, is_some, option_map, if◌then◌else◌}
-use Rattle.std.specs.Prelude.{codes, decimal, slice_index, refl}
+use Rattle.std.specs.Prelude.{◌≡◌, ◌≢◌, ℕ, ◌+◌, ◌-◌, ◌<◌, ◌≤◌, nat_lt, nat_le, ◌==◌, Bool, true, false, List, [], ◌∷◌}
+use Rattle.std.specs.Prelude.{◌++◌, length, slice_get, Option, Some, None, is_some, option_map, if◌then◌else◌, codes}
+use Rattle.std.specs.Prelude.{decimal, slice_index, refl}
 use Rattle.std.proofs.Common.{zero, suc, arith, sym, ap, subst, ◌∙◌, inl, inr, ◌⊎◌}
 use Rattle.std.proofs.lemmas.Bool.{cases_lt, cases_eq}
 use Rattle.std.proofs.lemmas.Bool.Decides.{eqb_tells}
 use Rattle.std.proofs.lemmas.List.{append-nil, append_assoc, length-append}
 use Rattle.std.proofs.lemmas.List.Elements.{All-nil, All-cons}
-use Rattle.std.proofs.lemmas.Option.{option_and_then_some, cond_some, same_Some, slice_get_within}
+use Rattle.std.proofs.lemmas.Option.{option_and_then_some, same_Some, slice_get_within}
 use Rattle.bn_lists.specs.Lists.{IsLeast}
 use Rattle.bn_base.specs.Line.{IsInLine}
 use Rattle.bn_base.specs.Number.{greatest}
@@ -25,7 +25,7 @@ use Rattle.bn_netlist_laws.specs.Reading.{named_after, element_of, named, named_
 use Rattle.bn_netlist_laws.proofs.LineReadingLemmas.{word_taken-takes, number_taken-takes, bar_taken-takes}
 use Rattle.bn_netlist_laws.proofs.LineReadingLemmas.{target_taken-takes, nameable_both}
 use Rattle.bn_netlist_laws.proofs.FormLemmas.{ended-takes, number_after-takes, named_after-takes, element_of-takes}
-use Rattle.bn_netlist_laws.specs.Columns.{HasColumnAt, rotary_elements, inner_wires}
+use Rattle.bn_netlist_laws.specs.Columns.{inner_wires}
 use Rattle.bn_netlist_laws.specs.Sentences.{Sentence, Title, Count, Start, End, Steps, At, Element, Column, title_text}
 use Rattle.bn_netlist_laws.specs.Sentences.{IsSayable, sentence_text, lines_text}
 use Rattle.bn_netlist_laws.specs.Sentences as sentences
@@ -36,11 +36,10 @@ use Rattle.bn_netlist_laws.specs.Faults.{is_end_in, is_left_in, is_start_in, wir
 use Rattle.bn_netlist_laws.specs.Faults.{next_number, row_number, wire_fault, or_else, outputs_fault, some_wire}
 use Rattle.bn_netlist_laws.specs.Faults.{inner_fault, fault_of, kind_of, kind_after, IsOfVersion, IsNext}
 use Rattle.bn_netlist_laws.specs.Faults.{AreFaultlessAfter, AreFaultless, IsFaulty, BeginsWithFault, IsFirstBadLine}
-use Rattle.bn_netlist_laws.specs.Faults.{AreWhole, IsSpelledOut, IsFirstSpelledOut, IsFirstFault, TextsSpellOrFault}
-use Rattle.bn_netlist_laws.specs.Faults.{rows_left}
+use Rattle.bn_netlist_laws.specs.Faults.{AreWhole, IsSpelledOut, IsFirstFault, TextsSpellOrFault}
 use Rattle.bn_netlist_laws.specs.Saying.{column_of, sides_of, first_some, version_said, title_said, count_said}
 use Rattle.bn_netlist_laws.specs.Saying.{start_said, end_said, steps_said, place_said_by, place_said, element_sentence}
-use Rattle.bn_netlist_laws.specs.Saying.{element_said, column_said_by, column_said, entry_said, row_said, said}
+use Rattle.bn_netlist_laws.specs.Saying.{element_said, column_said, entry_said, row_said, said}
 use Rattle.bn_netlist_laws.specs.declared.element_line.ElementLine.{ElementLine}
 use Rattle.bn_netlist_laws.specs.declared.version.Version.{Version}
 use Rattle.bn_netlist_laws.specs.declared.version.Version.TheVariants.{One, Two}
@@ -48,6 +47,7 @@ use Rattle.bn_netlist_laws.proofs.ColumnLemmas.{column_or_none}
 use Rattle.bn_netlist_laws.proofs.SentenceLemmas.{said-again, sentence_text-in_line}
 use Rattle.bn_netlist_laws.proofs.TextLemmas.{lines_text-append}
 use Rattle.bn_netlist_laws.proofs.SpellsLemmas.{whole-spells}
+use Rattle.bn_netlist_laws.proofs.AdmittedLemmas.{element_version}
 
 -- ---- what a line says is written as the line
 
@@ -129,8 +129,7 @@ count_takes v line x h =
           subst (Says v 1 line) same (record {
             sayable = (above n some.1, taken.0);
             kind = refl;
-            version = any_version v
-                (Count n) (omega arith);
+            version = any_version v (Count n) (omega arith);
             written = taken.1;
           }))
     ])
@@ -142,8 +141,7 @@ start_takes v line x h =
     subst (Says v 2 line) from.2 (record {
       sayable = taken.0;
       kind = refl;
-      version = any_version v
-          (Start (named from.0)) (omega arith);
+      version = any_version v (Start (named from.0)) (omega arith);
       written = taken.1;
     })
 
@@ -154,8 +152,7 @@ end_takes v line x h =
     subst (Says v 3 line) from.2 (record {
       sayable = taken.0;
       kind = refl;
-      version = any_version v (End (named from.0))
-          (omega arith);
+      version = any_version v (End (named from.0)) (omega arith);
       written = taken.1;
     })
 
@@ -166,8 +163,7 @@ steps_takes v line x h =
     subst (Says v 4 line) from.2 (record {
       sayable = taken.0;
       kind = refl;
-      version = any_version v (Steps from.0)
-          (omega arith);
+      version = any_version v (Steps from.0) (omega arith);
       written = taken.1;
     })
 
@@ -182,8 +178,7 @@ place_takes v line x h = by_enter (named_after (codes "at ") line) refl h
         subst (Says v 5 line) same (record {
           sayable = taken.0;
           kind = refl;
-          version = any_version v
-              (At (Enter l.0 l.1)) (omega arith);
+          version = any_version v (At (Enter l.0 l.1)) (omega arith);
           written = taken.1;
         })
     by_enter None is h =
@@ -192,14 +187,9 @@ place_takes v line x h = by_enter (named_after (codes "at ") line) refl h
         subst (Says v 5 line) from.2 (record {
           sayable = taken.0;
           kind = refl;
-          version = any_version v
-              (At (Left from.0.0 from.0.1)) (omega arith);
+          version = any_version v (At (Left from.0.0 from.0.1)) (omega arith);
           written = taken.1;
         })
-
-element_version : (v : Version) (n q : ℕ) (xs : List (Option Line)) → IsOfVersion v (Element n q xs)
-element_version One n q xs = tt
-element_version Two n q xs = tt
 
 row_version : (v : Version) (x y : Option Line) → IsOfVersion v (sentences.Row x y)
 row_version One x y = tt
@@ -303,8 +293,7 @@ row_takes v line x h =
     subst (Says v 7 line) from.2 (record {
       sayable = taken.0;
       kind = refl;
-      version = row_version v
-          (named_target from.0.0) (named_target from.0.1);
+      version = row_version v (named_target from.0.0) (named_target from.0.1);
       written = taken.1;
     })
 
@@ -464,8 +453,7 @@ goes before left room = by_cut (cuts left)
     by_said line behind in_line begins None is =
         fails malformed (begins_with apart_malformed (record {
           unsaid = unsaid;
-          unfinished = λ whole. absurd
-              (omega arith);
+          unfinished = λ whole. absurd (omega arith);
         }))
       where
         unsaid : (x : Sentence) (rest : List ℕ) → IsNext before x → left ≢ sentence_text x ++ 10 ∷ rest
@@ -491,8 +479,7 @@ goes before left room = by_cut (cuts left)
         (said (version_in before) (kind_after before) line) refl
     by_cut (no_line in_line) =
         fails malformed (begins_with apart_malformed (record {
-          unsaid = λ x behind next. cut-lines-differ left
-              (sentence_text x) behind in_line;
+          unsaid = λ x behind next. cut-lines-differ left (sentence_text x) behind in_line;
           unfinished = λ whole. absurd (omega arith);
         }))
 
@@ -503,13 +490,13 @@ record HasRead (text : List ℕ) (before : List Sentence) (left : List ℕ) : Ty
   faultless : AreFaultless before
   begins : text ≡ lines_text before ++ left
 
-faultless_more : (earlier xs : List Sentence) (x : Sentence) → AreFaultlessAfter earlier xs → IsNext (earlier ++ xs) x
+pub faultless_more : (earlier xs : List Sentence) (x : Sentence) → AreFaultlessAfter earlier xs
+    → IsNext (earlier ++ xs) x
     → fault_of (earlier ++ xs) x ≡ None → AreFaultlessAfter earlier (xs ++ x ∷ [])
 faultless_more earlier [] x f next none =
     let same : earlier ++ [] ≡ earlier = append-nil earlier in (
       subst (λ (zs : List Sentence). IsNext zs x) same next,
-      subst (λ (zs : List Sentence). fault_of zs x ≡ None) same
-          none,
+      subst (λ (zs : List Sentence). fault_of zs x ≡ None) same none,
       tt,
     )
 faultless_more earlier (y ∷ xs) x f next none =
@@ -666,8 +653,7 @@ complete text before [] has whole = by_out (least_below (IsSpelledOut before) (s
     by_out (inl (m, first)) = inr (
       header_lines + m + 1,
       spelled_out,
-      record
-          { lines = before; begins = begins; whole = are; element = m; first = first; counted = refl },
+      record { lines = before; begins = begins; whole = are; element = m; first = first; counted = refl },
     )
     by_out (inr none) = inl (whole-spells text before are begins
         (λ e out. none e (let within = slice_get_within before (header_lines + e) (Element e out.state out.targets)
@@ -704,8 +690,7 @@ decide (suc fuel) text before left short has bound =
         let counted = count_in-more before x in
         let more = length-append before (x ∷ []) in
         again (before ++ x ∷ []) behind shorter (record {
-          faultless = faultless_more [] before x has.faultless next
-              none;
+          faultless = faultless_more [] before x has.faultless next none;
           begins = text_more text before x left behind has.begins begins;
         }) (omega arith)
 

@@ -1,22 +1,20 @@
 -- Each configuration has its entries, and only one list of them.
-use Rattle.std.specs.Prelude.{◌≡◌, ◌≢◌, ℕ, ◌+◌, ◌-◌, ◌<◌, ◌≤◌, List, [], ◌∷◌, ◌++◌, length, replicate, Option, Some}
-use Rattle.std.specs.Prelude.{None, slice_get, refl}
+use Rattle.std.specs.Prelude.{◌≡◌, ◌≢◌, ℕ, ◌+◌, ◌-◌, ◌<◌, ◌≤◌, List, [], ◌∷◌, ◌++◌, length, Some, slice_get, refl}
 use Rattle.std.proofs.Common.{zero, suc, arith, sym, ap, subst, ◌∙◌, inl, inr, ◌⊎◌, get_or}
-use Rattle.std.proofs.lemmas.Bool.{cases_lt, cases_eq}
-use Rattle.std.proofs.lemmas.List.{length-replicate, append_assoc}
+use Rattle.std.proofs.lemmas.Bool.{cases_eq}
+use Rattle.std.proofs.lemmas.List.{length-replicate}
 use Rattle.std.proofs.lemmas.Option.{same_Some, slice_get_within, slice_get-get_or}
-use Rattle.bn_circuits.specs.Circuits.{Circuit, target, source}
+use Rattle.bn_circuits.specs.Circuits.{target}
 use Rattle.bn_circuits.specs.declared.line.Line.{Line}
 use Rattle.bn_circuits.specs.declared.line.Wire.{Wire}
 use Rattle.bn_circuits.specs.declared.config.Config.{Config}
 use Rattle.bn_element.specs.Rotary.{rotary, vertical, north, east, south, west}
-use Rattle.bn_column.specs.Columns.{IsInner}
 use Rattle.bn_circuits.specs.Circuits.{line_at}
 use Rattle.bn_netlist_laws.specs.Spelling.{Spelling, circuit_of, targets_of, AreSame}
-use Rattle.bn_netlist_laws.specs.Columns.{IsColumnAt, HasColumnAt}
-use Rattle.bn_netlist_laws.specs.Sentences.{Sentence, Element, Column, Row, lines_text}
+use Rattle.bn_netlist_laws.specs.Columns.{IsColumnAt}
+use Rattle.bn_netlist_laws.specs.Sentences.{Sentence, Element, Column, lines_text}
 use Rattle.bn_netlist_laws.specs.Spelling.{Admits, header_of, header_then, IsWrittenAt, row_sentences, AreEntries}
-use Rattle.bn_netlist_laws.specs.Spelling.{no_entry, element_entry, column_entry, Spelled, HasText, SameHaveOneText}
+use Rattle.bn_netlist_laws.specs.Spelling.{no_entry, element_entry, column_entry, HasText, SameHaveOneText}
 use Rattle.bn_netlist_laws.specs.declared.version.Version.{Version}
 use Rattle.bn_netlist_laws.specs.declared.version.Version.TheVariants.{One, Two}
 use Rattle.bn_netlist_laws.specs.declared.header.Header.{Header}
@@ -63,8 +61,7 @@ module _ (v : Version) (s : Spelling) (a : Admits v s) where
           let rest = again (suc (e + k)) (omega arith) (omega arith) in
           let q = get_or s.config.states (e + k) 0 in (
             Column e k q ∷ (row_sentences s.wires e k ++ rest.0),
-            column_entry k q rest.0 written
-                (state_at (e + k) within) refl rest.1,
+            column_entry k q rest.0 written (state_at (e + k) within) refl rest.1,
           )
       more (inr none) below again =
           let rest = again (suc e) (omega arith) (omega arith) in
@@ -75,8 +72,7 @@ pub has-text : HasText
 has-text v s a =
     let entries = entries_from v s a s.elements 0 (omega arith) (omega arith) in (
       lines_text (header_then (header_of v s) entries.0),
-      record
-          { admitted = a; is_text = record { entries = entries.0; are = entries.1; written = refl } },
+      record { admitted = a; is_text = record { entries = entries.0; are = entries.1; written = refl } },
     )
 
 -- ---- and one list of them
@@ -119,8 +115,7 @@ module _ (v : Version) (s t : Spelling) (a : Admits v s) (b : Admits v t) (same 
   alike : (e k : ℕ) → IsWrittenAt v s e k → IsWrittenAt v t e k
   alike e k written = record {
     second = written.second;
-    column = column_alike s t e k same.elements same.targets
-        (ap (λ (c : Config). c.states) same.config) written.column;
+    column = column_alike s t e k same.elements same.targets (ap (λ (c : Config). c.states) same.config) written.column;
   }
 
   alike_back : (e k : ℕ) → IsWrittenAt v t e k → IsWrittenAt v s e k
@@ -139,8 +134,7 @@ module _ (v : Version) (s t : Spelling) (a : Admits v s) (b : Admits v t) (same 
       count_states v t b in omega arith
 
   same_state : (e q p : ℕ) → slice_get s.config.states e ≡ Some q → slice_get t.config.states e ≡ Some p → q ≡ p
-  same_state e q p here there =
-      same_Some q p (sym here ∙ ap (λ (c : Config). slice_get c.states e) same.config ∙ there)
+  same_state e q p here there = same_Some q p (sym here ∙ ap (λ (c : Config). slice_get c.states e) same.config ∙ there)
 
   entries-alike : (e : ℕ) (xs ys : List Sentence) → AreEntries v s e xs → AreEntries v t e ys → xs ≡ ys
   entries-alike e xs ys (no_entry all is) (no_entry both other) = is ∙ sym other

@@ -1,30 +1,27 @@
 -- The wires of whole lines fit one after another, and are those of a circuit.
-use Rattle.std.specs.Prelude.{◌≡◌, ◌≢◌, ℕ, ◌+◌, ◌-◌, ◌*◌, ◌<◌, ◌≤◌, min, ◌==◌, nat_lt, nat_le, Bool, true, false, List}
-use Rattle.std.specs.Prelude.{[], ◌∷◌, ◌++◌, length, drop, replicate, Option, Some, None, is_some, slice_get}
-use Rattle.std.specs.Prelude.{if◌then◌else◌, refl}
-use Rattle.std.proofs.Common.{zero, suc, arith, sym, ap, subst, ◌∙◌, inl, inr, ◌⊎◌}
-use Rattle.std.proofs.lemmas.Bool.{cases_lt, cases_eq, cases_Bool}
-use Rattle.std.proofs.lemmas.Bool.Decides.{nat_tests, eqb_tells}
-use Rattle.std.proofs.lemmas.List.{append_assoc, append-nil, length-append, length-replicate}
-use Rattle.std.proofs.lemmas.Option.{same_Some, slice_get_within}
-use Rattle.bn_circuits.specs.Circuits.{same_line, target, source, IsCircuit, IsOneToOne, IsInputOf, IsOutputOf}
+use Rattle.std.specs.Prelude.{◌≡◌, ◌≢◌, ℕ, ◌+◌, ◌-◌, ◌<◌, ◌≤◌, nat_lt, false, List, [], ◌∷◌, ◌++◌, length, Option, Some}
+use Rattle.std.specs.Prelude.{None, is_some, refl}
+use Rattle.std.proofs.Common.{suc, arith, sym, ap, subst, ◌∙◌, inl, inr}
+use Rattle.std.proofs.lemmas.Bool.{cases_Bool}
+use Rattle.std.proofs.lemmas.Bool.Decides.{nat_tests}
+use Rattle.std.proofs.lemmas.List.{append_assoc, append-nil, length-append}
+use Rattle.bn_circuits.specs.Circuits.{same_line, target, source}
 use Rattle.bn_circuits.specs.declared.line.Line.{Line}
 use Rattle.bn_circuits.specs.declared.line.Wire.{Wire}
-use Rattle.bn_net.proofs.WireListLemmas.{line_tells, target-push, source-push}
-use Rattle.bn_element.specs.Rotary.{rotary, vertical, north, east, south, west}
+use Rattle.bn_net.proofs.WireListLemmas.{line_tells}
+use Rattle.bn_element.specs.Rotary.{east}
 use Rattle.bn_column.specs.Columns.{IsInner, down, up, under, over, top}
 use Rattle.bn_circuits.specs.Circuits.{line_at}
-use Rattle.bn_net.specs.Wirings.{AreApart, AreWiresOf}
+use Rattle.bn_net.specs.Wirings.{AreApart}
 use Rattle.bn_netlist_laws.specs.Sentences.{AreNameable}
 use Rattle.bn_netlist_laws.specs.Faults.{is_left_by, wires_from}
-use Rattle.bn_netlist_laws.proofs.WireLemmas.{rotary_inputs, rotary_outputs, rotary_reversible, other_line, other_lines}
-use Rattle.bn_netlist_laws.proofs.WireLemmas.{Each, each_append, each_weaker, target-none, source-none}
+use Rattle.bn_netlist_laws.proofs.WireLemmas.{other_lines, Each, each_append, each_weaker, target-none, source-none}
 use Rattle.bn_netlist_laws.proofs.WireLemmas.{wire_within_none}
 use Rattle.bn_netlist_laws.specs.Columns.{inner_wires}
 use Rattle.bn_netlist_laws.specs.Sentences.{Sentence, Element, Column, Row}
 use Rattle.bn_netlist_laws.specs.Spelling.{header_then}
-use Rattle.bn_netlist_laws.specs.Faults.{Fault, header_lines, row_number, wires_after, row_targets, wire_fault, or_else}
-use Rattle.bn_netlist_laws.specs.Faults.{outputs_fault, fault_of, IsNext, AreFaultlessAfter}
+use Rattle.bn_netlist_laws.specs.Faults.{Fault, row_number, wires_after, row_targets, wire_fault, or_else}
+use Rattle.bn_netlist_laws.specs.Faults.{outputs_fault, IsNext, AreFaultlessAfter}
 use Rattle.bn_netlist_laws.specs.declared.header.Header.{Header}
 use Rattle.bn_netlist_laws.proofs.ColumnLemmas.{inner-are}
 use Rattle.bn_netlist_laws.proofs.LineLemmas.{wires_after-append, wires_after-more, length_more}
@@ -32,8 +29,8 @@ use Rattle.bn_netlist_laws.proofs.SaidLemmas.{inner_each}
 use Rattle.bn_netlist_laws.proofs.AdmittedLemmas.{IsClearOf, later_clear, element_clear, IsPast, further, past_clear}
 use Rattle.bn_netlist_laws.proofs.AdmittedLemmas.{wires_of_element, inner_low, inner_high}
 use Rattle.bn_netlist_laws.proofs.TextLemmas.{first_after}
-use Rattle.bn_netlist_laws.proofs.BlockLemmas.{Blocks, no_block, single, group, row_lines, IsElementLine, element_line}
-use Rattle.bn_netlist_laws.proofs.BlockLemmas.{IsColumnLine, column_line}
+use Rattle.bn_netlist_laws.proofs.BlockLemmas.{Blocks, no_block, single, group, row_lines, element_line, IsColumnLine}
+use Rattle.bn_netlist_laws.proofs.BlockLemmas.{column_line}
 
 -- the wire has no fault after the earlier ones, and its numbers are in range
 pub record Fits (h : Header) (earlier : List Wire) (w : Wire) : Type 0 where
@@ -350,7 +347,7 @@ pub record IsGroupSaid (h : Header) (done : List Sentence) (e k q : ℕ) (sides 
   pub count : length lines ≡ suc (e + k)
   pub wires : wires_after 6 lines ≡ wires_after 6 done ++ (inner_wires e k ++ row_wires e sides)
 
-length_rows : (sides : List (Option Line × Option Line)) → length (row_lines sides) ≡ length sides
+pub length_rows : (sides : List (Option Line × Option Line)) → length (row_lines sides) ≡ length sides
 length_rows [] = refl
 length_rows (p ∷ ps) = ap suc (length_rows ps)
 

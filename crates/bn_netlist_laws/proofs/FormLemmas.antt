@@ -1,22 +1,14 @@
 -- The forms of lines: what is read from a line stands in it, and what stands in it is read from it.
-use Rattle.std.specs.Prelude.{◌≡◌, ◌≢◌, ℕ, ◌<◌, ◌≤◌, ◌==◌, Bool, true, false, List, [], ◌∷◌, ◌++◌, length, slice_index}
-use Rattle.std.specs.Prelude.{Option, Some, None, if◌then◌else◌, codes, decimal, refl}
-use Rattle.std.specs.Str.Parse.{digits_value}
-use Rattle.std.proofs.Common.{zero, suc, arith, sym, ap, subst, ◌∙◌, inl, inr}
+use Rattle.std.specs.Prelude.{◌≡◌, ℕ, ◌≤◌, ◌==◌, true, false, List, [], ◌∷◌, ◌++◌, length, slice_index, Option, Some}
+use Rattle.std.specs.Prelude.{None, codes, decimal, refl}
+use Rattle.std.proofs.Common.{suc, arith, sym, ap, subst, ◌∙◌, inl, inr}
 use Rattle.std.proofs.lemmas.Bool.Decides.{eqb_tells}
-use Rattle.std.proofs.lemmas.Fmt.{digits_decimal}
 use Rattle.std.proofs.lemmas.List.{append-nil}
-use Rattle.std.proofs.lemmas.List.Elements.{All-nil, All-cons}
-use Rattle.std.proofs.lemmas.Option.{option_and_then_some, cond_some, same_Some}
-use Rattle.std.proofs.lemmas.Str.Parse.{IsNumeralModel, numerals_by_value, tells_by_index}
-use Rattle.bn_base.specs.Line.{IsInLine}
-use Rattle.bn_base.proofs.LineLemmas.{lines-agree}
-use Rattle.bn_base.specs.Number.{greatest, BeginsWithNoDigit, AreDigits}
+use Rattle.std.proofs.lemmas.Option.{option_and_then_some, cond_some}
+use Rattle.bn_base.specs.Number.{greatest, BeginsWithNoDigit}
 use Rattle.bn_circuits.specs.declared.line.Line.{Line}
-use Rattle.bn_circuits.specs.declared.place.Place.TheVariants.{Enter, Left}
-use Rattle.bn_netlist_laws.specs.Sentences.{Sentence, Title, Count, Start, End, Steps, At, Element, IsNameable}
-use Rattle.bn_netlist_laws.specs.Sentences.{AreNameable, IsSayable, line_text, targets_text, sentence_text}
-use Rattle.bn_netlist_laws.specs.Sentences.{side_letters, bar_letters}
+use Rattle.bn_netlist_laws.specs.Sentences.{Element, IsNameable, IsSayable, line_text, targets_text, sentence_text}
+use Rattle.bn_netlist_laws.specs.Sentences.{bar_letters}
 use Rattle.bn_netlist_laws.specs.Reading.{word_taken, number_taken, bar_taken, line_taken, targets_taken, ended}
 use Rattle.bn_netlist_laws.specs.Reading.{number_after, named_after, element_of, named, named_targets}
 use Rattle.bn_netlist_laws.specs.Saying.{element_sentence}

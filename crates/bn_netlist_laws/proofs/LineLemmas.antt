@@ -1,17 +1,17 @@
 -- What lines say together: their wires and the rows that are left.
-use Rattle.std.specs.Prelude.{◌≡◌, ◌≢◌, ℕ, ◌+◌, ◌-◌, ◌<◌, ◌≤◌, Bool, true, false, List, [], ◌∷◌, ◌++◌, length, drop}
-use Rattle.std.specs.Prelude.{replicate, Option, Some, None, slice_get, refl}
-use Rattle.std.proofs.Common.{zero, suc, arith, sym, ap, subst, ◌∙◌, inl, inr, ◌⊎◌}
+use Rattle.std.specs.Prelude.{◌≡◌, ◌≢◌, ℕ, ◌+◌, ◌-◌, ◌≤◌, List, [], ◌∷◌, ◌++◌, length, drop, Option, Some, None}
+use Rattle.std.specs.Prelude.{slice_get, refl}
+use Rattle.std.proofs.Common.{zero, suc, arith, sym, ap, subst, ◌∙◌, inl, inr}
 use Rattle.std.proofs.lemmas.List.{append_assoc, append-nil}
 use Rattle.std.proofs.lemmas.Option.{same_Some}
-use Rattle.bn_circuits.specs.Circuits.{target, source}
+use Rattle.bn_circuits.specs.Circuits.{target}
 use Rattle.bn_circuits.specs.declared.line.Line.{Line}
 use Rattle.bn_circuits.specs.declared.line.Wire.{Wire}
 use Rattle.bn_net.proofs.WireListLemmas.{line_tells}
-use Rattle.bn_element.specs.Rotary.{north, east, south, west}
+use Rattle.bn_element.specs.Rotary.{east, west}
 use Rattle.bn_circuits.specs.Circuits.{line_at}
 use Rattle.bn_netlist_laws.specs.Faults.{wires_from}
-use Rattle.bn_netlist_laws.proofs.WireLemmas.{Each, each_append, each_weaker}
+use Rattle.bn_netlist_laws.proofs.WireLemmas.{Each}
 use Rattle.bn_netlist_laws.specs.Sentences.{Sentence}
 use Rattle.bn_netlist_laws.specs.Faults.{rows_after, rows_left, line_wires, wires_after, row_targets}
 

@@ -42,9 +42,6 @@ word_missing (w ∷ word) (b ∷ bytes) h =
       | inr other ↦ rw other.0 refl
     ]
 
--- how passing over a word comes out
-pub ruleset words = (word_passed, word_missing)
-
 -- a word
 pub word_taken-takes : (word bytes rest : List ℕ) → word_taken word bytes ≡ Some rest → bytes ≡ word ++ rest
 unfolding word_taken
@@ -77,8 +74,7 @@ number_by-takes bytes (Ok read) n rest is h =
     let behind : drop read.1 bytes ≡ rest = ap (λ (p : ℕ × List ℕ). p.1) pair in
     let spelled : bytes ≡ decimal read.0 ++ drop read.1 bytes = taken.2 in (
       let small : read.0 ≤ greatest = taken.0 in omega arith,
-      spelled ∙ ap (λ m. decimal m ++ drop read.1 bytes) number
-          ∙ ap (λ r. decimal n ++ r) behind,
+      spelled ∙ ap (λ m. decimal m ++ drop read.1 bytes) number ∙ ap (λ r. decimal n ++ r) behind,
     )
 
 pub number_taken-takes : (bytes rest : List ℕ) (n : ℕ) → number_taken bytes ≡ Some (n, rest)
@@ -205,8 +201,7 @@ line_taken-takes bytes rest l h =
     let P : (ℕ × ℕ) × List ℕ → Type 0 = λ p. IsNameable (named p.0) × (bytes ≡ line_text (named p.0) ++ p.1) in
     subst P pair (
       (number.0, letter.0),
-      line_written element.0 side.0 bytes element.1 behind side.1 number.1 point
-          letter.1,
+      line_written element.0 side.0 bytes element.1 behind side.1 number.1 point letter.1,
     ))))
 
 point_ends : (rest : List ℕ) → BeginsWithNoDigit (46 ∷ rest)

@@ -1,15 +1,12 @@
 -- The entries of a configuration say its states and its wires, all of them and no others.
-use Rattle.std.specs.Prelude.{◌≡◌, ◌≢◌, ℕ, ◌+◌, ◌-◌, ◌<◌, ◌≤◌, List, [], ◌∷◌, ◌++◌, length, drop, replicate, Option}
-use Rattle.std.specs.Prelude.{Some, None, slice_get, refl}
-use Rattle.std.proofs.Common.{zero, suc, arith, sym, ap, subst, ◌∙◌, inl, inr, ◌⊎◌}
+use Rattle.std.specs.Prelude.{◌≡◌, ℕ, ◌+◌, ◌-◌, ◌<◌, ◌≤◌, List, [], ◌∷◌, ◌++◌, drop, replicate, Option, Some, None}
+use Rattle.std.specs.Prelude.{slice_get, refl}
+use Rattle.std.proofs.Common.{zero, suc, arith, sym, ap, subst, ◌∙◌, inl, inr}
 use Rattle.std.proofs.lemmas.Bool.{cases_lt, cases_eq}
-use Rattle.std.proofs.lemmas.List.{append_assoc, length-append}
-use Rattle.std.proofs.lemmas.Option.{same_Some, slice_get_within}
-use Rattle.bn_circuits.specs.Circuits.{target, source}
-use Rattle.bn_circuits.proofs.StepLemmas.{same_lines}
+use Rattle.bn_circuits.specs.Circuits.{target}
 use Rattle.bn_circuits.specs.declared.line.Line.{Line}
 use Rattle.bn_circuits.specs.declared.line.Wire.{Wire}
-use Rattle.bn_element.specs.Rotary.{rotary, vertical, north, east, south, west}
+use Rattle.bn_element.specs.Rotary.{vertical, north, east, south, west}
 use Rattle.bn_column.specs.Columns.{IsInner, down, up, under, over, top}
 use Rattle.bn_circuits.specs.Circuits.{line_at}
 use Rattle.bn_net.proofs.WiringsLemmas.{apart-wire}
@@ -17,15 +14,14 @@ use Rattle.bn_netlist_laws.specs.Spelling.{Spelling, circuit_of, targets_of}
 use Rattle.bn_netlist_laws.specs.Faults.{wires_from}
 use Rattle.bn_netlist_laws.proofs.WireLemmas.{Each, each_append, each_weaker, rotary_output}
 use Rattle.bn_netlist_laws.specs.Columns.{IsColumnAt, inner_wires}
-use Rattle.bn_netlist_laws.specs.Sentences.{Sentence, Element, Column, Row}
-use Rattle.bn_netlist_laws.specs.Spelling.{Admits, IsWrittenAt, row_sentences, AreEntries, no_entry, element_entry}
-use Rattle.bn_netlist_laws.specs.Spelling.{column_entry}
+use Rattle.bn_netlist_laws.specs.Sentences.{Sentence, Row}
+use Rattle.bn_netlist_laws.specs.Spelling.{Admits, row_sentences, AreEntries, no_entry, element_entry, column_entry}
 use Rattle.bn_netlist_laws.specs.Faults.{line_wires, wires_after, bars_in, row_targets, row_number}
 use Rattle.bn_netlist_laws.specs.declared.version.Version.{Version}
 use Rattle.bn_netlist_laws.proofs.ColumnLemmas.{inner-are}
-use Rattle.bn_netlist_laws.proofs.EntryLemmas.{count_states, column_within}
+use Rattle.bn_netlist_laws.proofs.EntryLemmas.{count_states}
 use Rattle.bn_netlist_laws.proofs.LineLemmas.{HasWire, has_left, has_right, AreOf, exact, AreLeading, lead, row_leading}
-use Rattle.bn_netlist_laws.proofs.LineLemmas.{from_are, from_has, each_of, drop_more, drop_all, wires_after-append}
+use Rattle.bn_netlist_laws.proofs.LineLemmas.{from_are, from_has, each_of, drop_more, drop_all}
 
 -- ---- states
 

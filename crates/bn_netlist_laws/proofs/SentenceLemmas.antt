@@ -1,36 +1,32 @@
 -- What a line says can be read from it, and only that: each line says one thing. And no line of a text holds a byte 10.
 use Rattle.std.specs.Prelude.{◌≡◌, ◌≢◌, ℕ, ◌+◌, ◌*◌, ◌<◌, ◌≤◌, ◌==◌, Bool, true, false, List, [], ◌∷◌, ◌++◌, length}
-use Rattle.std.specs.Prelude.{slice_index, Option, Some, None, if◌then◌else◌, option_map, codes, decimal, refl}
+use Rattle.std.specs.Prelude.{slice_index, Option, Some, None, if◌then◌else◌, codes, decimal, refl}
 use Rattle.std.specs.Str.Parse.{digits_value}
-use Rattle.std.proofs.Common.{zero, suc, arith, sym, ap, subst, ◌∙◌, inl, inr}
+use Rattle.std.proofs.Common.{zero, suc, arith, sym, ap, ◌∙◌, inl, inr}
 use Rattle.std.proofs.lemmas.Bool.Decides.{eqb_tells}
 use Rattle.std.proofs.lemmas.Fmt.{digits_decimal, length-decimal-le}
-use Rattle.std.proofs.lemmas.List.{append-nil, append_assoc, length-append}
+use Rattle.std.proofs.lemmas.List.{length-append}
 use Rattle.std.proofs.lemmas.List.Elements.{All-nil, All-cons}
-use Rattle.std.proofs.lemmas.Option.{option_and_then_some, cond_some, same_Some}
+use Rattle.std.proofs.lemmas.Option.{same_Some}
 use Rattle.std.proofs.lemmas.Str.Parse.{IsNumeralModel, numerals_by_value, tells_by_index}
 use Rattle.bn_base.specs.Line.{IsInLine}
 use Rattle.bn_base.proofs.LineLemmas.{lines-agree}
-use Rattle.bn_base.specs.Number.{greatest, BeginsWithNoDigit, AreDigits}
+use Rattle.bn_base.specs.Number.{greatest, AreDigits}
 use Rattle.bn_circuits.specs.declared.line.Line.{Line}
 use Rattle.bn_circuits.specs.declared.place.Place.TheVariants.{Enter, Left}
 use Rattle.bn_netlist_laws.specs.Sentences.{IsNameable, AreNameable, line_text, target_text, targets_text, side_letters}
 use Rattle.bn_netlist_laws.specs.Sentences.{bar_letters}
-use Rattle.bn_netlist_laws.specs.Reading.{word_taken, number_taken, bar_taken, line_taken, target_taken, targets_taken}
-use Rattle.bn_netlist_laws.specs.Reading.{ended, number_after, named_after, element_of, named, named_target}
-use Rattle.bn_netlist_laws.specs.Reading.{named_targets}
-use Rattle.bn_netlist_laws.proofs.LineReadingLemmas.{word_taken-takes, word_taken-again, number_taken-takes}
-use Rattle.bn_netlist_laws.proofs.LineReadingLemmas.{number_taken-again, bar_taken-takes, bar_taken-again}
-use Rattle.bn_netlist_laws.proofs.LineReadingLemmas.{target_taken-takes, target_taken-again, numbers_of, all_numbers_of}
-use Rattle.bn_netlist_laws.proofs.LineReadingLemmas.{nameable_first, nameable_rest, nameable_both}
-use Rattle.bn_netlist_laws.proofs.FormLemmas.{no_digit_ends, number_after-again, named_after-again, element_of-again}
-use Rattle.bn_netlist_laws.proofs.FormLemmas.{targets_back}
+use Rattle.bn_netlist_laws.specs.Reading.{word_taken, named_after, element_of, named_target, named_targets}
+use Rattle.bn_netlist_laws.proofs.LineReadingLemmas.{word_taken-again, number_taken-again, bar_taken-again}
+use Rattle.bn_netlist_laws.proofs.LineReadingLemmas.{target_taken-again, numbers_of, all_numbers_of, nameable_first}
+use Rattle.bn_netlist_laws.proofs.LineReadingLemmas.{nameable_rest}
+use Rattle.bn_netlist_laws.proofs.FormLemmas.{number_after-again, named_after-again, element_of-again, targets_back}
 use Rattle.bn_netlist_laws.specs.Sentences.{Sentence, Title, Count, Start, End, Steps, At, Element, Column, IsSayable}
 use Rattle.bn_netlist_laws.specs.Sentences.{title_text, sentence_text}
 use Rattle.bn_netlist_laws.specs.Sentences as sentences
 use Rattle.bn_netlist_laws.specs.Faults.{kind_of, IsOfVersion, LinesAreShort}
-use Rattle.bn_netlist_laws.specs.Saying.{column_of, sides_of, first_some, version_said, title_said, count_said_by}
-use Rattle.bn_netlist_laws.specs.Saying.{place_said_by, element_said, column_said_by, column_said, entry_said, said}
+use Rattle.bn_netlist_laws.specs.Saying.{column_of, sides_of, version_said, count_said_by, element_said, column_said_by}
+use Rattle.bn_netlist_laws.specs.Saying.{said}
 use Rattle.bn_netlist_laws.specs.declared.version.Version.{Version}
 use Rattle.bn_netlist_laws.specs.declared.version.Version.TheVariants.{One, Two}
 

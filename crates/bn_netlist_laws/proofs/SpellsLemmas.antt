@@ -1,12 +1,12 @@
 -- Whole lines without a fault, in which no column is spelled out, are the text of a configuration.
-use Rattle.std.specs.Prelude.{◌≡◌, ◌≢◌, ℕ, ◌+◌, ◌<◌, ◌≤◌, nat_lt, nat_le, Bool, true, false, List, [], ◌∷◌, ◌++◌}
-use Rattle.std.specs.Prelude.{length, replicate, Option, Some, None, slice_get, if◌then◌else◌, refl}
-use Rattle.std.proofs.Common.{zero, suc, arith, sym, ap, subst, ◌∙◌, inl, inr, ◌⊎◌}
+use Rattle.std.specs.Prelude.{◌≡◌, ◌≢◌, ℕ, ◌+◌, ◌<◌, ◌≤◌, nat_lt, nat_le, Bool, true, false, List, [], length}
+use Rattle.std.specs.Prelude.{replicate, Some, None, slice_get, if◌then◌else◌, refl}
+use Rattle.std.proofs.Common.{suc, arith, sym, ap, subst, ◌∙◌, inl, inr}
 use Rattle.std.proofs.lemmas.Bool.{cases_Bool}
 use Rattle.std.proofs.lemmas.Bool.Decides.{nat_tests}
 use Rattle.std.proofs.lemmas.List.{length-replicate}
 use Rattle.std.proofs.lemmas.Option.{slice_get_within}
-use Rattle.bn_circuits.specs.Circuits.{target, source, IsPlace, states_of}
+use Rattle.bn_circuits.specs.Circuits.{target, IsPlace, states_of}
 use Rattle.bn_circuits.specs.declared.line.Line.{Line}
 use Rattle.bn_circuits.specs.declared.line.Wire.{Wire}
 use Rattle.bn_circuits.specs.declared.place.Place.{Place}
@@ -20,13 +20,13 @@ use Rattle.bn_netlist_laws.proofs.WireLemmas.{rotary_inputs, rotary_outputs, rot
 use Rattle.bn_netlist_laws.specs.Columns.{rotary_elements}
 use Rattle.bn_netlist_laws.specs.Sentences.{Sentence, At, IsSayable, lines_text}
 use Rattle.bn_netlist_laws.specs.Spelling.{Admits, most_elements, header_then, Spelled}
-use Rattle.bn_netlist_laws.specs.Faults.{Fault, header_lines, count_in, wires_after, bars_in, AreFaultlessAfter}
-use Rattle.bn_netlist_laws.specs.Faults.{AreFaultless, AreWhole, IsSpelledOut}
+use Rattle.bn_netlist_laws.specs.Faults.{Fault, header_lines, wires_after, bars_in, AreFaultless, AreWhole}
+use Rattle.bn_netlist_laws.specs.Faults.{IsSpelledOut}
 use Rattle.bn_netlist_laws.specs.declared.version.Version.{Version}
 use Rattle.bn_netlist_laws.specs.declared.header.Header.{Header}
 use Rattle.bn_netlist_laws.proofs.BlockLemmas.{has_header, Blocks, blocks}
-use Rattle.bn_netlist_laws.proofs.FitLemmas.{Fits, AllFit, all-each, blocks_fit}
-use Rattle.bn_netlist_laws.proofs.WholeLemmas.{fit-circuit, AreStates, blocks_states, low_at, said_by, entries, IsAt}
+use Rattle.bn_netlist_laws.proofs.FitLemmas.{AllFit, all-each, blocks_fit}
+use Rattle.bn_netlist_laws.proofs.WholeLemmas.{fit-circuit, blocks_states, low_at, said_by, entries, IsAt}
 
 named-there : (e n : ℕ) (f : Fault) → (if nat_lt e n then None else Some f) ≡ None → e < n
 named-there e n f none =

@@ -1,8 +1,7 @@
 -- Laws of configuration texts of both versions: one configuration a text, no text a proper prefix of another, no text
 -- with a fault that is one of a configuration, and one first fault a text.
-use Rattle.std.specs.Prelude.{◌≡◌, ◌≢◌, ℕ, ◌+◌, ◌-◌, ◌<◌, ◌≤◌, List, [], ◌∷◌, ◌++◌, length, replicate, Option, Some}
-use Rattle.std.specs.Prelude.{None, refl}
-use Rattle.std.proofs.Common.{zero, suc, arith, sym, ap, subst, ◌∙◌, inl, inr, ◌⊎◌}
+use Rattle.std.specs.Prelude.{◌≡◌, ℕ, ◌+◌, ◌-◌, ◌<◌, ◌≤◌, List, [], ◌∷◌, ◌++◌, length, Option, Some, None, refl}
+use Rattle.std.proofs.Common.{arith, sym, ap, subst, ◌∙◌, inl, inr, ◌⊎◌}
 use Rattle.std.proofs.lemmas.Bool.Decides.{nat_tests}
 use Rattle.std.proofs.lemmas.List.{append_assoc, append-nil}
 use Rattle.std.proofs.lemmas.Option.{same_Some}
@@ -13,11 +12,9 @@ use Rattle.bn_circuits.proofs.StepLemmas.{same_config}
 use Rattle.bn_circuits.specs.declared.line.Line.{Line}
 use Rattle.bn_circuits.specs.declared.line.Wire.{Wire}
 use Rattle.bn_circuits.specs.declared.place.Place.{Place}
-use Rattle.bn_netlist_laws.specs.Spelling.{Spelling, AreSame}
-use Rattle.bn_netlist_laws.specs.Sentences.{Sentence, Title, Count, Start, End, Steps, At, Element, Column, Row}
-use Rattle.bn_netlist_laws.specs.Sentences.{sentence_text, lines_text}
-use Rattle.bn_netlist_laws.specs.Spelling.{Admits, header_of, header_then, AreEntries, Spelled, SpellingsAgree}
-use Rattle.bn_netlist_laws.specs.Spelling.{TextsEnd}
+use Rattle.bn_netlist_laws.specs.Spelling.{Spelling}
+use Rattle.bn_netlist_laws.specs.Sentences.{Sentence, Start, End, Steps, At, sentence_text, lines_text}
+use Rattle.bn_netlist_laws.specs.Spelling.{header_of, header_then, Spelled, SpellingsAgree, TextsEnd}
 use Rattle.bn_netlist_laws.specs.Faults.{Fault, malformed, too_many, no_element, out_of_order, end_wired, left_wired}
 use Rattle.bn_netlist_laws.specs.Faults.{start_fed, second_source, spelled_out, header_lines, version_in, count_in}
 use Rattle.bn_netlist_laws.specs.Faults.{bars_in, wires_after, fault_of, IsNext, AreFaultlessAfter, AreFaultless}

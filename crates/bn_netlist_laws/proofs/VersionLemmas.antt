@@ -1,7 +1,6 @@
 -- The two versions: what each admits.
-use Rattle.std.specs.Prelude.{◌≡◌, ◌≢◌, ◌↔◌, ℕ, ◌+◌, ◌<◌, ◌≤◌, List, [], ◌∷◌, ◌++◌, length, drop, replicate, Option}
-use Rattle.std.specs.Prelude.{Some, None, slice_get, refl}
-use Rattle.std.proofs.Common.{zero, suc, arith, sym, ap, subst, ◌∙◌}
+use Rattle.std.specs.Prelude.{◌≡◌, ℕ, ◌<◌, ◌≤◌, List, replicate, Option, Some, None, refl}
+use Rattle.std.proofs.Common.{arith, sym, ap, subst, ◌∙◌}
 use Rattle.bn_circuits.specs.Circuits.{target, source, IsCircuit, IsConfig, IsPlace, IsInputOf, IsOutputOf}
 use Rattle.bn_circuits.specs.declared.config.Config.{Config}
 use Rattle.bn_circuits.specs.declared.line.Line.{Line}
@@ -9,17 +8,10 @@ use Rattle.bn_circuits.specs.declared.place.Place.{Place}
 use Rattle.bn_circuits.specs.declared.place.Place.TheVariants.{Enter, Left}
 use Rattle.bn_element.specs.Rotary.{rotary}
 use Rattle.bn_netlist_laws.specs.Columns.{rotary_elements}
-use Rattle.bn_netlist_laws.specs.Spelling.{Spelling, circuit_of, targets_of, moved_to, AreSame}
-use Rattle.bn_netlist_laws.specs.Sentences.{Sentence, Title, Count, Start, End, Steps, At, Element, sentence_text}
-use Rattle.bn_netlist_laws.specs.Sentences.{lines_text}
-use Rattle.bn_netlist_laws.specs.Spelling.{Admits, most_elements, header_of, header_then, AreEntries, no_entry}
-use Rattle.bn_netlist_laws.specs.Spelling.{element_entry, column_entry, IsTextOf, Spelled, SpelledAlike, AdmissionRises}
-use Rattle.bn_netlist_laws.specs.Spelling.{SpellingsMove}
+use Rattle.bn_netlist_laws.specs.Spelling.{Spelling, circuit_of, AreSame}
+use Rattle.bn_netlist_laws.specs.Spelling.{Admits, most_elements, Spelled, SpelledAlike, AdmissionRises, SpellingsMove}
 use Rattle.bn_netlist_laws.specs.declared.version.Version.{Version}
-use Rattle.bn_netlist_laws.specs.declared.version.Version.TheVariants.{One, Two}
-use Rattle.bn_net.specs.declared.net.TheConstants.{MOST_ELEMENTS}
-use Rattle.bn_netlist_laws.proofs.LineLemmas.{drop_more, drop_all}
-use Rattle.bn_netlist_laws.proofs.EntryLemmas.{count_states, has-text, same-have-one-text}
+use Rattle.bn_netlist_laws.proofs.EntryLemmas.{has-text, same-have-one-text}
 use Rattle.bn_netlist_laws.proofs.AdmittedLemmas.{most_small}
 
 pub admission-rises : AdmissionRises

@@ -1,53 +1,38 @@
 -- Whole lines without a fault, in which no column is spelled out, spell a configuration.
-use Rattle.std.specs.Prelude.{◌≡◌, ◌≢◌, ℕ, ◌+◌, ◌-◌, ◌*◌, ◌<◌, ◌≤◌, min, ◌==◌, nat_lt, nat_le, Bool, true, false, List}
-use Rattle.std.specs.Prelude.{[], ◌∷◌, ◌++◌, length, drop, replicate, Option, Some, None, is_some, slice_get}
-use Rattle.std.specs.Prelude.{if◌then◌else◌, refl}
+use Rattle.std.specs.Prelude.{◌≡◌, ◌≢◌, ℕ, ◌+◌, ◌-◌, ◌<◌, ◌≤◌, List, [], ◌∷◌, ◌++◌, length, replicate, Option, Some}
+use Rattle.std.specs.Prelude.{None, slice_get, if◌then◌else◌, refl}
 use Rattle.std.proofs.Common.{zero, suc, arith, sym, ap, subst, ◌∙◌, inl, inr, ◌⊎◌}
-use Rattle.std.proofs.lemmas.Bool.{cases_lt, cases_eq, cases_Bool}
-use Rattle.std.proofs.lemmas.Bool.Decides.{nat_tests, eqb_tells}
 use Rattle.std.proofs.lemmas.List.{append_assoc, append-nil, length-append, length-replicate}
-use Rattle.std.proofs.lemmas.Option.{same_Some, slice_get_within}
-use Rattle.bn_circuits.specs.Circuits.{clock, same_line, target, source, IsCircuit, IsOneToOne, IsPlace, IsInputOf}
-use Rattle.bn_circuits.specs.Circuits.{IsOutputOf, states_of}
+use Rattle.std.proofs.lemmas.Option.{same_Some}
+use Rattle.bn_circuits.specs.Circuits.{same_line, target, source, IsCircuit, IsOneToOne, IsInputOf, IsOutputOf}
 use Rattle.bn_circuits.specs.declared.line.Line.{Line}
 use Rattle.bn_circuits.specs.declared.line.Wire.{Wire}
-use Rattle.bn_circuits.specs.declared.place.Place.{Place}
-use Rattle.bn_circuits.specs.declared.place.Place.TheVariants.{Enter, Left}
 use Rattle.bn_net.proofs.WireListLemmas.{line_tells, target-push, source-push}
 use Rattle.bn_element.specs.Rotary.{rotary, vertical, north, east, south, west}
 use Rattle.bn_column.specs.Columns.{IsInner, down, up, under, over, top}
 use Rattle.bn_circuits.specs.Circuits.{line_at}
 use Rattle.bn_net.proofs.WiringsLemmas.{no_target}
 use Rattle.bn_netlist_laws.specs.Spelling.{Spelling, circuit_of, targets_of}
-use Rattle.bn_netlist_laws.specs.Faults.{is_left_by, wires_from, element_at}
-use Rattle.bn_netlist_laws.proofs.WireLemmas.{rotary_inputs, rotary_outputs, rotary_states, rotary_reversible}
-use Rattle.bn_netlist_laws.proofs.WireLemmas.{other_line, Each, each_append, each_weaker, target-none, source-none}
-use Rattle.bn_netlist_laws.specs.Columns.{IsColumnAt, HasColumnAt, inner_wires, rotary_elements}
+use Rattle.bn_netlist_laws.specs.Faults.{wires_from}
+use Rattle.bn_netlist_laws.proofs.WireLemmas.{rotary_inputs, rotary_outputs, rotary_reversible, other_line, Each}
+use Rattle.bn_netlist_laws.proofs.WireLemmas.{each_append, each_weaker, target-none}
+use Rattle.bn_netlist_laws.specs.Columns.{IsColumnAt, inner_wires, rotary_elements}
 use Rattle.bn_netlist_laws.specs.Sentences.{Sentence, Title, Count, Start, End, Steps, At, Element, Column, Row}
-use Rattle.bn_netlist_laws.specs.Sentences.{IsSayable, lines_text}
-use Rattle.bn_netlist_laws.specs.Spelling.{Admits, most_elements, header_of, header_then, IsWrittenAt, row_sentences}
-use Rattle.bn_netlist_laws.specs.Spelling.{AreEntries, no_entry, element_entry, column_entry, Spelled}
-use Rattle.bn_netlist_laws.specs.Faults.{Fault, header_lines, count_in, wires_after, bars_in, row_targets}
-use Rattle.bn_netlist_laws.specs.Faults.{AreFaultlessAfter, AreFaultless, AreWhole, IsSpelledOut}
-use Rattle.bn_netlist_laws.specs.declared.version.Version.{Version}
+use Rattle.bn_netlist_laws.specs.Spelling.{header_then, row_sentences, AreEntries, no_entry, element_entry}
+use Rattle.bn_netlist_laws.specs.Spelling.{column_entry}
+use Rattle.bn_netlist_laws.specs.Faults.{header_lines, wires_after, bars_in, row_targets, AreFaultlessAfter}
+use Rattle.bn_netlist_laws.specs.Faults.{IsSpelledOut}
 use Rattle.bn_netlist_laws.specs.declared.header.Header.{Header}
 use Rattle.bn_netlist_laws.proofs.ColumnLemmas.{inner-are, rotary_at}
 use Rattle.bn_netlist_laws.proofs.LineLemmas.{wires_after-append, wires_after-more, length_more}
 use Rattle.bn_netlist_laws.proofs.SaidLemmas.{inner_each}
-use Rattle.bn_netlist_laws.proofs.AdmittedLemmas.{wires_of_element, inner_low, inner_high, IsPast}
+use Rattle.bn_netlist_laws.proofs.AdmittedLemmas.{wires_of_element, inner_low, inner_high}
 use Rattle.bn_netlist_laws.proofs.TextLemmas.{first_after}
-use Rattle.bn_netlist_laws.proofs.BlockLemmas.{has_header, Blocks, no_block, single, group, blocks, row_lines}
-use Rattle.bn_netlist_laws.proofs.BlockLemmas.{element_line, column_line}
-use Rattle.bn_netlist_laws.proofs.FitLemmas.{Fits, AllFit, all-each, blocks_fit, row_wires, group_said, group_wires}
-use Rattle.bn_netlist_laws.proofs.FitLemmas.{group_past, row_wires_past}
+use Rattle.bn_netlist_laws.proofs.BlockLemmas.{Blocks, no_block, single, group, row_lines, element_line, column_line}
+use Rattle.bn_netlist_laws.proofs.FitLemmas.{Fits, AllFit, all-each, row_wires, group_said, group_wires, length_rows}
+use Rattle.bn_netlist_laws.proofs.AdmittedLemmas.{none_is_not_some as none_some}
 
 -- ---- the wires are those of a circuit
-
-none_some : (l : Line) (o : Option Line) → o ≡ None → o ≡ Some l → ⊥
-none_some l o h k = let e : ◌≡◌ {A = Option Line} None (Some l) = sym h ∙ k in apart e
-  where
-    apart : ◌≡◌ {A = Option Line} None (Some l) → ⊥
-    apart e = cc
 
 target-leads : (ws : List Wire) (w : Wire) (from to : Line) → IsOneToOne ws → target ws w.from ≡ None
     → source ws w.to ≡ None → target (ws ++ w ∷ []) from ≡ Some to → source (ws ++ w ∷ []) to ≡ Some from
@@ -302,7 +287,7 @@ states_in-rows : (sides : List (Option Line × Option Line)) (rest : List Senten
 states_in-rows [] rest = refl
 states_in-rows (p ∷ ps) rest = states_in-rows ps rest
 
-get_behind : {X : Type 0} (xs ys : List X) (i n : ℕ) → n ≡ length xs + i → slice_get (xs ++ ys) n ≡ slice_get ys i
+pub get_behind : {X : Type 0} (xs ys : List X) (i n : ℕ) → n ≡ length xs + i → slice_get (xs ++ ys) n ≡ slice_get ys i
 get_behind [] ys i n place = let same : n ≡ i = omega arith in ap (λ (m : ℕ). slice_get ys m) same
 get_behind (x ∷ xs) ys i zero place = absurd (omega arith)
 get_behind (x ∷ xs) ys i (suc n) place = get_behind xs ys i n (omega arith)
@@ -311,10 +296,6 @@ get_replicate : (k r : ℕ) (ys : List ℕ) → r < k → slice_get (replicate k
 get_replicate zero r ys below = absurd (omega arith)
 get_replicate (suc k) zero ys below = refl
 get_replicate (suc k) (suc r) ys below = get_replicate k r ys (omega arith)
-
-length_rows : (sides : List (Option Line × Option Line)) → length (row_lines sides) ≡ length sides
-length_rows [] = refl
-length_rows (p ∷ ps) = ap suc (length_rows ps)
 
 -- each state is one of two
 abbrev pub AreLow : List ℕ → Type 0
@@ -379,8 +360,7 @@ said_by h rows =
     record {
       elements = h.count;
       wires = wires_after 6 rows;
-      config = record
-          { states = bars_in rows; place = h.place; steps = h.steps };
+      config = record { states = bars_in rows; place = h.place; steps = h.steps };
       start = h.start;
       end = h.end;
     }

@@ -1,6 +1,6 @@
 -- Wires of circuits of rotary elements: which lines are there, and what the first wires of a list say of one wire more.
-use Rattle.std.specs.Prelude.{◌≡◌, ◌≢◌, ℕ, ◌+◌, ◌*◌, ◌<◌, true, false, List, [], ◌∷◌, ◌++◌, replicate, Option, Some}
-use Rattle.std.specs.Prelude.{None, is_some, slice_get, refl}
+use Rattle.std.specs.Prelude.{◌≡◌, ◌≢◌, ℕ, ◌+◌, ◌<◌, true, false, List, [], ◌∷◌, ◌++◌, replicate, Option, Some, None}
+use Rattle.std.specs.Prelude.{is_some, slice_get, refl}
 use Rattle.std.proofs.Common.{zero, suc, arith, sym, subst, ◌∙◌, inl, inr}
 use Rattle.std.proofs.lemmas.Option.{same_Some}
 use Rattle.bn_element.specs.Tables.{Table, IsReversible}
@@ -88,10 +88,6 @@ target-none (w ∷ ws) from h = let e = other_line w.from from h.0 in rw e (targ
 pub source-none : (ws : List Wire) (to : Line) → Each (λ w. w.to ≢ to) ws → source ws to ≡ None
 source-none [] to h = refl
 source-none (w ∷ ws) to h = let e = other_line w.to to h.0 in rw e (source-none ws to h.1)
-
--- the places of output lines in the order of a text
-abbrev pub place_of : Line → ℕ
-place_of l = 4 * l.element + l.line
 
 pub wire_within_none : (o : Option Line) → is_some o ≡ false → o ≡ None
 wire_within_none None h = refl

@@ -1,8 +1,7 @@
 -- Columns of a configuration: elements one after another with a column's own wires and the bars of a column at rest.
 -- (This project's own profile.)
 use Rattle.std.specs.Prelude.{◌≡◌, ℕ, ◌+◌, ◌-◌, ◌<◌, ◌↔◌, ◌==◌, ◌&&◌, nat_lt, Bool, true, false, List, [], ◌∷◌, ◌++◌}
-use Rattle.std.specs.Prelude.{length, replicate, Option, Some, None, is_some, slice_get, if◌then◌else◌}
-use Rattle.std.specs.Prelude.{option_and_then}
+use Rattle.std.specs.Prelude.{replicate, Option, Some, None, slice_get, if◌then◌else◌, option_and_then}
 use Rattle.std.proofs.Common.{zero, suc}
 use Rattle.bn_circuits.specs.Circuits.{Circuit, same_line, target}
 use Rattle.bn_circuits.specs.declared.line.Line.{Line}

@@ -1,10 +1,9 @@
 -- What can be wrong with a line of a configuration text, and which line of a text is the first with a fault. A line is
 -- judged by what the lines before it say; only where no line has a fault is the text judged as a whole.
 use Rattle.std.specs.Prelude.{◌≡◌, ◌≢◌, ℕ, ◌+◌, ◌-◌, ◌<◌, ◌≤◌, min, nat_lt, nat_le, ◌==◌, ◌||◌, Bool, false, List, []}
-use Rattle.std.specs.Prelude.{◌∷◌, ◌++◌}
-use Rattle.std.specs.Prelude.{length, replicate, Option, Some, None, is_some, if◌then◌else◌, slice_get, ◌⊎◌}
+use Rattle.std.specs.Prelude.{◌∷◌, ◌++◌, length, replicate, Option, Some, None, is_some, if◌then◌else◌, slice_get, ◌⊎◌}
 use Rattle.std.proofs.Common.{suc}
-use Rattle.bn_circuits.specs.Circuits.{Circuit, source, same_line}
+use Rattle.bn_circuits.specs.Circuits.{source, same_line}
 use Rattle.bn_circuits.specs.declared.line.Line.{Line}
 use Rattle.bn_circuits.specs.declared.line.Wire.{Wire}
 use Rattle.bn_circuits.specs.declared.place.Place.{Place}

@@ -1,6 +1,5 @@
 -- Reading a line of a configuration text: what it says as a line of its kind; nothing where it has another form.
-use Rattle.std.specs.Prelude.{◌≡◌, ℕ, ◌==◌, List, [], ◌∷◌, Option, Some, None, option_map, if◌then◌else◌, codes}
-use Rattle.bn_circuits.specs.declared.line.Line.{Line}
+use Rattle.std.specs.Prelude.{ℕ, ◌==◌, List, Option, Some, None, option_map, if◌then◌else◌, codes}
 use Rattle.bn_circuits.specs.declared.place.Place.TheVariants.{Enter, Left}
 use Rattle.bn_netlist_laws.specs.Reading.{◌>>=◌, word_taken, number_taken, bar_taken, target_taken, ended, number_after}
 use Rattle.bn_netlist_laws.specs.Reading.{named_after, named, named_target, named_targets, element_of}

@@ -45,8 +45,7 @@ one_read x q r i j a b =
     let one = same.0 in
     let two = same.1 in (
       a.state ∙ ap (λ l. Reads x.from (symbols_read l)) one ∙ sym b.state,
-      a.line
-          ∙ ap (λ (p : ℕ × ℕ). Tape p.0 (Answer p.1)) two ∙ sym b.line,
+      a.line ∙ ap (λ (p : ℕ × ℕ). Tape p.0 (Answer p.1)) two ∙ sym b.line,
     )
 
 -- what comes before these shifts is one
@@ -60,8 +59,7 @@ one_shift n x l q r i j (a_shift b p f state line) (a_shift c s g state2 line2) 
     let same = last b c p s (sym f ∙ g) in
     let two = same.1 in (
       state ∙ ap (λ (v : ℕ × Side). Shifts n v.0) two ∙ sym state2,
-      line
-          ∙ ap (λ (v : ℕ × Side). Tape v.0 (done_line v.1)) two ∙ sym line2,
+      line ∙ ap (λ (v : ℕ × Side). Tape v.0 (done_line v.1)) two ∙ sym line2,
     )
 
 module _ (machine : Quadruples) where

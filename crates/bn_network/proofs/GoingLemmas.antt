@@ -111,8 +111,7 @@ module _ (m : Quadruples) (is : IsQuadMachine m) where
       let at = shift_at r before rest p split in
       record {
         occurs = is_shift n r here before rest p split refl;
-        line = line_at IsCommand p.0 (shift_line p.1) at.0
-            at.1 at.2 (commands (get_or m.symbols at.0 0) p.1);
+        line = line_at IsCommand p.0 (shift_line p.1) at.0 at.1 at.2 (commands (get_or m.symbols at.0 0) p.1);
       }
 
   -- a write is an end
@@ -123,8 +122,7 @@ module _ (m : Quadruples) (is : IsQuadMachine m) where
       let at = write_at n r here before rest p split in
       record {
         occurs = is_write n r here before rest p split refl;
-        line = line_at IsCommand p.0 (Write p.1) at.0 at.1
-            at.2 at.3;
+        line = line_at IsCommand p.0 (Write p.1) at.0 at.1 at.2 at.3;
       }
 
   -- a first command
@@ -141,8 +139,7 @@ module _ (m : Quadruples) (is : IsQuadMachine m) where
       let three = is.tapes in
       moved k (to_read a [] (1, 0)) e (record {
         occurs = is_open a low other none refl;
-        line = line_at IsCommand 1 Read
-            0 (omega arith) (omega arith) tt;
+        line = line_at IsCommand 1 Read 0 (omega arith) (omega arith) tt;
       })
 
   -- where these are left
@@ -179,8 +176,7 @@ module _ (m : Quadruples) (is : IsQuadMachine m) where
   sound q i k (begins isq isi entry) = record {
     occurs = is_begin isq;
     line = outside isi;
-    end = end_entry
-        (initial_of m.rules) k entry;
+    end = end_entry (initial_of m.rules) k entry;
   }
   sound q i k (reads_on n r here e entry before rest p split isq isi isk) = record {
     occurs = is_read n r here before rest p split isq;
@@ -237,8 +233,7 @@ module _ (m : Quadruples) (is : IsQuadMachine m) where
     read_step x e s = (
       Reads x.1.from (symbols_read s.0),
       Tape s.1.0 (Answer s.1.1),
-      to_reads e x.0 x.1
-          (s.0 ++ (s.1 ∷ [])) s.2,
+      to_reads e x.0 x.1 (s.0 ++ (s.1 ∷ [])) s.2,
     )
 
     -- the move at a shift

@@ -31,8 +31,7 @@ split_right [] (y ∷ b) c d e f =
       arith,
       length-map c (λ (p : ℕ × ℕ). p.0),
       length-map (b ++ d) (λ (p : ℕ × ℕ). p.0),
-      length-append b
-          d,
+      length-append b d,
     ))
 split_right (x ∷ a) [] c d e f =
     let l : length (tapes ((x ∷ a) ++ c)) ≡ length (tapes d) = ap length f in
@@ -40,8 +39,7 @@ split_right (x ∷ a) [] c d e f =
       arith,
       length-map d (λ (p : ℕ × ℕ). p.0),
       length-map (a ++ c) (λ (p : ℕ × ℕ). p.0),
-      length-append a
-          c,
+      length-append a c,
     ))
 split_right (x ∷ a) (y ∷ b) c d e f =
     let et : tapes (a ++ c) ≡ tapes (b ++ d) = cc in
@@ -54,8 +52,7 @@ split_right (x ∷ a) (y ∷ b) c d e f =
 pub same_length : (a b : List (ℕ × ℕ)) → symbols_read a ≡ symbols_read b → length a ≡ length b
 same_length a b e = let l : length (symbols_read a) ≡ length (symbols_read b) = ap length e in omega (
   arith,
-  length-map a (λ (p : ℕ
-      × ℕ). p.1),
+  length-map a (λ (p : ℕ × ℕ). p.1),
   length-map b (λ (p : ℕ × ℕ). p.1),
 )
 

@@ -58,6 +58,5 @@ tapes-same = (reads, writes)
 pub overlaps-one : OverlapsAreOne
 overlaps-one = (
   λ rs i j r s apart here there k. clash_once Domain rs i j r s apart here there k,
-  λ rs i j r s apart
-      here there k. clash_once Range rs i j r s apart here there k,
+  λ rs i j r s apart here there k. clash_once Range rs i j r s apart here there k,
 )

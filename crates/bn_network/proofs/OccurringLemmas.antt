@@ -24,8 +24,7 @@ module _ (m : Quadruples) where
     | inl here ↦ inr (λ h. h.0 here.1)
     | inr other ↦ elim (left_or_not m a) [
       | inl f ↦ inr (λ h. h.1.none f.0 f.1 f.2 f.3)
-      | inr none
-          ↦ inl (other.1, none)
+      | inr none ↦ inl (other.1, none)
     ]
   ]
 
@@ -118,8 +117,7 @@ module _ (m : Quadruples) where
         done.items,
         record {
           each = λ q h. place_of done.items q (done.each q h);
-          only = λ n q e. done.only q
-              (member_at done.items n q e);
+          only = λ n q e. done.only q (member_at done.items n q e);
           rising_keys = sorted_rises by_key keys_ordered done.items done.sorted;
         },
       )

@@ -100,8 +100,7 @@ module _ {A : Type 0} (cmp : A → A → Ordering) (order : IsTotalOrder cmp) wh
     items = x ∷ [];
     sorted = (λ y h. absurd h, tt);
     here = inl refl;
-    others = λ y h.
-        absurd h;
+    others = λ y h. absurd h;
     only = λ y h. h;
   }
   inserted x (y ∷ l) s tied = by (inserted x l s.1 (λ z h. tied z (inr h))) (cmp x y) refl
@@ -135,8 +134,7 @@ module _ {A : Type 0} (cmp : A → A → Ordering) (order : IsTotalOrder cmp) wh
         sorted = s;
         here = inl (tied y (inl refl) e);
         others = λ z h. h;
-        only = λ z
-            h. inr h;
+        only = λ z h. inr h;
       }
       by r Greater e =
           let low : cmp y x ≡ Less = order.antisymm y x ∙ ap ordering_reverse e in
@@ -171,6 +169,5 @@ module _ {A : Type 0} (cmp : A → A → Ordering) (order : IsTotalOrder cmp) wh
         items = done.items;
         sorted = done.sorted;
         each = λ x h. done.each x (all.each x h);
-        only = λ x h.
-            all.only x (done.only x h);
+        only = λ x h. all.only x (done.only x h);
       }

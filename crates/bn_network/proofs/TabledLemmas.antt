@@ -62,8 +62,7 @@ within s n k (m ∷ ms) all = let here = all m (inl refl) in (
   here.1,
   here.2,
   here.3,
-  within s n k ms
-      (λ v h. all v (inr h)),
+  within s n k ms (λ v h. all v (inr h)),
 )
 
 -- ---- the table
@@ -124,8 +123,7 @@ module _ (m : Quadruples) (names : List ControlState) where
         let same = back m u a.state b.state a.line b.line a.move a.goes
         (subst (λ k. ControlGoes m b.state b.line k) moves b.goes) in (
           place_one v.state w.state a.state b.state a.from b.from same.0,
-          sym a.enters ∙ ap (in_number m) same.1
-              ∙ b.enters,
+          sym a.enters ∙ ap (in_number m) same.1 ∙ b.enters,
         )
 
     -- the numbers of a move are in range

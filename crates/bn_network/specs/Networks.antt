@@ -19,8 +19,7 @@ use Rattle.bn_circuits.specs.Situations.{Situation, situation}
 use Rattle.bn_network.specs.Cells.{CellState, Plain, Head, IsLineOf, cell_table, line_number, state_number}
 use Rattle.bn_network.specs.Cells.{cell_line_count}
 use Rattle.bn_network.specs.Controls.{ControlState, Tape as to_tape, IsControlTable, symbol_count, in_number}
-use Rattle.bn_network.specs.Controls.{out_number}
-use Rattle.bn_network.specs.Controls.{control_lines}
+use Rattle.bn_network.specs.Controls.{out_number, control_lines}
 use Rattle.bn_circuits.specs.Circuits.{line_at}
 
 -- ---- tapes of cells

@@ -155,14 +155,12 @@ tables_only m l control (suc e) t h = two (of_two (first ++ second) third e t h)
     one (inl a) = inr (
       1,
       record { low = omega arith; high = omega arith },
-      row_only (cells_in l 1)
-          (cell_table (symbol_count m 1)) t e a,
+      row_only (cells_in l 1) (cell_table (symbol_count m 1)) t e a,
     )
     one (inr b) = inr (
       2,
       record { low = omega arith; high = omega arith },
-      row_only (cells_in l 2)
-          (cell_table (symbol_count m 2)) t b.0 b.1,
+      row_only (cells_in l 2) (cell_table (symbol_count m 2)) t b.0 b.1,
     )
 
     two : (slice_get (first ++ second) e ≡ Some t) ⊎ ((j : ℕ) × (slice_get third j ≡ Some t)) → IsCells
@@ -170,6 +168,5 @@ tables_only m l control (suc e) t h = two (of_two (first ++ second) third e t h)
     two (inr b) = inr (
       3,
       record { low = omega arith; high = omega arith },
-      row_only (cells_in l 3)
-          (cell_table (symbol_count m 3)) t b.0 b.1,
+      row_only (cells_in l 3) (cell_table (symbol_count m 3)) t b.0 b.1,
     )

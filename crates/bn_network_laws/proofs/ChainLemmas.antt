@@ -151,8 +151,7 @@ module _ (costs : CostsAreBounded) (m : Quadruples) (l : Limits) (names : List C
         record {
           waits = record {
             number = to.0;
-            is = slice_get-set_same s.states 0 to.0
-                (slice_get_within s.states 0 waits.number waits.is);
+            is = slice_get-set_same s.states 0 to.0 (slice_get_within s.states 0 waits.number waits.is);
             named = to.1;
           };
           place = refl;
@@ -248,8 +247,7 @@ module _ (costs : CostsAreBounded) (m : Quadruples) (l : Limits) (names : List C
       s,
       subst (λ i. Travels k test i (0 * (8 * elements_by m l (length names))) s s) (sym obey.1)
           (stays k test s (0 * (8 * elements_by m l (length names)))),
-      subst (λ x. Stands m l names k s e x) obey.0
-          at,
+      subst (λ x. Stands m l names k s e x) obey.0 at,
     )
     chain (x ∷ xs) e c d n s are obey at =
         let one = stop s x (lead e xs) c obey.0 obey.1 obey.3 obey.4 are.0 are.1 at in

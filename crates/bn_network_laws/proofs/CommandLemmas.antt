@@ -1,6 +1,6 @@
 -- A command to a tape of the network.
-use Rattle.std.specs.Prelude.{◌≡◌, ◌≢◌, ◌⊎◌, ℕ, ◌+◌, ◌-◌, ◌*◌, ◌<◌, ◌≤◌, pos, ◌-ℤ◌, Bool, true, false, not, List}
-use Rattle.std.specs.Prelude.{slice_get, slice_set, refl}
+use Rattle.std.specs.Prelude.{◌≡◌, ◌≢◌, ◌⊎◌, ℕ, ◌+◌, ◌-◌, ◌*◌, ◌<◌, ◌≤◌, pos, ◌-ℤ◌, Bool, not, List, slice_get}
+use Rattle.std.specs.Prelude.{slice_set, refl}
 use Rattle.std.proofs.Common.{zero, suc, arith, sym, ap, subst, ◌∙◌, inl, inr}
 use Rattle.std.proofs.Math.Nat.{mul-le-mul_right}
 use Rattle.std.proofs.lemmas.Int.{ints}
@@ -36,6 +36,7 @@ use Rattle.bn_network_laws.proofs.RowLemmas.{goes_right, goes_left, leaves_right
 use Rattle.bn_network_laws.proofs.CarriedLemmas.{tape_row}
 use Rattle.bn_network_laws.proofs.TapeShownLemmas.{symbol_in, head_place, scanned_in, written_here, written_beside}
 use Rattle.bn_network_laws.proofs.TapeShownLemmas.{shows-holds, holds-shows, left-shows, written-shows}
+use Rattle.bn_network_laws.proofs.PathLemmas.{negated as denied}
 
 -- a tape's cells are those of its window
 count_cells : (l : Limits) (t : ℕ) → IsTape t → cells_in l t ≡ left_of l t + right_of l t + 1
@@ -53,11 +54,6 @@ past_commands z DoneRight left = omega arith
 past_commands z DoneLeft left = omega arith
 past_commands z TakeLeft left = omega arith
 past_commands z _ left = absurd left
-
--- what a test denies, its negation grants
-denied : (b : Bool) → b ≡ false → not b ≡ true
-denied true h = absurd (cc)
-denied false h = refl
 
 module _ (bounded : CostsAreBounded) (m : Quadruples) (l : Limits) (names : List ControlState) (k : Circuit)
     (test : Situation
@@ -322,8 +318,7 @@ module _ (bounded : CostsAreBounded) (m : Quadruples) (l : Limits) (names : List
 pub commands-walk : CostsAreBounded → Commands
 commands-walk bounded m l names k test t s tape network is_tape calm shows = (
   does bounded m l names k test t s tape network is_tape calm shows,
-  λ to beyond place.
-      (parts bounded m l names k test t s tape network is_tape calm shows to beyond place).parted,
+  λ to beyond place. (parts bounded m l names k test t s tape network is_tape calm shows to beyond place).parted,
 )
 
 -- and how far it goes until it leaves

@@ -165,8 +165,7 @@ module _ (m : Quadruples) (l : Limits) (n : ℕ) (r : Rule ℕ) (c : Configurati
       state = c.state;
       one = shift_is r.one c.one is i;
       two = read_by r.two c.two;
-      three = read_by
-          r.three c.three;
+      three = read_by r.three c.three;
     };
   }
 
@@ -191,8 +190,7 @@ module _ (m : Quadruples) (l : Limits) (n : ℕ) (r : Rule ℕ) (c : Configurati
         gone = λ i. record {
           state = c.state;
           one = shift_by r.one (read_by r.one c.one);
-          two = shift_is r.two c.two is
-              i;
+          two = shift_is r.two c.two is i;
           three = read_by r.three c.three;
         };
       }
@@ -220,8 +218,7 @@ module _ (m : Quadruples) (l : Limits) (n : ℕ) (r : Rule ℕ) (c : Configurati
         gone = λ i. record {
           state = c.state;
           one = shift_by r.one (read_by r.one c.one);
-          two = shift_by r.two
-              (read_by r.two c.two);
+          two = shift_by r.two (read_by r.two c.two);
           three = shift_is r.three c.three is i;
         };
       }

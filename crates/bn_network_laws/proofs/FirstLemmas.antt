@@ -66,13 +66,13 @@ begin_first m names numbering = by_number ((numbering.each Begin (is_begin refl)
 -- ---- lists of states
 
 -- an element of the first part of a list
-in_front : {X : Type 0} (xs ys : List X) (j : ℕ) (x : X) → slice_get xs j ≡ Some x → slice_get (xs ++ ys) j ≡ Some x
+pub in_front : {X : Type 0} (xs ys : List X) (j : ℕ) (x : X) → slice_get xs j ≡ Some x → slice_get (xs ++ ys) j ≡ Some x
 in_front [] ys j x e = absurd (cc)
 in_front (a ∷ xs) ys zero x e = e
 in_front (a ∷ xs) ys (suc j) x e = in_front xs ys j x e
 
 -- an element of the second part
-behind : {X : Type 0} (xs ys : List X) (j n : ℕ) (x : X) → n ≡ length xs + j → slice_get ys j ≡ Some x
+pub behind : {X : Type 0} (xs ys : List X) (j n : ℕ) (x : X) → n ≡ length xs + j → slice_get ys j ≡ Some x
     → slice_get (xs ++ ys) n ≡ Some x
 behind [] ys j n x sum e = let same : j ≡ n = omega arith in subst (λ i. slice_get ys i ≡ Some x) same e
 behind (a ∷ xs) ys j zero x sum e = absurd (omega arith)

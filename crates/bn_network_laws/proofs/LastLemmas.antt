@@ -171,8 +171,7 @@ module _ (costs : CostsAreBounded) (commands : Commands) (has : StatesHaveEntrie
         stays k test s (48 * elements_by m l (length names)),
         (let one = one_cost k s in let none = left_cost k s 0 0 gone in omega arith),
         left_ends k s 0 0 gone,
-        by_end
-            gone waits now.shows,
+        by_end gone waits now.shows,
         inl refl,
       )
 
@@ -196,8 +195,7 @@ module _ (costs : CostsAreBounded) (commands : Commands) (has : StatesHaveEntrie
         let still : IsControlAt names done.last.states (Reads c.state []) =
         record {
           number = waits.number;
-          is = done.others 0 (inl (after_control l t is))
-              ∙ waits.is;
+          is = done.others 0 (inl (after_control l t is)) ∙ waits.is;
           named = waits.named;
         } in
         let none : IsAtEnd k done.last = stuck has m l names k machine uniform net c t stop done.last still done.place
@@ -274,16 +272,14 @@ module _ (costs : CostsAreBounded) (commands : Commands) (has : StatesHaveEntrie
   loose_ends t side.Left is x here d step shows = (
     left_ends k x _ _ here,
     by_left t is here d step shows,
-    left_calm m l
-        names k net test tells x _ _ (after_control l t is) here,
+    left_calm m l names k net test tells x _ _ (after_control l t is) here,
     left_cost k x _ _ here,
   )
   loose_ends t side.Right is x here d step shows = (
     left_ends k x _ _ here,
     by_right t is here d step shows,
     (let low = after_control l t is in left_calm m l names k net test tells x _ _ (omega arith) here),
-    left_cost k x _
-        _ here,
+    left_cost k x _ _ here,
   )
 
   -- a quadruple whose shift leaves

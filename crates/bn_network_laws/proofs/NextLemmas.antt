@@ -113,8 +113,7 @@ module _ (costs : CostsAreBounded) (commands : Commands) (has : StatesHaveEntrie
       } in
       let three : Applies m l n r c 3 r.three = record {
         admits = applies.three;
-        fits = fits_of l 3 r.three c.three
-            heads.2;
+        fits = fits_of l 3 r.three c.three heads.2;
         may = may_of m 3 r.three c.three deeds.2;
       } in
       let obey = obey_all m l n r c one two three in
@@ -126,8 +125,7 @@ module _ (costs : CostsAreBounded) (commands : Commands) (has : StatesHaveEntrie
         entry = e.1;
         waits = come.2.waits;
         place = come.2.place;
-        shows = after_shown m l n r c
-            come.0.states come.2.shows;
+        shows = after_shown m l n r c come.0.states come.2.shows;
       } in
       let there : IsMomentOf m l names k come.0 d = subst (λ (x : Configuration ℕ). IsMomentOf m l names k come.0 x)
       (sym by.gives) moment in (
@@ -135,12 +133,10 @@ module _ (costs : CostsAreBounded) (commands : Commands) (has : StatesHaveEntrie
         some_moves m uniform n r stands l c,
         record {
           path = come.1.path;
-          cost = few (length (stops_of n r))
-              (elements_by m l (length names)) come.1.cost (six_stops n r);
+          cost = few (length (stops_of n r)) (elements_by m l (length names)) come.1.cost (six_stops n r);
         },
         there,
-        told m l names k test net
-            (has m machine uniform) tells come.0 d there,
+        told m l names k test net (has m machine uniform) tells come.0 d there,
       )
     where
       few : (x y : ℕ) {z : ℕ} → z ≤ x * (8 * y) → x ≤ 6 → z ≤ 48 * y

@@ -14,8 +14,7 @@ pub table_goes : (z : ℕ) (q r : CellState) (l o : CellLine) → IsStateOf z q 
     → (cell_table z).go (state_number z q) (line_number z l) ≡ Some (state_number z r, line_number z o)
 table_goes z q r l o state line move = rw (
   lt-ltb (state_number z q) (2 * z) (state_within z q state),
-  lt-ltb
-      (line_number z l) (cell_line_count z) (line_within z l line),
+  lt-ltb (line_number z l) (cell_line_count z) (line_within z l line),
   states z q state,
   lines z l line,
   move,

@@ -81,8 +81,7 @@ module _ (m : Quadruples) (l : Limits) where
     2 * head_of l t (tape_of c t) + 1,
     j,
     is,
-    does_read refl (ap Answer (sym admits)) refl
-        refl,
+    does_read refl (ap Answer (sym admits)) refl refl,
     omega arith,
     rest (before ++ ((t, read) ∷ [])),
   )
@@ -98,8 +97,7 @@ module _ (m : Quadruples) (l : Limits) where
       unmoved (shift_stops n (shifts (suc t) ds) after) c f t j (0 + j) (omega arith) rest
   obey_shift n after (Move way.Left) ds t c f j is fits rest = (
     shift (tape_of c t) way.Left,
-    2 * head_of l t (tape_of c t)
-        + 1,
+    2 * head_of l t (tape_of c t) + 1,
     j,
     is,
     does_left fits refl refl refl refl,
@@ -110,8 +108,7 @@ module _ (m : Quadruples) (l : Limits) where
       unmoved (shift_stops n (shifts (suc t) ds) after) c f t j (0 + j) (omega arith) rest
   obey_shift n after (Move way.Right) ds t c f j is fits rest = (
     shift (tape_of c t) way.Right,
-    2 * head_of l t (tape_of c t)
-        + 3,
+    2 * head_of l t (tape_of c t) + 3,
     j,
     is,
     does_right fits refl refl refl refl,
@@ -126,8 +123,7 @@ module _ (m : Quadruples) (l : Limits) where
       → AllDo m l (write_stops a (write_at t d ++ ws)) c f (read_moves (head_of l t (tape_of c t)) d + j)
   obey_write a (Rewrite read written) ws t c f j is may rest = (
     write (tape_of c t) written,
-    2 * head_of l t (tape_of c t)
-        + 1,
+    2 * head_of l t (tape_of c t) + 1,
     j,
     is,
     does_write written may.0 may.1 refl refl refl refl,
@@ -169,8 +165,7 @@ module _ (m : Quadruples) (l : Limits) (n : ℕ) (r : Rule ℕ) where
     state = c.state;
     one = read_by r.one c.one;
     two = read_by r.two c.two;
-    three = read_by
-        r.three c.three;
+    three = read_by r.three c.three;
   }
 
   -- after all shifts
@@ -178,8 +173,7 @@ module _ (m : Quadruples) (l : Limits) (n : ℕ) (r : Rule ℕ) where
   after_shifts c = record {
     state = c.state;
     one = shift_by r.one (read_by r.one c.one);
-    two = shift_by r.two
-        (read_by r.two c.two);
+    two = shift_by r.two (read_by r.two c.two);
     three = shift_by r.three (read_by r.three c.three);
   }
 
@@ -188,10 +182,8 @@ module _ (m : Quadruples) (l : Limits) (n : ℕ) (r : Rule ℕ) where
   after_writes c = record {
     state = c.state;
     one = write_by r.one (shift_by r.one (read_by r.one c.one));
-    two = write_by
-        r.two (shift_by r.two (read_by r.two c.two));
-    three = write_by r.three
-        (shift_by r.three (read_by r.three c.three));
+    two = write_by r.two (shift_by r.two (read_by r.two c.two));
+    three = write_by r.three (shift_by r.three (read_by r.three c.three));
   }
 
   -- moves of all reads

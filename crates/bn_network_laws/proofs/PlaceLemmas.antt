@@ -98,7 +98,7 @@ never_both : (e i f j : ℕ) → Left e i ≡ Left f j → e ≡ f
 never_both e i f j h = cc
 
 -- the lines of tapes come after the one to the outside
-some_lines : (zs : List ℕ) (t : ℕ) → 0 < lines_before zs t
+pub some_lines : (zs : List ℕ) (t : ℕ) → 0 < lines_before zs t
 some_lines zs zero = omega arith
 some_lines [] (suc t) = omega arith
 some_lines (z ∷ zs) (suc t) = let more = some_lines zs t in omega arith
@@ -149,8 +149,7 @@ module _ (m : Quadruples) (l : Limits) (names : List ControlState) (k : Circuit)
         tape = t;
         number = line_number (symbol_count m t) c;
         is = is;
-        small = command_number (symbol_count m t) c
-            command line;
+        small = command_number (symbol_count m t) c command line;
         place = ap (λ (x : Line). Enter x.element x.line) there;
       }
   by_wire o to (replies t c is reply line from there) = absurd
@@ -208,8 +207,7 @@ module _ (m : Quadruples) (l : Limits) (names : List ControlState) (k : Circuit)
     -- nor in a tape's cells, but at the first one's commands
     pub cells_calm : (t : ℕ) → IsTape t → IsCalm m l t test
     cells_calm t is = record {
-      calm = λ x p i lt past here. tells.none x
-          (λ a now. none x p i lt past here (moment_leads x a now));
+      calm = λ x p i lt past here. tells.none x (λ a now. none x p i lt past here (moment_leads x a now));
     }
       where
         none : (x : Situation) (p i : ℕ) → p < cells_in l t → (0 < p) ⊎ (symbol_count m t + 2 < i)

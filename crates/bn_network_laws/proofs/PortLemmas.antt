@@ -14,7 +14,7 @@ use Rattle.bn_network.specs.Networks.{rightward, leftward, cells_in, first_cell}
 use Rattle.bn_circuits.specs.Circuits.{line_at}
 use Rattle.bn_cell.specs.Reversible.{lines}
 use Rattle.bn_network.proofs.LineLemmas as control
-use Rattle.bn_network.proofs.LineLemmas.{IsLine, tape as on_tape, IsInLine, IsOutLine, in_one, out_one, in_low, out_low}
+use Rattle.bn_network.proofs.LineLemmas.{tape as on_tape, IsInLine, IsOutLine, in_one, out_one, in_low, out_low}
 use Rattle.bn_network_laws.proofs.ListedWireLemmas.{IsBothWays}
 use Rattle.bn_network_laws.proofs.CellRowLemmas.{cells_some, cells_later, place_one, by_tape}
 
@@ -140,18 +140,15 @@ module _ (m : Quadruples) (l : Limits) where
     AtControl t c,
     record { tape = tape; kind = kind; line = line },
     f,
-    g
-        ∙ ap (λ e. line_at e (line_number (symbol_count m t) c)) (at_first t),
+    g ∙ ap (λ e. line_at e (line_number (symbol_count m t) c)) (at_first t),
   )
   leaving from to (replies t c tape kind line f g) =
       let side = reply_is c kind in
       let ends : to ≡ in_line (moved false t 0 c) = g in (
         AtCell t 0 c,
         record { tape = tape; place = cells_some l t tape; line = line },
-        f
-            ∙ ap (λ e. line_at e (line_number (symbol_count m t) c)) (at_first t),
-        subst
-            (λ b. to ≡ in_line (moved b t 0 c)) (sym side) ends,
+        f ∙ ap (λ e. line_at e (line_number (symbol_count m t) c)) (at_first t),
+        subst (λ b. to ≡ in_line (moved b t 0 c)) (sym side) ends,
       )
   leaving from to (rightward t p c tape low kind line f g) =
       let side = right_is c kind in
@@ -161,8 +158,7 @@ module _ (m : Quadruples) (l : Limits) where
         AtCell t p c,
         record { tape = tape; place = omega arith; line = line },
         f,
-        subst
-            (λ b. to ≡ in_line (moved b t p c)) (sym side) ends,
+        subst (λ b. to ≡ in_line (moved b t p c)) (sym side) ends,
       )
   leaving from to (leftward t p c tape low kind line f g) =
       let side = left_is c kind in
@@ -170,10 +166,8 @@ module _ (m : Quadruples) (l : Limits) where
       let ends : to ≡ in_line (moved false t (suc p) c) = g in (
         AtCell t (suc p) c,
         record { tape = tape; place = omega arith; line = line },
-        f
-            ∙ ap (λ e. line_at (first_cell l t + e) (line_number (symbol_count m t) c)) next,
-        subst
-            (λ b. to ≡ in_line (moved b t (suc p) c)) (sym side) ends,
+        f ∙ ap (λ e. line_at (first_cell l t + e) (line_number (symbol_count m t) c)) next,
+        subst (λ b. to ≡ in_line (moved b t (suc p) c)) (sym side) ends,
       )
 
   -- a wire comes to an end, from where the end's wire comes
@@ -184,17 +178,14 @@ module _ (m : Quadruples) (l : Limits) where
       let ends : from ≡ out_line (moved (not true) t 0 c) = f in (
         AtCell t 0 c,
         record { tape = tape; place = cells_some l t tape; line = line },
-        g
-            ∙ ap (λ e. line_at e (line_number (symbol_count m t) c)) (at_first t),
-        subst
-            (λ b. from ≡ out_line (moved (not b) t 0 c)) (sym side) ends,
+        g ∙ ap (λ e. line_at e (line_number (symbol_count m t) c)) (at_first t),
+        subst (λ b. from ≡ out_line (moved (not b) t 0 c)) (sym side) ends,
       )
   coming from to (replies t c tape kind line f g) = (
     AtControl t c,
     record { tape = tape; kind = kind; line = line },
     g,
-    f
-        ∙ ap (λ e. line_at e (line_number (symbol_count m t) c)) (at_first t),
+    f ∙ ap (λ e. line_at e (line_number (symbol_count m t) c)) (at_first t),
   )
   coming from to (rightward t p c tape low kind line f g) =
       let side = right_is c kind in
@@ -202,10 +193,8 @@ module _ (m : Quadruples) (l : Limits) where
       let ends : from ≡ out_line (moved (not true) t (suc p) c) = f in (
         AtCell t (suc p) c,
         record { tape = tape; place = omega arith; line = line },
-        g
-            ∙ ap (λ e. line_at (first_cell l t + e) (line_number (symbol_count m t) c)) next,
-        subst
-            (λ b. from ≡ out_line (moved (not b) t (suc p) c)) (sym side) ends,
+        g ∙ ap (λ e. line_at (first_cell l t + e) (line_number (symbol_count m t) c)) next,
+        subst (λ b. from ≡ out_line (moved (not b) t (suc p) c)) (sym side) ends,
       )
   coming from to (leftward t p c tape low kind line f g) =
       let side = left_is c kind in
@@ -215,8 +204,7 @@ module _ (m : Quadruples) (l : Limits) where
         AtCell t p c,
         record { tape = tape; place = omega arith; line = line },
         g,
-        subst
-            (λ b. from ≡ out_line (moved (not b) t p c)) (sym side) ends,
+        subst (λ b. from ≡ out_line (moved (not b) t p c)) (sym side) ends,
       )
 
   -- ends at cells with one line are one

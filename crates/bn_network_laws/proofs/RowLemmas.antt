@@ -174,8 +174,7 @@ module _ (bounded : CostsAreBounded) (k : Circuit) (test : Situation → Bool) (
         (across h 0 states c symbols (omega (arith, holds.head)) right line passes
         (λ p low high. (
           holds.small p (omega (arith, holds.head)),
-          holds.plain p (omega (arith, holds.head))
-              (λ e. omega arith),
+          holds.plain p (omega (arith, holds.head)) (λ e. omega arith),
         ))) in
         let two = moves states h (Head (symbols h)) r c o holds.head (holds.small h holds.head) next line line2
         holds.headed move in

@@ -176,8 +176,7 @@ module _ (costs : CostsAreBounded) (commands : Commands) (has : StatesHaveEntrie
       let waits : IsControlAt names done.last.states y.state =
       record {
         number = come.2.waits.number;
-        is = done.others 0 (inl (after_control l t stop.tape))
-            ∙ come.2.waits.is;
+        is = done.others 0 (inl (after_control l t stop.tape)) ∙ come.2.waits.is;
         named = come.2.waits.named;
       } in
       let still : IsControlAt names done.last.states (Reads c.state (symbols_before r t)) =

@@ -12,7 +12,7 @@ use Rattle.bn_net.specs.Order.{ComesBefore, AreInOrder}
 use Rattle.bn_net.proofs.OrderLemmas.{in_order-same}
 use Rattle.bn_net.specs.RotaryNets.{rotary_circuit, IsNetOf}
 use Rattle.bn_net.specs.Wirings.{AreWiresOf, AreFitting}
-use Rattle.bn_net.proofs.WiringsLemmas.{IsWire, more_wire, same_wires, no_wires, apart-wire}
+use Rattle.bn_net.proofs.WiringsLemmas.{IsWire, more_wire, same_wires, apart-wire}
 use Rattle.bn_packed.specs.Ends.{rotaries}
 use Rattle.bn_packed.proofs.EndLemmas.{rotaries_all, output_below, input_below}
 use Rattle.bn_packed.specs.CopiedWires.{IsTargetBefore}
@@ -35,14 +35,6 @@ not_before_itself e l (inl low) = omega arith
 not_before_itself e l (inr h) = let few = h.1 in omega arith
 
 module _ (net : Parts Rotary) (is : IsCircuit (rotary_circuit net)) where
-  pub none_told : AreWiresOf (IsTargetBefore net.wires 0 0) []
-  none_told =
-      no_wires (IsTargetBefore net.wires 0 0)
-      (λ from to h. elim h.before [
-        | inl low ↦ (omega arith)
-        | inr same ↦ (let few = same.1 in omega arith)
-      ])
-
   -- after a line that no wire leaves
   pub told_none : (e l : ℕ) (ws : List Wire) → target net.wires (line_at e l) ≡ None
       → AreWiresOf (IsTargetBefore net.wires e l) ws → AreWiresOf (IsTargetBefore net.wires e (l + 1)) ws
@@ -110,8 +102,7 @@ module _ (net : Parts Rotary) (is : IsCircuit (rotary_circuit net)) where
         ];
       })
     where
-      near : (from to : Line) → target net.wires from ≡ Some to → from.element < e + 1
-          → ComesBefore from (line_at e l)
+      near : (from to : Line) → target net.wires from ≡ Some to → from.element < e + 1 → ComesBefore from (line_at e l)
       near from to leads low =
           let line = (output_below net.elements from (is.wired from to leads).0).line in
           elim (cases_lt from.element e) [

@@ -51,8 +51,7 @@ set_ends : (f g : Line → Option Line) (k : ℕ) (here to : Line) (before after
 set_ends f g k here to before after below says are same is = record {
   elements = same ∙ are.elements;
   ends = record {
-    count = ap length is ∙ set_length before.ends (4 * here.element + here.line) (Some to)
-        ∙ are.ends.count;
+    count = ap length is ∙ set_length before.ends (4 * here.element + here.line) (Some to) ∙ are.ends.count;
     each = each;
   };
 }

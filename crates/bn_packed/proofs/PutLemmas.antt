@@ -1,11 +1,10 @@
 -- A bar that is given a state.
-use Rattle.std.specs.Prelude.{◌≡◌, ◌≢◌, ℕ, ◌-◌, ◌<◌, ◌≤◌, List, [], ◌∷◌, length, Some, slice_get, slice_set, refl}
+use Rattle.std.specs.Prelude.{◌≡◌, ◌≢◌, ℕ, ◌-◌, ◌<◌, List, [], ◌∷◌, length, Some, slice_get, slice_set, refl}
 use Rattle.std.proofs.Common.{zero, suc, arith, sym, ap, subst, ◌∙◌}
 use Rattle.bn_element.specs.declared.rotary.Rotary.{Rotary}
-use Rattle.bn_circuits.specs.Circuits.{IsCircuit, IsConfig, IsOutputOf, states_of, clock, place_after}
+use Rattle.bn_circuits.specs.Circuits.{IsConfig, states_of}
 use Rattle.bn_circuits.specs.declared.config.Config.{Config}
-use Rattle.bn_circuits.specs.declared.line.Line.{Line}
-use Rattle.bn_circuits.proofs.StepLemmas.{place_after-IsPlace, slice_get-set_same, slice_get-set_other}
+use Rattle.bn_circuits.proofs.StepLemmas.{slice_get-set_same, slice_get-set_other}
 use Rattle.std.proofs.lemmas.List.{length-set}
 use Rattle.std.proofs.lemmas.Bool.Decides.{eqb_tells}
 use Rattle.std.proofs.Common.{inl, inr}
@@ -63,15 +62,3 @@ pub put-IsPacked : (net : Parts Rotary) (c : Config) (e state : ℕ) → IsPacke
     → IsPacked net (config_at (slice_set c.states e state) c.place c.steps)
 put-IsPacked net c e state kept low within =
     record { circuit = kept.circuit; good = put-IsConfig net c e state kept.good low within }
-
--- so is a configuration one whose signal has come out by an output line, within the clock
-pub sent-IsConfig : (net : Parts Rotary) (c : Config) (from : Line) (steps : ℕ) → IsCircuit (rotary_circuit net)
-    → IsConfig (rotary_circuit net) c
-    → IsOutputOf (rotary_circuit net).tables from → steps ≤ clock
-    → IsConfig (rotary_circuit net) (config_at c.states (place_after net.wires from) steps)
-sent-IsConfig net c from steps circuit good out room = record {
-  count = good.count;
-  range = good.range;
-  place = place_after-IsPlace (rotary_circuit net) circuit from out;
-  in_time = room;
-}

@@ -49,8 +49,7 @@ ways : (a b : ℕ) → (a ≡ b) ⊎ (a ≡ b → ⊥)
 ways a b = elim (three a b) [
   | inl less ↦ inr (λ is. omega arith)
   | inr (inl is) ↦ inl is
-  | inr (inr more)
-      ↦ inr (λ is. omega arith)
+  | inr (inr more) ↦ inr (λ is. omega arith)
 ]
   where
     three : (a b : ℕ) → (a < b) ⊎ ((a ≡ b) ⊎ (b < a))

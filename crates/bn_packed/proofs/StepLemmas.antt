@@ -54,8 +54,7 @@ entering_below net c e i config at_place =
     let place : IsPlace (rotary_circuit net) (Enter e i) = subst (IsPlace (rotary_circuit net)) at_place
     config.place in (
       enter-within (rotary_circuit net) c e i config at_place,
-      (input_below net.elements
-          (record { element = e; line = i }) place).line,
+      (input_below net.elements (record { element = e; line = i }) place).line,
     )
 
 pub leaving_below : (net : Parts Rotary) (c : Config) (from : Line) → IsConfig (rotary_circuit net) c

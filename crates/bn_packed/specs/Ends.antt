@@ -1,9 +1,8 @@
 -- How a packed netlist keeps its wires: for each input line the one to which the signal comes next where it crosses the
 -- element straight, and the one from which it came so. So an output line goes by the number of the input line across
 -- the element. They are kept by the lines' numbers; the lists of ends here have them element by element.
-use Rattle.std.specs.Prelude.{◌≡◌, ℕ, ◌+◌, ◌*◌, ◌/◌, ◌%◌, ◌^◌, ◌<◌, ◌==◌, nat_lt, ◌↔◌, if◌then◌else◌}
-use Rattle.std.specs.Prelude.{List, [], ◌∷◌, length, map, replicate, Option, Some, None, slice_get, option_and_then}
-use Rattle.std.specs.Prelude.{bit_xor}
+use Rattle.std.specs.Prelude.{◌≡◌, ℕ, ◌+◌, ◌*◌, ◌/◌, ◌%◌, ◌^◌, ◌<◌, ◌==◌, nat_lt, ◌↔◌, if◌then◌else◌, List, [], ◌∷◌}
+use Rattle.std.specs.Prelude.{length, map, replicate, Option, Some, None, slice_get, option_and_then, bit_xor}
 use Rattle.std.specs.Option.{option_map}
 use Rattle.std.specs.List.{range_with_len}
 use Rattle.bn_circuits.specs.Circuits.{target, source}

@@ -134,7 +134,7 @@ impl Packed {
 
     /// The state of an element's bar, `HORIZONTAL` or `VERTICAL`.
     pub fn bar(&self, element: u32) -> u32
-        requires { element < length self.now.net.elements }
+        requires { element < length self.now.config.states }
         ensures bar { slice_get self.now.config.states element ≡ Some result }
         ensures range { result < 2 }
     {

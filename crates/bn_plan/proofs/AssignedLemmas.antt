@@ -60,8 +60,7 @@ first_free_least : (earlier : List Tracked) (w : Wire) (fuel n : ℕ) → 0 < n 
     → TakesLeast earlier (record { from = w.from; to = w.to; track = first_free earlier w fuel n })
 first_free_least earlier w zero n some far before = record {
   counted = some;
-  free = free_beyond earlier n w
-      (omega (arith, far));
+  free = free_beyond earlier n w (omega (arith, far));
   least = before;
 }
 first_free_least earlier w (suc fuel) n some far before = elim (free_tells earlier n w) [

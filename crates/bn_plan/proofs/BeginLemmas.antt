@@ -1,10 +1,10 @@
 -- A wire that begins takes the least track; and what is kept at the first and behind the last position.
-use Rattle.std.specs.Prelude.{◌≡◌, ◌≢◌, ◌↔◌, ◌⊎◌, ℕ, ◌+◌, ◌<◌, ◌≤◌, max, List, [], ◌∷◌, ◌++◌, length, replicate}
-use Rattle.std.specs.Prelude.{slice_set, get_or, Option, Some, None}
+use Rattle.std.specs.Prelude.{◌≡◌, ◌≢◌, ◌↔◌, ◌⊎◌, ℕ, ◌+◌, ◌<◌, ◌≤◌, max, List, [], ◌∷◌, ◌++◌, length, slice_set, get_or}
+use Rattle.std.specs.Prelude.{Option, Some, None}
 use Rattle.std.proofs.Common.{refl, sym, subst, ◌∙◌, ap, arith, inl, inr}
 use Rattle.std.proofs.lemmas.Bool.{cases_lt}
 use Rattle.std.proofs.lemmas.Bool.Decides.{eqb_tells}
-use Rattle.std.proofs.lemmas.List.{get_or-replicate, get_or-set_same, get_or-set_other, length-set, length-replicate}
+use Rattle.std.proofs.lemmas.List.{get_or-set_same, get_or-set_other, length-set}
 use Rattle.bn_circuits.specs.declared.line.Wire.{Wire}
 use Rattle.bn_plan.specs.declared.tracked.Tracked.{Tracked}
 use Rattle.bn_plan.specs.Lists.{Pairwise}
@@ -127,8 +127,7 @@ module _ (ws : List Wire) (r : AreRotary ws) (w : Wire) (s : Swept) (is : IsSwep
     -- on a track that was free
     swept_free : (n : ℕ) (new : Swept) → greater w < length s.ending → TakesFree s n new
         → IsSwept ws (lesser w + 1) (record {
-          wires = s.wires ++ placed w n
-              ∷ [];
+          wires = s.wires ++ placed w n ∷ [];
           free = new.free;
           ending = slice_set s.ending (greater w) (Some n);
           tracks = new.tracks;
@@ -168,8 +167,7 @@ module _ (ws : List Wire) (r : AreRotary ws) (w : Wire) (s : Swept) (is : IsSwep
             let old = (is.free m).0 (moved_back s.free (n ∷ new.free) takes.taken m (inr h)) in (
               old.0,
               let low = old.1 in let same = takes.tracks in omega (arith, low, same),
-              free_more n m
-                  (λ e. apart.0 m h (sym e)) old.2,
+              free_more n m (λ e. apart.0 m h (sym e)) old.2,
             )
 
         back : (m : ℕ) → (0 < m) × (m ≤ new.tracks) × IsFree (s.wires ++ placed w n ∷ []) m (lesser w + 1)
@@ -178,8 +176,7 @@ module _ (ws : List Wire) (r : AreRotary ws) (w : Wire) (s : Swept) (is : IsSwep
             let old = (is.free m).1 (
               h.0,
               (let low = h.1 in let same = takes.tracks in omega (arith, low, same)),
-              free_old
-                  n m h.2,
+              free_old n m h.2,
             ) in
             elim (moved_in s.free (n ∷ new.free) takes.taken m old)
             [ inl e ↦ absurd (other_track n m h.2 e) | inr k ↦ k ]
@@ -211,8 +208,7 @@ module _ (ws : List Wire) (r : AreRotary ws) (w : Wire) (s : Swept) (is : IsSwep
     -- on a new track
     swept_new : (n : ℕ) (new : Swept) → greater w < length s.ending → TakesNew s (lesser w) n new
         → IsSwept ws (lesser w + 1) (record {
-          wires = s.wires ++ placed w n
-              ∷ [];
+          wires = s.wires ++ placed w n ∷ [];
           free = new.free;
           ending = slice_set s.ending (greater w) (Some n);
           tracks = new.tracks;
@@ -275,8 +271,7 @@ module _ (ws : List Wire) (r : AreRotary ws) (w : Wire) (s : Swept) (is : IsSwep
 
     pub swept_begin : (n : ℕ) (new : Swept) → greater w < length s.ending → TakesTrack s (lesser w) n new
         → IsSwept ws (lesser w + 1) (record {
-          wires = s.wires ++ placed w n
-              ∷ [];
+          wires = s.wires ++ placed w n ∷ [];
           free = new.free;
           ending = slice_set s.ending (greater w) (Some n);
           tracks = new.tracks;
@@ -284,35 +279,8 @@ module _ (ws : List Wire) (r : AreRotary ws) (w : Wire) (s : Swept) (is : IsSwep
         })
     swept_begin n new inside t = elim t.takes [
       | inl free ↦ swept_free n new inside free
-      | inr next
-          ↦ swept_new n new inside next
+      | inr next ↦ swept_new n new inside next
     ]
-
--- ---- the first position
-
-pub swept_start : (ws : List Wire) (n : ℕ) → IsSwept ws 0 (record
-    { wires = []; free = []; ending = replicate n None; tracks = 0; densest = 0 })
-swept_start ws n = record {
-  order = tt;
-  least = tt;
-  begun = λ w. ((λ h. absurd h), λ h. let low = h.1 in absurd (omega (arith, low)));
-  tracks = refl;
-  few = omega arith;
-  free = λ m. ((λ h. absurd h), λ h. let some = h.0 in let low = h.1 in absurd (omega (arith, some, low)));
-  once = tt;
-  ends = λ t h reach. absurd h;
-  ended = λ q m reach more some. absurd (unended q m more some);
-  densest = inl (refl, refl);
-}
-  where
-    unended : (q m : ℕ) → q < length {A = Option ℕ} (replicate n None)
-        → get_or {A = Option ℕ} (replicate n None) q None ≡ Some m → ⊥
-    unended q m more some =
-        let size : length {A = Option ℕ} (replicate n None) ≡ n = length-replicate n None in
-        let none : get_or {A = Option ℕ} (replicate n None) q None ≡ None =
-        get_or-replicate n q None None (omega (arith, more, size)) in
-        let clash : None ≡ Some m = sym none ∙ some in
-        absurd (cc)
 
 -- ---- as the code has it
 
@@ -345,8 +313,7 @@ begin_swept w s new n p g first last takes inside wires ending all track ws r me
       densest = new.densest;
     })) wires_are
     (subst (λ xs. IsSwept ws (lesser w + 1) (record {
-      wires = s.wires ++ placed w n
-          ∷ [];
+      wires = s.wires ++ placed w n ∷ [];
       free = new.free;
       ending = xs;
       tracks = new.tracks;

@@ -45,8 +45,7 @@ to_apart : (ws : List Wire) → ((v w : Wire) → Has ws v → Has ws w → v.to
 to_apart [] once apart = tt
 to_apart (v ∷ vs) once apart = (
   (λ w h e. apart.0 w h (once v w (inl refl) (inr h) e)),
-  to_apart vs
-      (λ x y h k e. once x y (inr h) (inr k) e) apart.1,
+  to_apart vs (λ x y h k e. once x y (inr h) (inr k) e) apart.1,
 )
 
 -- the wires of such a circuit

@@ -83,16 +83,13 @@ record IsBest (f : ℕ → ℕ) (n p : ℕ) : Type 0 where
 first_best_is : (f : ℕ → ℕ) (n : ℕ) → IsBest f n (first_best f n)
 first_best_is f zero = record {
   within = omega arith;
-  greatest = λ q h. let same : q
-      ≡ 0 = omega (arith, h) in let also : f q ≡ f 0 = ap f same in omega (arith, also);
-  first = λ q h. absurd
-      (omega (arith, h));
+  greatest = λ q h. let same : q ≡ 0 = omega (arith, h) in let also : f q ≡ f 0 = ap f same in omega (arith, also);
+  first = λ q h. absurd (omega (arith, h));
 }
 first_best_is f (suc n) = let before = first_best_is f n in elim (leb_tells (f (suc n)) (f (first_best f n))) [
   | inl less ↦ rw less.0 (record {
     within = let w = before.within in omega (arith, w);
-    greatest = greatest_old
-        (first_best f n) before less.1;
+    greatest = greatest_old (first_best f n) before less.1;
     first = before.first;
   })
   | inr more ↦ rw more.0 (record {
@@ -131,8 +128,7 @@ densest_is ws = let best = first_best_is (density ws) (last_position ws) in reco
 pub densest_none : IsDensest [] 0 0
 densest_none = record {
   reached = refl;
-  greatest = λ q. let none : density [] q
-      ≡ 0 = refl in omega (arith, none);
+  greatest = λ q. let none : density [] q ≡ 0 = refl in omega (arith, none);
   least = λ q h. absurd (omega (arith, h));
 }
 

@@ -19,8 +19,7 @@ floor_exists ws =
       record { wires = plan.0; tracks = density ws (densest ws); densest = densest ws },
       record {
         plan = plan.1;
-        tracks = (plans_use_no_more ws plan.0 (density ws (densest ws)) (densest ws) plan.1
-            most).0;
+        tracks = (plans_use_no_more ws plan.0 (density ws (densest ws)) (densest ws) plan.1 most).0;
         densest = most;
       },
     )

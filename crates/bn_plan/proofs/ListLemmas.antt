@@ -27,8 +27,7 @@ pub pairwise_weaker : {X : Type 0} (R S : X → X → Type 0) (xs : List X)
 pairwise_weaker R S [] keeps a = tt
 pairwise_weaker R S (x ∷ xs) keeps a = (
   (λ y h. keeps x y (inl refl) (inr h) (a.0 y h)),
-  pairwise_weaker R S xs
-      (λ v w h k. keeps v w (inr h) (inr k)) a.1,
+  pairwise_weaker R S xs (λ v w h k. keeps v w (inr h) (inr k)) a.1,
 )
 
 -- images are related as the elements are by their images
@@ -36,8 +35,7 @@ pub pairwise_map : {X Y : Type 0} (S : Y → Y → Type 0) (f : X → Y) (xs : L
     → Pairwise S (map f xs)
 pairwise_map S f [] a = tt
 pairwise_map S f (x ∷ xs) a = (
-  (λ y h. let from = in_map_cases f xs y h in subst (S (f x)) (sym from.2)
-      (a.0 from.0 from.1)),
+  (λ y h. let from = in_map_cases f xs y h in subst (S (f x)) (sym from.2) (a.0 from.0 from.1)),
   pairwise_map S f xs a.1,
 )
 
@@ -209,8 +207,7 @@ unfolding IsDistinct
 distinct_pairwise [] d = tt
 distinct_pairwise (x ∷ xs) d = (
   (λ y h. unequal x y (all_in (λ z. eqb x z ≡ false) xs d.0 y h)),
-  distinct_pairwise xs
-      d.1,
+  distinct_pairwise xs d.1,
 )
 
 -- and the other way round
@@ -219,6 +216,5 @@ unfolding IsDistinct
 pairwise_distinct [] a = tt
 pairwise_distinct (x ∷ xs) a = (
   in_all (λ z. eqb x z ≡ false) xs (λ y h. equal_not x y (a.0 y h)),
-  pairwise_distinct xs
-      a.1,
+  pairwise_distinct xs a.1,
 )

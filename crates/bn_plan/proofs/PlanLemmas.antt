@@ -49,8 +49,7 @@ insert_later w v vs zs order high rest = record {
   order = (
     λ u h. elim (rest.from u h) [
       | inl e ↦ subst (λ x. lesser v ≤ lesser x) (sym e) (omega (arith, high))
-      | inr k
-          ↦ order.0 u k
+      | inr k ↦ order.0 u k
     ],
     rest.order,
   );
@@ -70,8 +69,7 @@ inserted w [] order = (
   record {
     order = ((λ u h. absurd h), tt);
     all = IsPermutation-refl (w ∷ []);
-    from = λ u
-        h. h;
+    from = λ u h. h;
   },
 )
 inserted w (v ∷ vs) order = elim (cases_lt (lesser v) (lesser w)) [
@@ -87,8 +85,7 @@ in_order (w ∷ ws) =
     let more = inserted w rest.0 rest.1 in (
       more.0,
       more.1.order,
-      IsPermutation-trans (w ∷ ws) (w ∷ rest.0) more.0 (IsPermutation-cons w ws rest.0 rest.2)
-          more.1.all,
+      IsPermutation-trans (w ∷ ws) (w ∷ rest.0) more.0 (IsPermutation-cons w ws rest.0 rest.2) more.1.all,
     )
 
 -- ---- a track for each
@@ -104,15 +101,13 @@ least_free : (earlier : List Tracked) (w : Wire) (fuel n : ℕ) → 0 < n → tr
 least_free earlier w zero n some far before = (
   record { from = w.from; to = w.to; track = n },
   refl,
-  record
-      { counted = some; free = free_beyond earlier n w (omega (arith, far)); least = before },
+  record { counted = some; free = free_beyond earlier n w (omega (arith, far)); least = before },
 )
 least_free earlier w (suc fuel) n some far before = elim (free_or_blocked earlier n w) [
   | inl free ↦ (
     record { from = w.from; to = w.to; track = n },
     refl,
-    record
-        { counted = some; free = free; least = before },
+    record { counted = some; free = free; least = before },
   )
   | inr blocked ↦ least_free earlier w fuel (suc n) (omega arith) (omega (arith, far))
       (λ m positive low free. elim (cases_lt m n) [

@@ -172,8 +172,7 @@ module _ (ws : List Wire) (r : AreRotary ws) (p : ℕ) (s : Swept) (is : IsSwept
     few = let few = is.few in omega (arith, few);
     free = λ n. (
       (λ h. let k = (is.free n).0 h in (k.0, k.1, λ t l e. let early = k.2 t l e in omega (arith, early))),
-      λ
-          h. (is.free n).1 (h.0, h.1, λ t l e. passed t l (h.2 t l e)),
+      λ h. (is.free n).1 (h.0, h.1, λ t l e. passed t l (h.2 t l e)),
     );
     once = is.once;
     ends = λ t h reach. is.ends t h (omega (arith, reach));
@@ -208,8 +207,7 @@ module _ (ws : List Wire) (r : AreRotary ws) (p : ℕ) (s : Swept) (is : IsSwept
     few = let few = is.few in omega (arith, few);
     free = λ n. (there n, back n);
     once = moved_apart (x ∷ s.free) free moved (
-      (λ n h e. not_free (last.0) last.1 (omega (arith, last.2))
-          (subst (Has s.free) (sym e ∙ track) h)),
+      (λ n h e. not_free (last.0) last.1 (omega (arith, last.2)) (subst (Has s.free) (sym e ∙ track) h)),
       is.once,
     );
     ends = λ t h reach. is.ends t h (omega (arith, reach));

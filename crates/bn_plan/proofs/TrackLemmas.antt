@@ -40,8 +40,7 @@ pub tracks_fit : (earlier ts : List Tracked) → TakeLeast earlier ts → Tracks
 tracks_fit earlier [] a = tt
 tracks_fit earlier (t ∷ ts) a = (
   (λ s h. fits_earlier (t ∷ earlier) ts a.1 t s (inl refl) h),
-  tracks_fit (t ∷ earlier)
-      ts a.1,
+  tracks_fit (t ∷ earlier) ts a.1,
 )
 
 -- in a plan

@@ -113,8 +113,7 @@ grown-all n s r n2 a =
 deed-said : (names : List (List ℕ)) (d : Deed) (t : Says) → Stands names d t → said_deed names d ≡ t
 deed-said names (Rewrite r w) (Rewrites x y) h = rw (
   get_or_from_slice_get names r x [] h.0,
-  get_or_from_slice_get names
-      w y [] h.1,
+  get_or_from_slice_get names w y [] h.1,
 ) refl
 deed-said names (Rewrite r w) (Moves s) h = absurd h
 deed-said names (Move s) (Rewrites x y) h = absurd h

@@ -105,8 +105,7 @@ deed-forms : (names : List (List ℕ)) (d : Deed) → list_all is_symbol names �
     → SaysHasForms (said_deed names d)
 deed-forms names (Rewrite r w) f h = (
   all-at is_symbol names r _ f (slice_get-get_or names r [] h.0),
-  all-at is_symbol
-      names w _ f (slice_get-get_or names w [] h.1),
+  all-at is_symbol names w _ f (slice_get-get_or names w [] h.1),
 )
 deed-forms names (Move s) f h = tt
 

@@ -13,7 +13,7 @@ pub own_table : (entries : List (List (List ℕ))) (t : QuadTable) → IsQuadTab
 own_table entries t h =
     let P : List (List (List ℕ)) → Type 0 = λ rows. IsQuadTableOf rows t in subst P (sym h.spelled.rows) h
 
-all_named : (form : List ℕ → Bool) (names : List (List ℕ)) (count : ℕ) → count ≡ length names
+pub all_named : (form : List ℕ → Bool) (names : List (List ℕ)) (count : ℕ) → count ≡ length names
     → list_all form names ≡ true → AreNamed form names count
 all_named form names count e all =
     let P : ℕ → Type 0 = AreNamed form names in
@@ -21,8 +21,7 @@ all_named form names count e all =
       each = λ n h. (
         _,
         slice_get-get_or names n [] h,
-        all-at form names n _ all
-            (slice_get-get_or names n [] h),
+        all-at form names n _ all (slice_get-get_or names n [] h),
       );
     })
 

@@ -55,5 +55,4 @@ tape_word_of (variants.Names bytes) = Names bytes.now
 
 abbrev pub tape_words_of : declared_words.TapeWords → TapeWords
 tape_words_of (words.One word) = One (tape_word_of word)
-tape_words_of (words.Three first second third) =
-    Three (tape_word_of first) (tape_word_of second) (tape_word_of third)
+tape_words_of (words.Three first second third) = Three (tape_word_of first) (tape_word_of second) (tape_word_of third)

@@ -16,7 +16,7 @@ sound_turned : (states : ℕ) (symbols : List ℕ) (q : Quad) → length symbols
 sound_turned states symbols q tapes h = sound_rule states symbols (turned (rule_of q))
     (turned_in_range states symbols (rule_of q) (rule_in_range states symbols q tapes h))
 
-all_reversed : {X : Type 0} (P : X → Type 0) (xs : List X) → All P xs → All P (reverse xs)
+pub all_reversed : {X : Type 0} (P : X → Type 0) (xs : List X) → All P xs → All P (reverse xs)
 all_reversed P xs h = λ k d inside.
     let long : length (reverse xs) ≡ length xs = length-reverse xs in
     let low : k < length xs = omega arith in

@@ -72,7 +72,6 @@ clash_once clash rs m n r s apart here there k = by_order (cases_lt m n) (cases_
       second = r;
       first_stands = there;
       second_stands = here;
-      clashes = clash_again clash r
-          s k;
+      clashes = clash_again clash r s k;
     }))
     by_order (inr p) (inr q) = omega arith

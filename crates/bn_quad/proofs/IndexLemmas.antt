@@ -158,8 +158,7 @@ searched_on rs c m None before none = record {
       behind = omega arith;
       rule = r;
       stands = here;
-      from = sym
-          applies.from;
+      from = sym applies.from;
     })
 searched_on rs c m (Some n) before is = record {
   before = record { each = λ k r low here applies. by_place k r low here applies (cases_lt k (suc m)) };

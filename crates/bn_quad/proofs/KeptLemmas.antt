@@ -7,7 +7,7 @@ use Rattle.std.proofs.lemmas.List.Elements.{All-map}
 use Rattle.bn_quad.specs.Quadruples.{Deed, Rewrite, Move, Rule, quadruples_of, deeds_of, IsDeedInRange, AreDeedsInRange}
 use Rattle.bn_quad.specs.Quadruples.{IsRuleInRange, IsQuadMachine, final_state_of}
 use Rattle.bn_quad.specs.Kept.{read_of, act_of, quad_of, deed_of, rule_of, rules_of, read_at, act_at, Agree}
-use Rattle.bn_quad.specs.Kept.{IsReadInRange, IsActInRange, IsUnmixed, IsSound, IsKept, IsFirstFault}
+use Rattle.bn_quad.specs.Kept.{IsReadInRange, IsActInRange, IsSound, IsKept, IsFirstFault}
 use Rattle.bn_quad.specs.Calls.{IsMadeOf}
 use Rattle.bn_lists.specs.Lists.{AllBefore, nth}
 use Rattle.bn_lists.proofs.ListLemmas.{nth-get_or}
@@ -57,10 +57,6 @@ rule_of-quad_of r = λ i. record {
   three = deed_of-kept r.three i;
   to = r.to;
 }
-
--- rules that are kept alike are the same
-pub quad_of-apart : (r s : Rule ℕ) → quad_of r ≡ quad_of s → r ≡ s
-quad_of-apart r s e = sym (rule_of-quad_of r) ∙ ap rule_of e ∙ rule_of-quad_of s
 
 pub rules_of-quads : (rs : List (Rule ℕ)) → rules_of (map quad_of rs) ≡ rs
 rules_of-quads [] = refl
@@ -156,10 +152,6 @@ nth-rules_of qs k d inside = slice_get-map rule_of qs k ∙ ap (option_map rule_
 
 pub length-rules_of : (qs : List Quad) → length (rules_of qs) ≡ length qs
 length-rules_of qs = length-map qs rule_of
-
-pub sound_unmixed : (states : ℕ) (symbols : List ℕ) (qs : List Quad) → All (IsSound states symbols) qs
-    → All IsUnmixed qs
-sound_unmixed states symbols qs h = λ k d inside. (h k d inside).unmixed
 
 pub nth-rules_of_back : (qs : List Quad) (i : ℕ) (d : Quad) → 1 ≤ i → i ≤ length qs
     → nth (rules_of qs) i ≡ Some (rule_of (get_or qs (i - 1) d))

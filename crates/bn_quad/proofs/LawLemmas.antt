@@ -13,6 +13,5 @@ turned_rules_lead_back = λ r d e. (turned_leads r d e, turned_leads_back r d e)
 pub steps_are_leads : StepsAreLeads
 steps_are_leads = λ p n d e apart going. (
   goes_leads everywhere p n d e,
-  leads_goes everywhere p n d e apart going
-      (record { one = tt; two = tt; three = tt }),
+  leads_goes everywhere p n d e apart going (record { one = tt; two = tt; three = tt }),
 )

@@ -22,9 +22,6 @@ name_at f xs names k x made inside here =
     ap (λ ns. slice_get ns k) (sym made) ∙ slice_get-map f xs k ∙ ap (option_map f) (slice_get-get_or xs k x inside)
     ∙ ap (λ y. Some (f y)) (sym here)
 
-pub none_below_zero : (names : List (List ℕ)) (name : List ℕ) → HasNoNumberBelow names name 0
-none_below_zero names name = record { none = λ m h e. omega arith }
-
 pub none_below_more : (names : List (List ℕ)) (name other : List ℕ) (n : ℕ) → HasNoNumberBelow names name n
     → slice_get names n ≡ Some other → (other ≡ name → ⊥) → HasNoNumberBelow names name (suc n)
 none_below_more names name other n before here apart = record { none = λ m h e. by_order m e (cases_lt m n) h }
@@ -41,12 +38,6 @@ pub not_among : (names : List (List ℕ)) (name : List ℕ) (n : ℕ) → length
     → Contains names name → ⊥
 not_among names name n past before (k, inside, here) =
     before.none k (omega arith) (slice_get-get_or names k name inside ∙ ap Some here)
-
-before_last : (names : List (List ℕ)) (name : List ℕ) (k : ℕ) → k < length names
-    → slice_get (names ++ name ∷ []) k ≡ slice_get names k
-before_last [] name k h = absurd (omega arith)
-before_last (n ∷ ns) name zero h = refl
-before_last (n ∷ ns) name (suc k) h = before_last ns name k (omega arith)
 
 among : (names : List (List ℕ)) (name : List ℕ) (k : ℕ) → slice_get names k ≡ Some name → Contains names name
 among names name k e =
@@ -67,8 +58,7 @@ old_or_last (n ∷ ns) name (suc k) x e = elim (old_or_last ns name k x e) [
 pub apart_more : (names : List (List ℕ)) (name : List ℕ) → AreApart names → (Contains names name → ⊥)
     → AreApart (names ++ name ∷ [])
 apart_more names name apart new = record {
-  same = λ x m n e f. both x m n (old_or_last names name m x e)
-      (old_or_last names name n x f);
+  same = λ x m n e f. both x m n (old_or_last names name m x e) (old_or_last names name n x f);
 }
   where
     both : (x : List ℕ) (m n : ℕ) → (slice_get names m ≡ Some x) ⊎ ((m ≡ length names) × (x ≡ name))
@@ -82,8 +72,7 @@ pub names_more : (names : List (List ℕ)) (name : List ℕ) → AreNames names 
     → (Contains names name → ⊥) → AreNames (names ++ name ∷ [])
 names_more names name all room new = record {
   apart = apart_more names name all.apart new;
-  few = let
-      long = length-append names (name ∷ []) in omega (arith, long);
+  few = let long = length-append names (name ∷ []) in omega (arith, long);
 }
 
 -- the names of a list that has grown by one element whose name is new

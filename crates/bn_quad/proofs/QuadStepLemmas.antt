@@ -30,8 +30,7 @@ pub goes_leads : (rooms : Rooms) (p : Quadruples) (n : ℕ) (c d : Configuration
 goes_leads rooms p n c d g = record {
   rule = g.rule;
   stands = g.first.stands;
-  leads = record
-      { applies = g.first.holds; gives = g.gives };
+  leads = record { applies = g.first.holds; gives = g.gives };
 }
 
 -- of quadruples that are apart in domain the one that applies is the first that does

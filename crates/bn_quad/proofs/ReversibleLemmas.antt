@@ -48,8 +48,7 @@ meeting : (d e : Deed) → MeetsInRange d e → (t : Tape) × DeedApplies (turne
 meeting (Rewrite r w) (Rewrite r' w') h = (
   write blank_tape w,
   scanned-write blank_tape w,
-  scanned-write blank_tape w
-      ∙ h,
+  scanned-write blank_tape w ∙ h,
 )
 meeting (Rewrite r w) (Move s) h = (write blank_tape w, scanned-write blank_tape w, tt)
 meeting (Move s) (Rewrite r w) h = (write blank_tape w, tt, scanned-write blank_tape w)
@@ -62,8 +61,7 @@ module _ {Q : Type 0} where
     state = states i;
     one = one i;
     two = two i;
-    three = three
-        i;
+    three = three i;
   }
 
   pub turned-turned : (r : Rule Q) → turned (turned r) ≡ r
@@ -186,8 +184,7 @@ module _ {Q : Type 0} where
           let m : Leads k.second d e = turned_leads_back k.second d e (record { applies = g; gives = refl }) in
           let same : c ≡ d = only c d e (record {
             number = i;
-            leads = record
-                { rule = k.first; stands = k.first_stands; leads = l };
+            leads = record { rule = k.first; stands = k.first_stands; leads = l };
           })
           (record { number = j; leads = record { rule = k.second; stands = k.second_stands; leads = m } }) in
           let applies : AppliesTo k.second c = subst (AppliesTo k.second) (sym same) m.applies in
@@ -242,8 +239,7 @@ module _ {Q : Type 0} where
       forth l = record {
         rule = turned l.rule;
         stands = nth-turned_list rs n m l.rule sum l.stands;
-        leads = turned_leads
-            l.rule c d l.leads;
+        leads = turned_leads l.rule c d l.leads;
       }
 
       length_of_turned : length (turned_list rs) ≡ length rs
@@ -263,6 +259,5 @@ module _ {Q : Type 0} where
           record {
             rule = get_or rs k l.rule;
             stands = here;
-            leads = turned_leads_back (get_or rs k l.rule) c d
-                (subst (λ r. Leads r d c) one l.leads);
+            leads = turned_leads_back (get_or rs k l.rule) c d (subst (λ r. Leads r d c) one l.leads);
           }

@@ -3,7 +3,7 @@ use Rattle.std.specs.Prelude.{◌≡◌, ℕ, zero, suc, ◌<◌, ◌≤◌, Lis
 use Rattle.std.proofs.Common.{subst, arith, inl, inr}
 use Rattle.std.proofs.lemmas.Bool.{cases_lt}
 use Rattle.bn_lists.specs.Lists.{AllBefore, nth}
-use Rattle.bn_lists.proofs.ListLemmas.{nth_within, nth_once, all_before_one, all_before_more, first_at, none_to_end}
+use Rattle.bn_lists.proofs.ListLemmas.{nth_within, nth_once, all_before_more, first_at, none_to_end}
 use Rattle.bn_quad.specs.Quadruples.{Rule, Configuration, AppliesTo, IsFirstRule, HasNoRule}
 use Rattle.bn_quad.specs.Overlap.{QuadruplesClash, IsClash, HasNoClash, IsLeastClash, IsFlawed, HasNoFlaw, IsFirstFlaw}
 use Rattle.bn_quad.specs.declared.clash.Clash.{Clash}
@@ -37,8 +37,7 @@ no_partner_more clash rs i n r s before here there apart = record { none = λ j 
 pub no_partner : (clash : Clash) (rs : List (Rule ℕ)) (i n : ℕ) → length rs < n → HasNoPartnerBefore clash rs i n
     → HasNoPartner clash rs i
 no_partner clash rs i n past before = record {
-  none = λ j k. let known : j
-      ≤ length rs = nth_within rs j k.second k.second_stands in before.none j (omega arith) k;
+  none = λ j k. let known : j ≤ length rs = nth_within rs j k.second k.second_stands in before.none j (omega arith) k;
 }
 
 pub least_partner : (clash : Clash) (rs : List (Rule ℕ)) (i j : ℕ) (r s : Rule ℕ) → i < j
@@ -75,8 +74,7 @@ no_clash_more clash rs n before here = record { none = λ m j h k. by_order m j 
 pub no_clash : (clash : Clash) (rs : List (Rule ℕ)) (n : ℕ) → length rs < n → HasNoClashBefore clash rs n
     → HasNoClash clash rs
 no_clash clash rs n past before = record {
-  none = λ i j k. let known : i
-      ≤ length rs = nth_within rs i k.first k.first_stands in before.none i j (omega arith) k;
+  none = λ i j k. let known : i ≤ length rs = nth_within rs i k.first k.first_stands in before.none i j (omega arith) k;
 }
 
 pub least_clash : (clash : Clash) (rs : List (Rule ℕ)) (i j : ℕ) → HasNoClashBefore clash rs i
@@ -86,9 +84,6 @@ least_clash clash rs i j before k = record { holds = k.holds; least_first = befo
 -- none of the quadruples before the n-th has the flaw
 abbrev pub HasNoFlawBefore : Flaw → List (Rule ℕ) → ℕ → Type 0
 HasNoFlawBefore flaw rs n = AllBefore (λ r. IsFlawed flaw r → ⊥) rs n
-
-pub no_flaw_before_one : (flaw : Flaw) (rs : List (Rule ℕ)) → HasNoFlawBefore flaw rs 1
-no_flaw_before_one flaw rs = all_before_one (λ r. IsFlawed flaw r → ⊥) rs
 
 pub no_flaw_more : (flaw : Flaw) (rs : List (Rule ℕ)) (n : ℕ) (r : Rule ℕ) → HasNoFlawBefore flaw rs n
     → nth rs n ≡ Some r → (IsFlawed flaw r → ⊥) → HasNoFlawBefore flaw rs (suc n)

@@ -71,9 +71,6 @@ record Switches (before : Option ℕ) (j : ℕ) (marked : Bool) (after : Option 
   here : is_marked after j ≡ marked
   others : (m : ℕ) → m ≢ j → is_marked after m ≡ is_marked before m
 
-stays : (mark : Option ℕ) (j : ℕ) → Switches mark j (is_marked mark j) mark
-stays mark j = record { here = refl; others = λ m apart. refl }
-
 pub eqb_same : (q : ℕ) → (q == q) ≡ true
 eqb_same q = elim (eqb_tells q q) [ inl same ↦ same.0 | inr apart ↦ absurd (apart.1 refl) ]
 
@@ -90,8 +87,7 @@ module _ (c : Circuit) (b : ℕ) (t : Table) (bank : IsBank c b t) where
   column : (j : ℕ) → j < t.states → IsColumn c (column_at b t.inputs j) t.inputs
   column j within = record {
     rotaries = λ x low. bank.rotaries j x within low;
-    wired = λ from to is. bank.wired from to
-        (inner j within is);
+    wired = λ from to is. bank.wired from to (inner j within is);
   }
 
   led : (from to : Line) → IsBankWire b t from to → place_after c.wires from ≡ Enter to.element to.line

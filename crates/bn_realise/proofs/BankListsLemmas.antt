@@ -21,8 +21,7 @@ module _ (b : ℕ) (t : Table) (reversible : IsReversible t) (square : t.outputs
     where
       by_next : (j + 1 < t.states) ⊎ (t.states ≤ j + 1) → (vs : List Wire) × AreWiresOf (IsHalf b t j i) vs
       by_next (inl next) = (
-        ws ++ wire_of (column_at b t.inputs j + i) east (column_at b t.inputs (j + 1) + i) west
-            ∷ [],
+        ws ++ wire_of (column_at b t.inputs j + i) east (column_at b t.inputs (j + 1) + i) west ∷ [],
         half_with b t reversible square some j i ws next row stage,
       )
       by_next (inr last) = (ws, half_without b t reversible square some j i ws last stage)
@@ -35,8 +34,7 @@ module _ (b : ℕ) (t : Table) (reversible : IsReversible t) (square : t.outputs
       by_move : (o : Option (ℕ × ℕ)) → t.go j i ≡ o → (vs : List Wire) × AreWiresOf (IsStage b t j (i + 1)) vs
       by_move None none = (ws, stage_without b t reversible square some j i ws none half)
       by_move (Some m) goes = (
-        ws ++ wire_of (column_at b t.inputs j + i) west (column_at b t.inputs m.0 + m.1) east
-            ∷ [],
+        ws ++ wire_of (column_at b t.inputs j + i) west (column_at b t.inputs m.0 + m.1) east ∷ [],
         stage_with b t reversible square some j i m.0 m.1 ws there row goes half,
       )
 

@@ -32,6 +32,7 @@ use Rattle.bn_realise.proofs.BankCrossingLemmas.{later_column, other_column, ban
 use Rattle.bn_realise.proofs.BankWiresLemmas.{column_once, output-no_wire, turning-wire}
 use Rattle.bn_realise.specs.BankNets.{CanMove, IsMove, IsBankNet, Banked, IsBankOf, IsSomeBank, IsReadyBank, HasLeft}
 use Rattle.bn_net.specs.declared.net.TheConstants.{MOST_ELEMENTS}
+use Rattle.bn_net.proofs.WiringsLemmas.{none_of}
 
 -- the bars of one bank at rest
 abbrev pub resting : ℕ → ℕ → ℕ → List ℕ
@@ -147,10 +148,6 @@ move_made k b t q i made c end reversible square bank entering in_time ends cost
     }
 
 -- ---- a bank by itself runs to its exit
-
-none_of : (o : Option Line) → ((to : Line) → o ≡ Some to → ⊥) → o ≡ None
-none_of None h = refl
-none_of (Some to) h = absurd (h to refl)
 
 pub stuck_outside : (k : Circuit) (d : Config) (e l : ℕ) → d.place ≡ Left e l → IsStuck k d
 stuck_outside k d e l left x goes = (let enters = goes.crosses.enters in cc)
@@ -309,36 +306,6 @@ ready-can v c some ready =
       in_time = ready.in_time t some.reversible some.square some.is_bank;
     } in
     record { table = t; reversible = some.reversible; square = some.square; is_bank = some.is_bank; can = can }
-
--- and one that can make a move of a table is ready
-pub can-ready : (v : Banked) (c : Config) → CanMoveBank v c → IsReadyBank v c
-can-ready v c can =
-    let u = can.table in
-    let entering = can.can.entering in
-    let states : u.states ≡ v.states = sym can.is_bank.states in
-    let lines : u.inputs ≡ v.lines = sym can.is_bank.lines in
-    record {
-      state = can.can.state;
-      line = can.can.line;
-      some_state = subst (λ n. can.can.state < n) states entering.state;
-      some_line = subst (λ n. can.can.line < n) lines entering.line;
-      resting = subst (λ k. IsResting c.states 0 v.states k (Some can.can.state)) lines
-          (subst (λ n. IsResting c.states 0 n u.inputs (Some can.can.state)) states entering.resting);
-      enters = let e : 0 + can.can.line ≡ can.can.line = omega arith in entering.enters ∙ ap (λ x. Enter x west) e;
-      in_time = λ t reversible square is. costs t reversible square is;
-    }
-  where
-    costs : (t : Table) → IsReversible t → t.outputs ≡ t.inputs → IsBankOf v t
-        → c.steps + table_cost t can.can.state can.can.line ≤ clock
-    costs t reversible square is =
-        let u = can.table in
-        let states : u.states ≡ t.states = sym can.is_bank.states ∙ is.states in
-        let lines : u.inputs ≡ t.inputs = sym can.is_bank.lines ∙ is.lines in
-        let moves = same_moves v.net t u reversible can.reversible square can.square is.net can.is_bank.net lines
-        can.can.state can.can.line in
-        let same : table_cost u can.can.state can.can.line ≡ table_cost t can.can.state can.can.line =
-        rw (states, lines, moves) refl in
-        subst (λ n. c.steps + n ≤ clock) same can.can.in_time
 
 -- a bank at its start is ready, since no move costs more than the clock has
 pub start-ready : CostsAreBounded → (v : Banked) (q i : ℕ) (s : List ℕ) → v.states * (v.lines + 1) ≤ MOST_ELEMENTS

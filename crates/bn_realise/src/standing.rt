@@ -2,7 +2,7 @@
 ghost use Rattle.std.specs.Prelude.{◌≡◌, ℕ, ◌+◌, ◌*◌, ◌<◌, ◌≤◌, length, replicate, slice_set, IfOk};
 ghost use Rattle.bn_realise.specs.Banks.{bottom_at};
 ghost use Rattle.bn_element.specs.Tables.{Table, IsReversible};
-ghost use Rattle.bn_circuits.specs.Circuits.{IsConfig};
+ghost use Rattle.bn_circuits.specs.Circuits.{IsCircuit, IsConfig};
 ghost use Rattle.bn_net.specs.RotaryNets.{rotary_circuit};
 
 use bn_element::{HORIZONTAL, Rotary, VERTICAL, WEST};
@@ -21,6 +21,8 @@ pub struct Bank {
 
 impl Model for Bank {
     ghost use Rattle.std.specs.Prelude.{◌≡◌, ◌+◌, ◌*◌, ◌≤◌, length};
+    ghost use Rattle.bn_circuits.specs.Circuits.{IsCircuit};
+    ghost use Rattle.bn_net.specs.RotaryNets.{rotary_circuit};
     ghost use Rattle.bn_realise.specs.BankNets.{Banked, IsSomeBank};
     ghost use Rattle.bn_net.specs.declared.net.TheConstants.{MOST_ELEMENTS};
 
@@ -30,7 +32,8 @@ impl Model for Bank {
 
     ghost invariant = { λ v. (length v.net.elements ≡ v.states * (v.lines + 1))
         × (v.states * (v.lines + 1) ≤ MOST_ELEMENTS)
-        × IsSomeBank (record { net = v.net; states = v.states; lines = v.lines }) };
+        × IsSomeBank (record { net = v.net; states = v.states; lines = v.lines })
+        × IsCircuit (rotary_circuit v.net) };
 }
 
 impl Bank {
@@ -42,6 +45,7 @@ impl Bank {
         requires elements { length net.elements ≡ states * (lines + 1) }
         requires few { states * (lines + 1) ≤ MOST_ELEMENTS }
         requires some_bank { IsSomeBank (record { net = net; states = states; lines = lines }) }
+        requires circuit { IsCircuit (rotary_circuit net) }
         ensures { result ≡ record { net = net; states = states; lines = lines } }
     {
         Bank { net, states, lines }
@@ -56,9 +60,10 @@ impl Bank {
         &self.net
     }
 
-    /// Hands out the bank's net. It takes no memory.
+    /// Hands out the bank's net. It takes no memory. Its contract also tells what every net keeps.
     pub fn into_net(self) -> Net<Rotary>
-        ensures { result ≡ self.net }
+        ensures net { result ≡ self.net }
+        ensures circuit { IsCircuit (rotary_circuit result) }
     {
         let Bank {
             net,
@@ -79,8 +84,6 @@ impl Bank {
         ensures ready { IfOk result (IsReadyBank self.now) }
     {
         let states = resting(alloc, self.states, self.lines, state)?;
-        // (for the prover: a function knows what its type keeps where it uses a field.)
-        let _ = &self.net;
         Ok(Config {
             states: States::new(states),
             place: Place::Enter {

@@ -46,9 +46,6 @@ pub record CameSoFar (old now whole rest : List ℕ) : Type 0 where
   pub split : whole ≡ front ++ rest
   pub grown : now ≡ old ++ front
 
-pub none_came : (old whole : List ℕ) → CameSoFar old old whole whole
-none_came old whole = record { front = []; split = refl; grown = sym (append-nil old) }
-
 pub more_came : (old now later whole piece left rest : List ℕ) → CameSoFar old now whole rest → rest ≡ piece ++ left
     → later ≡ now ++ piece → CameSoFar old later whole left
 more_came old now later whole piece left rest h e more = record {

@@ -1,8 +1,6 @@
 -- The letters of a word, one after another.
-use Rattle.std.proofs.Common.{append_assoc, ◌≡◌, ◌≢◌, ◌<◌, ◌+◌, ◌++◌, ◌∷◌, ◌∙◌, ℕ, suc, List, []}
-use Rattle.std.proofs.Common.{length, take, drop, get_or}
-use Rattle.std.proofs.Common.{Option, Some, None, arith, sym, ap}
-use Rattle.std.proofs.Common.{subst, refl}
+use Rattle.std.proofs.Common.{append_assoc, ◌≡◌, ◌≢◌, ◌<◌, ◌+◌, ◌++◌, ◌∷◌, ◌∙◌, ℕ, suc, List, [], length, take, drop}
+use Rattle.std.proofs.Common.{get_or, Option, Some, None, arith, sym, ap, subst, refl}
 use Rattle.std.specs.Prelude.{Contains, IfSome, IfNone, MatchOption, slice_get}
 use Rattle.std.proofs.lemmas.List.{take_more, map-append, take-append-drop}
 use Rattle.std.proofs.lemmas.List.Elements.{All-push}
@@ -27,8 +25,7 @@ pub letter_at : (t : Named) (byte symbol : ℕ) → slice_get t.letters symbol �
 letter_at t byte symbol here = (
   symbol,
   slice_get_within t.letters symbol byte here,
-  get_or_from_slice_get t.letters
-      symbol byte byte here,
+  get_or_from_slice_get t.letters symbol byte byte here,
 )
 
 -- what a table's answer says of a byte that isn't the blank's letter

@@ -4,7 +4,7 @@ use Rattle.std.proofs.Common.{sym, ap, subst, ◌∙◌, append-nil}
 use Rattle.bn_circuits.specs.declared.place.Place.{Place}
 use Rattle.bn_io.specs.Told.{Grows, GrowsByFront}
 use Rattle.bn_reply.specs.Ends as written
-use Rattle.bn_reply.specs.Ends.{Finishes, FinishesReply}
+use Rattle.bn_reply.specs.Ends.{FinishesReply}
 use Rattle.bn_reply.specs.Replying.{IsReplied, IsUnfinished, untold, told_some}
 use Rattle.bn_reply.specs.Streams.{AnswerEnds, IsBegun, IsBroken, whole, cut, wanting, unbegun, begun}
 use Rattle.bn_table.specs.Reading.{Reads}
@@ -100,13 +100,6 @@ pub spelled_replies : (tells : List ℕ → Status → List ℕ → List Place �
     IfOk result (λ r. WordReplies tells t word r.status r.text.items [])
 spelled_replies tells t word symbols (Ok r) is answer = spelled symbols is answer
 spelled_replies tells t word symbols (Err e) is answer = tt
-
--- a reply that tells a watch nothing
-pub silent : (answers : Status → List ℕ → List Place → Type 0) (result : Result Reply WantOfMemory)
-    (told : Option (List Place)) →
-    IfOk result (λ r. answers r.status r.text.items []) → IfOk result (λ r. IsReplied answers r told told)
-silent answers (Ok r) told h = record { places = []; right = h; hears = hears-nothing told }
-silent answers (Err e) told h = tt
 
 -- the one text of an answer, where it is given in pieces after the watch has heard all places
 pub text_ends : (replies : Status → List ℕ → List Place → Type 0) (is : List ℕ → Type 0) (text : List ℕ)

@@ -10,8 +10,7 @@ use Rattle.bn_reply.specs.Lines.{foreign_line}
 use Rattle.bn_reply.specs.Words.{IsFirstForeign, IsSpelledBy}
 use Rattle.bn_reply.specs.Opened.{IsForeign}
 use Rattle.bn_reply.specs.TableReply.{JudgedReplies, unfit, fit, ReadsStandard, StandardReplies, TableReplies, faulty}
-use Rattle.bn_reply.specs.TableReply.{read, TellsFault, TellsWhy, WordReplies}
-use Rattle.bn_reply.specs.TableReply.{foreign, spelled}
+use Rattle.bn_reply.specs.TableReply.{read, TellsFault, TellsWhy, WordReplies, foreign, spelled}
 use Rattle.bn_reply.specs.declared.reply.Reply.{Reply}
 use Rattle.bn_reply.specs.declared.status.Status.{Status}
 use Rattle.bn_reply.specs.declared.status.Status.TheVariants as statuses

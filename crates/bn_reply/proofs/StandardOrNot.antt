@@ -10,14 +10,12 @@ use Rattle.bn_machine.specs.declared.quint.Quint.{Quint}
 use Rattle.bn_machine.specs.declared.quint.Shift.{Shift}
 use Rattle.bn_machine.specs.declared.quint.Shift.TheVariants.{Left, Stay, Right}
 use Rattle.bn_standard.specs.Standard.{BeginsWell, Clashes, EndsWell, HasLoneFinal, HasLoneStart, IsBeginning, IsEnding}
-use Rattle.bn_standard.specs.Standard.{IsStandard, IsUnambiguous, NamesFinal}
-use Rattle.bn_standard.specs.Standard.{NamesStart}
+use Rattle.bn_standard.specs.Standard.{IsStandard, IsUnambiguous, NamesFinal, NamesStart}
 use Rattle.bn_standard.specs.Verdict.{IsLeastFinal, IsLeastRepeat, IsLeastStart, IsStandardRefusal}
 use Rattle.bn_standard.specs.Search.{NoneBefore}
 use Rattle.bn_standard.proofs.SearchLemmas.{NoneRepeated, beginning_of, begins_well, ending_of, ends_well, least_final}
-use Rattle.bn_standard.proofs.SearchLemmas.{least_repeat, least_second}
-use Rattle.bn_standard.proofs.SearchLemmas.{least_start, lone_final, lone_start, no_repeat, none_before_more}
-use Rattle.bn_standard.proofs.SearchLemmas.{none_before_one, none_repeated_more, none_repeated_one}
+use Rattle.bn_standard.proofs.SearchLemmas.{least_repeat, least_second, least_start, lone_final, lone_start, no_repeat}
+use Rattle.bn_standard.proofs.SearchLemmas.{none_before_more, none_before_one, none_repeated_more, none_repeated_one}
 use Rattle.bn_standard.proofs.SearchLemmas.{unambiguous}
 use Rattle.bn_standard.specs.declared.why.Why.{Why}
 use Rattle.bn_standard.specs.declared.why.Why.TheVariants as whys
@@ -155,8 +153,7 @@ begins : (qs : List Quint) → BeginsWell qs ⊎ (BeginsWell qs → ⊥)
 begins [] = inr (λ b. let e = b.stands in absurd (cc))
 begins (q ∷ qs) = elim (beginning q) [
   | inl h ↦ inl (begins_well (q ∷ qs) q refl h)
-  | inr never
-      ↦ inr (λ b. never (beginning_of (q ∷ qs) q refl b))
+  | inr never ↦ inr (λ b. never (beginning_of (q ∷ qs) q refl b))
 ]
 
 starts : (qs : List Quint) → HasLoneStart qs ⊎ ((i : ℕ) × IsLeastStart qs i)

@@ -73,8 +73,7 @@ why_once t a b h k = h.told ∙ ap why_line (verdict_once t.machine.quints h.why
 pub why_told : (t : Named) (why : Why) (text : List ℕ) → IsStandardRefusal t.machine.quints why → why ≢ whys.NoMemory
     → text ≡ why_line why → TellsWhy t text
 why_told t why text first said told = record {
-  unfit = λ s. said
-      (standard_accepted t.machine.quints why s first);
+  unfit = λ s. said (standard_accepted t.machine.quints why s first);
   why = why;
   first = first;
   said = said;

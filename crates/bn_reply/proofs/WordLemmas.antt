@@ -26,8 +26,7 @@ symbol_letter t h symbol nonblank known =
       known = (
         symbol,
         known,
-        get_or_from_slice_get t.letters symbol (slice_index t.letters symbol)
-            (slice_index t.letters symbol) here,
+        get_or_from_slice_get t.letters symbol (slice_index t.letters symbol) (slice_index t.letters symbol) here,
       );
       apart = λ e. nonblank (h.apart symbol 0 blank (here ∙ ap (λ (b : ℕ). Some b) e) h.begins);
     }

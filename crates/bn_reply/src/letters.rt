@@ -15,12 +15,11 @@ const BLANK: u8 = b'_';
 pub(crate) fn symbol_of(table: &Table, byte: u8) -> Option<u32>
     ensures { MatchOption result (¬ IsLetterOf table.now byte) (IsSymbolOf table.now byte) }
 {
-    // The table's own facts: its symbol 0 is the blank, and no two symbols have one letter.
-    let _machine = table.machine();
+    let symbol = table.symbol_of(byte)?;
     if byte == BLANK {
         return None;
     }
-    table.symbol_of(byte)
+    Some(symbol)
 }
 
 /// Appends the letters of some symbols. After `NoMemory` the letters of the first of them may stand behind the text.

@@ -2,6 +2,7 @@
 //! or what is answered where there is none.
 
 ghost use Rattle.std.specs.Prelude.{◌≡◌, IfOk};
+ghost use Rattle.bn_table.specs.Rows.{FitsTable};
 ghost use Rattle.bn_reply.specs.Lines.{foreign_line, long_line};
 ghost use Rattle.bn_reply.specs.Opened.{IsJudged, IsOpenedTable, IsOpenedWord};
 
@@ -55,9 +56,11 @@ pub fn open_table(alloc: Global, bytes: &[u8]) -> Result<OpenedTable, NoMemory>
     }
 }
 
-/// Tests the standard form of a table's machine. What is handed on keeps that the machine passed.
+/// Tests the standard form of a table's machine. What is handed on keeps that the machine passed. Its contract also
+/// tells that the machine is within the limits of tables.
 pub fn judge_table(alloc: Global, table: &Table) -> Result<Judged<'_>, NoMemory>
-    ensures { IfOk result (IsJudged table.now) }
+    ensures judged { IfOk result (IsJudged table.now) }
+    ensures fits { FitsTable table.now.machine }
 {
     match check(alloc, table.machine()) {
         Ok(standard) => Ok(Judged::Standard(standard)),

@@ -19,9 +19,6 @@ module _ (R : Status → List ℕ → List Place → Type 0) where
     interrupted = tt;
   }
 
-  pub answered_none : (e : NoMemory) (told : Option (List Place)) → IsAnswered R (Err e) told told
-  answered_none e told = record { replied = tt; interrupted = untold (hears-nothing told) }
-
   -- a reply after all was told, and none
   pub answered_told : (r : Reply) (places : List Place) (told heard : Option (List Place))
       → R r.status r.text.items places → Hears told places heard → IsAnswered R (Ok r) told heard
@@ -49,8 +46,7 @@ module _ (R : Status → List ℕ → List Place → Type 0) where
     answered_as (Ok r) told heard h = record {
       replied = record {
         places = h.replied.places;
-        right = gives r.status r.text.items h.replied.places
-            h.replied.right;
+        right = gives r.status r.text.items h.replied.places h.replied.right;
         hears = h.replied.hears;
       };
       interrupted = tt;

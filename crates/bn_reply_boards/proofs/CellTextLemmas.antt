@@ -10,7 +10,7 @@ use Rattle.bn_reply_laws.specs.RunText.{cells_text, head_text, output_from, symb
 use Rattle.bn_reply_boards.specs.Shown.{HasLetter, HaveLetters, bounds_text}
 
 -- what is left of a list behind one more
-drop_one : {X : Type 0} (xs : List X) (k : ℕ) (d x : X) → k < length xs → get_or xs k d ≡ x
+pub drop_one : {X : Type 0} (xs : List X) (k : ℕ) (d x : X) → k < length xs → get_or xs k d ≡ x
     → drop k xs ≡ x ∷ drop (k + 1) xs
 drop_one xs k d x low is = rw (add-one, drop-cons xs k d, is) refl
 
@@ -26,8 +26,7 @@ module _ (t : Named) (tape : ℕ) where
   -- the cells from k on are that at k and those behind it
   pub cells_on : (cells : List (Option ℕ)) (k : ℕ) (d o : Option ℕ) → k < length cells → get_or cells k d ≡ o
       → cells_text t tape (drop k cells) ≡ cells_text t tape (o ∷ []) ++ cells_text t tape (drop (k + 1) cells)
-  cells_on cells k d o low is = ap (cells_text t tape) (drop_one cells k d o low is)
-      ∙ cell_first o (drop (k + 1) cells)
+  cells_on cells k d o low is = ap (cells_text t tape) (drop_one cells k d o low is) ∙ cell_first o (drop (k + 1) cells)
 
   pub none_left : (cells : List (Option ℕ)) (k : ℕ) → length cells ≤ k → cells_text t tape (drop k cells) ≡ []
   none_left cells k past = ap (cells_text t tape) (drop_all k cells past)

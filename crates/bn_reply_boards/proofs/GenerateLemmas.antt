@@ -46,8 +46,7 @@ generate_settled k h =
           let same = runs.one status other a.ran b.ran told heard a.runs b.runs in
           record {
             statuses = same.statuses;
-            texts = a.text_is ∙ ap (λ (t : List ℕ). title k ++ t) same.texts
-                ∙ sym b.text_is;
+            texts = a.text_is ∙ ap (λ (t : List ℕ). title k ++ t) same.texts ∙ sym b.text_is;
             places = same.places;
           };
       status = λ status text told a. runs.status status a.ran told a.runs;
@@ -111,8 +110,7 @@ module _ (k : ℕ) (l : Limits) (bytes : List ℕ) (l_is : l ≡ window k) (byte
       → IsAnswered (GenerateReplies k) (Err e) told heard
   none_within h = record {
     replied = tt;
-    interrupted = unfinished_behind k told heard
-        (runs_as (λ R. IsUnfinished R told heard) h);
+    interrupted = unfinished_behind k told heard (runs_as (λ R. IsUnfinished R told heard) h);
   }
 
   pub none_behind : (r : Reply) → IsReplied (RunReplies None number l bytes) r told heard

@@ -1,6 +1,6 @@
 -- A board that was made from a machine, a word and limits: it may be compiled, and its configuration has a text.
 use Rattle.std.specs.Prelude.{◌≡◌, ℕ, List, [], length, replicate, Option, Some, None, refl}
-use Rattle.std.proofs.Common.{arith, sym, ap, subst, ◌∙◌}
+use Rattle.std.proofs.Common.{arith, sym, subst, ◌∙◌}
 use Rattle.bn_circuits.specs.Circuits.{Circuit, IsCircuit, IsConfig, IsInputOf, IsOutputOf, target, source}
 use Rattle.bn_circuits.specs.declared.line.Line.{Line}
 use Rattle.bn_circuits.specs.declared.line.Wire.{Wire}
@@ -17,21 +17,16 @@ use Rattle.bn_netlist.specs.declared.packed_config.PackedConfig.{PackedConfig}
 use Rattle.bn_element.specs.Rotary.{rotary}
 use Rattle.bn_circuits.specs.declared.config.Config.{Config}
 use Rattle.bn_circuits.specs.declared.place.Place.{Place}
-use Rattle.bn_circuits.specs.declared.place.Place.TheVariants.{Enter, Left}
-use Rattle.bn_quad.specs.Quadruples.{Configuration, Quadruples}
-use Rattle.bn_network.specs.Controls.{ControlState}
-use Rattle.bn_network.specs.Starts.{start_from}
-use Rattle.bn_board_spec.specs.Boards.{IsBoard, board_start}
+use Rattle.bn_board_spec.specs.Boards.{IsBoard}
 use Rattle.bn_board_spec.specs.Flats.{Flat, flat_start}
 use Rattle.bn_board_spec.specs.Layouts.{Layout}
 use Rattle.bn_board.specs.Flattened.{Flattened, IsBoardKept}
 use Rattle.bn_reply.specs.declared.status.Status.{Status}
 use Rattle.bn_reply.specs.declared.status.Status.TheVariants as statuses
 use Rattle.bn_reply_laws.specs.Laws.{BoardsAreSpelled}
-use Rattle.bn_reply_laws.specs.CompileReply.{CompileReplies, IsBoardSpelling, IsFlatSpelling, TellsBoard}
-use Rattle.bn_reply_laws.specs.CompileReply.{TellsStart}
+use Rattle.bn_reply_laws.specs.CompileReply.{CompileReplies, IsBoardSpelling, IsFlatSpelling, TellsBoard, TellsStart}
 use Rattle.bn_reply_laws.proofs.SpelledLemmas.{board_targets, entered_once, left_once}
-use Rattle.bn_reply_boards.specs.Opened.{IsBoardAsked, IsBoardFor, IsMade, spelling_of_board}
+use Rattle.bn_reply_boards.specs.Opened.{IsBoardAsked, IsMade, spelling_of_board}
 use Rattle.bn_reply_circuits.specs.Unwritten.{WillReply}
 use Rattle.bn_reply_circuits.specs.declared.unwritten.Unwritten.TheVariants.{Packed}
 use Rattle.bn_reply_boards.proofs.AskedLemmas.{board_accepted, board_replies}
@@ -99,18 +94,6 @@ module _ (net : Circuit) (layout : Layout) (at_start : Config) (b : Flattened)
         } in
         subst (λ st. answers st text []) (sym written.0) (answer text start);
   }
-
--- the board of a machine at its start is spelled so
-pub board-spells : (m : Quadruples) (l : Limits) (c : Configuration ℕ) (names : List ControlState)
-    (network : Circuit) (b : Flattened) → IsBoardFor m l c names network b
-    → IsBoardSpelling network b.layout (board_start network.tables (start_from m l c)) (spelling_of_board b)
-board-spells m l c names network b h = record {
-  elements = elements_are network b.net h.is_board;
-  wires = h.is_board.wires;
-  config = h.config;
-  start = ap (λ (x : Line). Enter x.element x.line) h.start;
-  end = ap (λ (x : Line). Left x.element x.line) h.end;
-}
 
 -- ---- the board of a machine's translation
 

@@ -43,8 +43,7 @@ stuck_known p l i m j c fits (sticks stuck is) =
     let symbols : scanned m.tape ≡ c = cc in
     record {
       state = subst (λ s. s < p.states) states fits.state;
-      symbol = subst (λ s. s < p.symbols) symbols
-          (fits.symbols m.tape.head);
+      symbol = subst (λ s. s < p.symbols) symbols (fits.symbols m.tape.head);
     }
 stuck_known p l i m j c fits (runs_out d goes all is) = absurd (cc)
 stuck_known p l i m j c fits (leaves d side goes low beyond is) = absurd (cc)

@@ -22,7 +22,7 @@ use Rattle.bn_control.specs.Controlled.{IsWithinLimits}
 use Rattle.bn_board_spec.specs.Boards.{IsBoard, size, board_start}
 use Rattle.bn_board_spec.specs.Layouts.{IsLayout}
 use Rattle.bn_board_spec.specs.Flats.{Flat, IsFlatOf}
-use Rattle.bn_board_spec.proofs.LetterLemmas.{some_symbols}
+use Rattle.bn_bennett.proofs.Machines.{some_symbols}
 use Rattle.bn_assembly.specs.Assembled as assembled
 use Rattle.bn_assembly.specs.Assembled.{Assembled, IsAssembledFrom, IsWordOf, network_of}
 use Rattle.bn_board.specs.Flattened.{Flattened, IsFlattened, IsBoardKept}

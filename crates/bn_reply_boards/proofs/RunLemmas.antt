@@ -25,8 +25,7 @@ use Rattle.bn_board.specs.Flattened.{Flattened, IsSameBoard}
 use Rattle.bn_net.specs.Watching.{Hears}
 use Rattle.bn_reply.specs.declared.status.Status.{Status}
 use Rattle.bn_reply_laws.specs.Counts.{Counts}
-use Rattle.bn_reply_laws.specs.RunReply.{HasMoment, RunReplies, TellsRun, board_after, budget, reached}
-use Rattle.bn_reply_laws.specs.RunReply.{exit_status}
+use Rattle.bn_reply_laws.specs.RunReply.{HasMoment, RunReplies, TellsRun, board_after, budget, reached, exit_status}
 use Rattle.bn_reply_laws.specs.RunText.{run_text}
 use Rattle.bn_reply_laws.specs.Laws.{ExitsAreNamed, MomentsAreCounted, found_text}
 use Rattle.bn_reply_boards.specs.Opened.{IsBoardAsked, IsMade}
@@ -66,8 +65,7 @@ module _ (given : Option ℕ) (f : Flat) (m : Translation) (b : Flattened) (star
         shown = record {
           translation = start.shown.translation;
           layout = sym layout;
-          elements = start.shown.elements
-              ∙ ap (λ (net : Parts Rotary). length net.elements) (sym same.net);
+          elements = start.shown.elements ∙ ap (λ (net : Parts Rotary). length net.elements) (sym same.net);
         };
         config = config;
         is_exit = subst (λ (c : Config). IsExit f.layout c.place e) config

@@ -1,11 +1,11 @@
 -- What a board shows can be written: its cells show symbols of the table, and its place is a line of an element.
-use Rattle.std.specs.Prelude.{◌≡◌, ◌≢◌, ℕ, ◌*◌, ◌<◌, ◌≤◌, List, length, Option, Some, None, refl}
+use Rattle.std.specs.Prelude.{◌≡◌, ◌≢◌, ℕ, ◌*◌, ◌<◌, List, Option, Some, None, refl}
 use Rattle.std.specs.List.{range_with_len}
 use Rattle.std.specs.Option.{option_map}
 use Rattle.std.proofs.Common.{arith, sym, subst}
 use Rattle.std.proofs.lemmas.Bool.Decides.{nat_tests}
 use Rattle.std.proofs.lemmas.List.Elements.{All-map}
-use Rattle.std.proofs.lemmas.List.FromFn.{length-range_with_len, length-map-range_with_len}
+use Rattle.std.proofs.lemmas.List.FromFn.{length-range_with_len}
 use Rattle.std.proofs.lemmas.List.Quantifiers.{position-Some}
 use Rattle.bn_circuits.specs.Circuits.{IsConfig, IsPlace}
 use Rattle.bn_circuits.specs.declared.place.Place.{Place}
@@ -53,13 +53,6 @@ module _ (t : Named) (tape : ℕ) where
       (λ k d low. state_letter (symbol_count_at b tape) is (cell_state_at b states tape _)
       (λ q here. column_within states (cell_element b tape _) (2 * symbol_count_at b tape)
       (cell_line_count (symbol_count_at b tape)) q here))
-
--- tape 3 has a cell
-pub some_shown : (b : Layout) (states : List ℕ) → 1 ≤ length (cells_shown b states 3)
-some_shown b states =
-    let count = length-map-range_with_len (λ p. option_map (symbol_by (symbol_count_at b 3))
-    (cell_state_at b states 3 p)) 0 (cells_in b.limits 3) in
-    omega arith
 
 -- ---- places
 

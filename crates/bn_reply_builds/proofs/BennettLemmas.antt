@@ -1,42 +1,38 @@
 -- What is built of the table of Bennett's machine is what the one-tape machine is compiled to.
-use Rattle.std.specs.Prelude.{◌≡◌, ℕ, ◌+◌, ◌<◌, ◌≤◌, List, [], ◌∷◌, All, length, map, slice_index, slice_index_or, refl}
+use Rattle.std.specs.Prelude.{◌≡◌, ℕ, ◌<◌, ◌≤◌, List, [], ◌∷◌, All, length, map, slice_index, slice_index_or, refl}
 use Rattle.std.proofs.Common.{zero, suc, arith, sym, ap, subst, ◌∙◌, get_or}
 use Rattle.std.proofs.lemmas.List.{get_or-map, length-map}
 use Rattle.bn_circuits.specs.declared.place.Place.{Place}
 use Rattle.bn_machine.specs.Outcome.{Limits}
-use Rattle.bn_net.specs.declared.net.TheConstants.{MOST_ELEMENTS}
 use Rattle.bn_quad.specs.Calls.{IsUniformMachine}
 use Rattle.bn_quad.specs.Names.{Naming}
 use Rattle.bn_quad.specs.Quadruples.{Quadruples}
 use Rattle.bn_qtable.specs.Reading.{ReadsQuadruples}
-use Rattle.bn_qtable.specs.Rows.{IsQuadTableOf, quadruple_rows_by, table_of}
+use Rattle.bn_qtable.specs.Rows.{IsQuadTableOf, table_of}
 use Rattle.bn_qtable.specs.TapeWords.{Letters, One}
 use Rattle.bn_qtable.proofs.Writing.{entries-back}
 use Rattle.bn_table.specs.Laws.{TablesAreMachines}
 use Rattle.bn_table.specs.Rows.{FitsTable, IsTable, Named}
 use Rattle.bn_bennett.specs.Laws.{TranslationsAreTables, TranslationsAreUniform, TranslationsHaveNames}
 use Rattle.bn_bennett.specs.Printed.{one_byte, translation_names}
-use Rattle.bn_network.specs.Controls.{symbol_count}
-use Rattle.bn_network.specs.Networks.{IsNetwork, IsTape, network_start}
+use Rattle.bn_network.specs.Networks.{IsNetwork, network_start}
 use Rattle.bn_network.specs.Starts.{start_from, words_on}
 use Rattle.bn_network.specs.declared.limits.TheConstants.{MOST_SYMBOLS}
-use Rattle.bn_board_spec.specs.Boards.{board_start, size}
+use Rattle.bn_board_spec.specs.Boards.{board_start}
 use Rattle.bn_board_spec.specs.Flats.{Flat, flat_start}
 use Rattle.bn_board_spec.specs.Layouts.{IsLayout}
 use Rattle.bn_board_laws.proofs.NetworkReadLemmas.{networks-read}
-use Rattle.bn_build_laws.specs.Builds.{IsBuild, build_elements}
+use Rattle.bn_build_laws.specs.Builds.{IsBuild}
 use Rattle.bn_build_laws.proofs.StartLemmas.{one-word}
 use Rattle.bn_reply.specs.TableReply.{ReadsStandard, WordReplies, foreign, spelled}
 use Rattle.bn_reply.specs.Words.{IsLetterSymbol, IsSpelledBy}
-use Rattle.bn_reply.specs.declared.status.Status.{Status}
 use Rattle.bn_reply.specs.declared.status.Status.TheVariants.{Done}
 use Rattle.bn_reply.proofs.SettledLemmas.{standard_tells}
 use Rattle.bn_reply.proofs.TableLemmas.{reads_table}
-use Rattle.bn_reply_laws.specs.CompileReply.{CompileReplies, TellsBoard, TellsStart}
-use Rattle.bn_reply_laws.specs.ToldRuns.{IsGiven}
+use Rattle.bn_reply_laws.specs.CompileReply.{TellsBoard, TellsStart}
 use Rattle.bn_reply_laws.specs.Windows.{BoardReplies, ComesTo, board, large, long}
 use Rattle.bn_reply_laws.proofs.WindowLemmas.{standard_machine}
-use Rattle.bn_reply_tables.specs.NamedWords.{AreNamedBy, IsNamedBy, IsSymbolOn, names_of}
+use Rattle.bn_reply_tables.specs.NamedWords.{IsNamedBy, names_of}
 use Rattle.bn_reply_tables.specs.QuadReply.{passes}
 use Rattle.bn_reply_tables.specs.UniformReply.{uniform}
 use Rattle.bn_reply_tables.specs.WordsReply.{named}
@@ -68,8 +64,7 @@ word_named t word symbols h = record {
       let own = h.symbols_known k d inside in
       record {
         nonblank = own.letter;
-        known = subst (λ n. get_or symbols k d < n) (sym (length-map t.letters one_byte))
-            own.known;
+        known = subst (λ n. get_or symbols k d < n) (sym (length-map t.letters one_byte)) own.known;
       };
 }
 

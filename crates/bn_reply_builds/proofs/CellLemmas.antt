@@ -1,13 +1,9 @@
 -- The text of cells, one after another.
 use Rattle.std.specs.Prelude.{◌≡◌, ℕ, ◌+◌, ◌<◌, ◌≤◌, List, [], ◌∷◌, ◌++◌, length, drop, Option, Some, None, refl}
-use Rattle.std.proofs.Common.{add-one, drop-cons, get_or, sym, ap, ◌∙◌, append-nil}
+use Rattle.std.proofs.Common.{get_or, sym, ap, ◌∙◌, append-nil}
 use Rattle.std.proofs.lemmas.List.{drop_all}
 use Rattle.bn_reply_builds.specs.DriveText.{drive_cells_text, name_in}
-
--- what is left of a list behind one more
-drop_one : {X : Type 0} (xs : List X) (k : ℕ) (d x : X) → k < length xs → get_or xs k d ≡ x
-    → drop k xs ≡ x ∷ drop (k + 1) xs
-drop_one xs k d x low is = rw (add-one, drop-cons xs k d, is) refl
+use Rattle.bn_reply_boards.proofs.CellTextLemmas.{drop_one}
 
 module _ (names : List (List ℕ)) where
   cell_first : (o : Option ℕ) (cells : List (Option ℕ)) → drive_cells_text names (o ∷ cells) ≡ drive_cells_text names

@@ -20,7 +20,7 @@ use Rattle.bn_build_laws.specs.Builds.{Build, IsBuild, IsStart, build_elements}
 use Rattle.bn_build_laws.specs.Exits.{BoardLeaves, by_end, by_read, by_wait, by_window}
 use Rattle.bn_build_laws.specs.Runs.{BuildRunsTo}
 use Rattle.bn_build_laws.proofs.ConverseLemmas.{builds-tell, builds-once}
-use Rattle.bn_build_laws.proofs.RunLemmas.{stuck_at}
+use Rattle.bn_board_laws.proofs.ExitedLemmas.{stuck_at}
 use Rattle.bn_reply_builds.specs.DriveText.{drive_text, drive_exit_line, inside_line}
 use Rattle.bn_reply_builds.specs.Drives.{Drives, leaves, stays}
 use Rattle.bn_reply_builds.specs.DriveLaws.{DrivesHaveOneAnswer}

@@ -118,8 +118,7 @@ module _ (j : Joint) (e : Erasure) (t : QuadTable) (f : Build) (joint : IsJoint 
           let whole : HasExit everywhere e.machine.rules (final_state_of e.machine.rules) steps (start_of e x)
           (end_of e y) Finished =
           record {
-            run = run_of_goes everywhere e.machine steps (start_of e x) (end_of e y)
-                (theorem v w y first second);
+            run = run_of_goes everywhere e.machine steps (start_of e x) (end_of e y) (theorem v w y first second);
             ends = finishes refl refl;
           } in
           let stop : HasExit everywhere e.machine.rules (final_state_of e.machine.rules) tells.told.steps

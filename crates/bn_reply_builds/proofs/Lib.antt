@@ -12,7 +12,6 @@ pub mod BennettLemmas
 pub mod ScannedLemmas
 pub mod StopLemmas
 pub mod LineLemmas
-pub mod ExitLemmas
 pub mod ReadsLemmas
 pub mod CellLemmas
 pub mod AwaitLemmas

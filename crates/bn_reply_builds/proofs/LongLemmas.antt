@@ -23,8 +23,7 @@ module _ (l : Limits) (one two three : List ℕ) where
   not_long t n room (second_long first far at is) = let fits = room.on_two in omega (arith, far, fits)
   not_long t n room (third_long first second far at is) = let fits = room.on_three in omega (arith, far, fits)
 
-  pub long_once : (t u n k : ℕ) → IsFirstLong l one two three t n → IsFirstLong l one two three u k →
-      (t ≡ u) × (n ≡ k)
+  pub long_once : (t u n k : ℕ) → IsFirstLong l one two three t n → IsFirstLong l one two three u k → (t ≡ u) × (n ≡ k)
   long_once t u n k (first_long far at is) (first_long also there so) = (at ∙ sym there, is ∙ sym so)
   long_once t u n k (first_long far at is) (second_long fits also there so) = absurd (omega (arith, far, fits))
   long_once t u n k (first_long far at is) (third_long fits too also there so) = absurd (omega (arith, far, fits))

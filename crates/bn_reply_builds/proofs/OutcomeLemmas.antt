@@ -22,11 +22,11 @@ use Rattle.bn_board_spec.specs.Layouts.{IsExit, IsNamedExit, Layout, ends, insid
 use Rattle.bn_board_spec.specs.Layouts.{spelled_by, stuck, symbol_count_at, unnamed}
 use Rattle.bn_build_laws.specs.Builds.{Build, IsBuild}
 use Rattle.bn_build_laws.specs.Exits.{BoardLeaves, by_end, by_read, by_wait, by_window}
-use Rattle.bn_build_laws.proofs.RunLemmas.{none_low}
+use Rattle.bn_board_spec.proofs.StartingLemmas.{no_letters as none_low}
 use Rattle.bn_reply_builds.specs.declared.outcome.Outcome.TheVariants as outcome
 use Rattle.bn_reply_builds.specs.Outcomes.{outcome_by}
 use Rattle.bn_reply_builds.specs.Stopping.{IsLeftAtRead}
-use Rattle.bn_reply_builds.proofs.ExitLemmas.{IsApart, named_east, named_once}
+use Rattle.bn_board_spec.proofs.ExitLemmas.{IsApart, named_east, named_once}
 
 -- ---- a loose line of the control
 

@@ -18,7 +18,7 @@ use Rattle.bn_board_laws.proofs.NetworkReadLemmas.{networks-read}
 use Rattle.bn_build_laws.specs.Builds.{Build, IsBuild, IsStart}
 use Rattle.bn_build_laws.proofs.ComingLemmas.{initial_low}
 use Rattle.bn_build_laws.proofs.ConverseLemmas.{builds-tell}
-use Rattle.bn_build_laws.proofs.RunLemmas.{none_low}
+use Rattle.bn_board_spec.proofs.StartingLemmas.{no_letters as none_low}
 use Rattle.bn_reply_builds.specs.DriveLaws.{RenumberedBuildsTell, WordsAreRenumbered}
 
 count_is : (m : Quadruples) (n z : ℕ) → nth m.symbols (suc n) ≡ Some z → symbol_count m (suc n) ≡ z
@@ -64,8 +64,7 @@ word_renumbered : (g : ℕ → ℕ) → g 0 ≡ 0 → (word : List ℕ) → IsRe
 word_renumbered g blank word =
     record {
       head = refl;
-      cells = λ q. cell-word (map g word) q ∙ letter_renumbered g blank word q
-          ∙ ap g (sym (cell-word word q));
+      cells = λ q. cell-word (map g word) q ∙ letter_renumbered g blank word q ∙ ap g (sym (cell-word word q));
     }
 
 pub words-renumbered : WordsAreRenumbered

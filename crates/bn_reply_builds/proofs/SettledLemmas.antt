@@ -69,8 +69,7 @@ module _ (words : TapeWords) (tells : Build → Status → List ℕ → List Pla
       statuses.Size,
       large_line (build_elements f),
       [],
-      large few fits (build_elements f) counts great
-          refl refl refl,
+      large few fits (build_elements f) counts great refl refl refl,
     )
     | inr small ↦ answer (within small)
   ]

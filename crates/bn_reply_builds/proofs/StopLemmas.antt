@@ -1,5 +1,5 @@
 -- What each head scans where a machine is stuck at a read.
-use Rattle.std.specs.Prelude.{◌≡◌, ◌≢◌, ℕ, ◌+◌, ◌<◌, ◌≤◌, List, [], ◌∷◌, ◌++◌, Some, refl}
+use Rattle.std.specs.Prelude.{◌≡◌, ◌≢◌, ℕ, ◌+◌, ◌<◌, List, [], ◌∷◌, ◌++◌, Some, refl}
 use Rattle.std.proofs.Common.{zero, suc, arith, sym, ap, subst, ◌∙◌}
 use Rattle.bn_lists.specs.Lists.{nth}
 use Rattle.bn_machine.specs.Outcome.{Limits}
@@ -7,7 +7,7 @@ use Rattle.bn_machine.specs.Tape.{Tape, scanned}
 use Rattle.bn_quad.specs.Quadruples.{Configuration, Deed, Move, Quadruples, Rewrite, Rule, DeedApplies}
 use Rattle.bn_network.specs.Controls.{reads, symbols_read}
 use Rattle.bn_network.specs.Networks.{IsTape}
-use Rattle.bn_network_laws.specs.Ends.{read_by, tape_of}
+use Rattle.bn_network_laws.specs.Ends.{read_by}
 use Rattle.bn_network_laws.specs.Stops.{AdmitsBefore, DeedReads, deed_at, symbols_before, taken_to}
 use Rattle.bn_board_spec.specs.declared.spelled.Spelled.{Spelled}
 use Rattle.bn_board_spec.specs.Layouts.{tape_in}
@@ -17,21 +17,6 @@ use Rattle.bn_reply_builds.specs.declared.awaited.Read.{Read}
 use Rattle.bn_reply_builds.specs.Stopping.{IsAnswered}
 
 -- ---- what a quadruple reads before
-
--- the first symbol, where the first tape is read
-first_by : (d : Deed) (ds : List Deed) (x : Tape) → DeedReads d → DeedApplies d x
-    → (rest : List ℕ) × (symbols_read (reads 1 (d ∷ ds)) ≡ scanned x ∷ rest)
-first_by (Rewrite a w) ds x is applies =
-    (symbols_read (reads 2 ds), ap (λ s. s ∷ symbols_read (reads 2 ds)) (sym applies))
-first_by (Move s) ds x is applies = absurd is
-
-pub first_read : (r : Rule ℕ) (d : Configuration ℕ) (t : ℕ) → 1 < t → t ≤ 3 → AdmitsBefore r d t → DeedReads r.one
-    → (rest : List ℕ) × (symbols_before r t ≡ scanned d.one ∷ rest)
-first_read r d zero low high admits is = absurd (omega arith)
-first_read r d (suc zero) low high admits is = absurd (omega arith)
-first_read r d (suc (suc zero)) low high admits is = first_by r.one [] d.one is admits
-first_read r d (suc (suc (suc zero))) low high admits is = first_by r.one (r.two ∷ []) d.one is admits.0
-first_read r d (suc (suc (suc (suc t)))) low high admits is = absurd (omega arith)
 
 -- the last, where the second is read
 last_by : (d e : Deed) (x : Tape) → DeedReads e → DeedApplies e x
@@ -76,20 +61,8 @@ third_kept r d (suc (suc (suc (suc t)))) other is = absurd (let h = is.high in o
 
 module _ (m : Quadruples) (l : Limits) (read : Read) (answer : Answer) (shown : Spelled) (d : Configuration ℕ)
     (is : IsAnswered m l read answer shown d) where
-  -- on the tape that answered
-  pub on_tape : (t : ℕ) → answer.tape ≡ t → answer.symbol ≡ scanned (tape_of d t)
-  on_tape t same = is.symbol ∙ ap (λ u. scanned (tape_of d u)) same
-
   pub later : answer.tape ≢ 1 → 1 < answer.tape
   later other = let low = is.tape.low in omega (arith, other)
-
-  -- on a tape that was read before
-  pub first_before : answer.tape ≢ 1 → DeedReads is.rule.one
-      → (rest : List ℕ) × (listed read.before ≡ scanned d.one ∷ rest)
-  first_before other reads_it =
-      let found = first_read is.rule d answer.tape (later other) is.tape.high (is.begun (later other)).before reads_it
-      in
-      (found.0, is.before ∙ found.1)
 
   pub second_before : answer.tape ≡ 3 → DeedReads is.rule.two
       → (front : List ℕ) × (listed read.before ≡ front ++ (scanned d.two ∷ []))

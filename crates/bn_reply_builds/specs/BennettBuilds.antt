@@ -13,7 +13,6 @@ use Rattle.bn_board_spec.specs.Boards.{board_start}
 use Rattle.bn_board_spec.specs.Flats.{Flat, flat_start}
 use Rattle.bn_build_laws.specs.Builds.{Build}
 use Rattle.bn_reply.specs.TableReply.{ReadsStandard}
-use Rattle.bn_reply.specs.declared.status.Status.{Status}
 use Rattle.bn_reply.specs.declared.status.Status.TheVariants.{Done}
 use Rattle.bn_reply_laws.specs.CompileReply.{CompileReplies}
 use Rattle.bn_reply_laws.specs.ToldRuns.{IsGiven}

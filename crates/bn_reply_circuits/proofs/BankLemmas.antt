@@ -154,8 +154,7 @@ module _ (m : Machine) (state row : ℕ) (state_in : state < m.states) (row_in :
       } in
       let bank : IsBankSpelling m state row s = record {
         elements = refl;
-        wires = λ from to.
-            (ws.1.sound from to, ws.1.complete from to);
+        wires = λ from to. (ws.1.sound from to, ws.1.complete from to);
         config = refl;
         start = refl;
         end = refl;
@@ -174,8 +173,7 @@ module _ (m : Machine) (state row : ℕ) (state_in : state < m.states) (row_in :
           let leaves : from.element < bank_elements m = omega (arith, h.from_high) in
           let ends : to.element < bank_elements m = omega (arith, h.to_high) in (
             rw (rotary_outputs (bank_elements m) from.element leaves) h.from_line,
-            rw
-                (rotary_inputs (bank_elements m) to.element ends) h.to_line,
+            rw (rotary_inputs (bank_elements m) to.element ends) h.to_line,
           )
 
 -- a bank's net with its start spells the bank

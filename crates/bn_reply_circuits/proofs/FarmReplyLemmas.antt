@@ -32,9 +32,6 @@ use Rattle.bn_farm.proofs.ScheduleLemmas.{fault_once, faulty_none, schedule_once
 
 -- ---- boards and a schedule
 
-same_elements : (bs cs : List FarmBoard) → AreAllSame bs cs → elements_together cs ≡ elements_together bs
-same_elements bs cs same = sym (elements_same bs cs same)
-
 schedule_some : (bs : List FarmBoard) (bytes : List ℕ) → IsFarm bs → HasAnswer (ScheduleReplies bs bytes)
 schedule_some bs bytes good = by_schedule (schedule_or_fault (length bs) bytes)
   where
@@ -50,8 +47,7 @@ schedule_some bs bytes good = by_schedule (schedule_or_fault (length bs) bytes)
       statuses.Text,
       schedule_line (suc n) fault,
       [],
-      faulty n fault is refl refl
-          refl,
+      faulty n fault is refl refl refl,
     )
 
 -- boards that are the same but for the order of wires are answered alike
@@ -108,8 +104,7 @@ unread_or_not part = elim (texts-spell-or-fault part) [
 -- the fault of a part that has no reading
 fault_of : (part : List ℕ) → IsUnspelled part → (line : ℕ) × (fault : Fault) × IsFirstFault part line fault
 fault_of part none = elim (texts-spell-or-fault part) [
-  | inl said
-      ↦ absurd (none (record { version = said.0; spelling = said.1 }) said.2)
+  | inl said ↦ absurd (none (record { version = said.0; spelling = said.1 }) said.2)
   | inr fault ↦ fault
 ]
 

@@ -17,7 +17,7 @@ use Rattle.bn_reply.proofs.SettledLemmas.{agree}
 use Rattle.bn_reply.specs.declared.status.Status.{Status}
 use Rattle.bn_reply.specs.declared.status.Status.TheVariants.{Done, Text}
 use Rattle.bn_reply_laws.specs.CircuitReply.{Misspelled, fault_text}
-use Rattle.bn_reply_laws.proofs.SettledLemmas.{one_fault}
+use Rattle.bn_reply_laws.proofs.SettledLemmas.{one_fault, not_done}
 use Rattle.bn_reply_circuits.specs.MirrorReply.{Mirrored, MirrorIsSettled, MirrorReplies, mirrored, misspelled}
 use Rattle.bn_reply_circuits.specs.MirrorLaws.{IsUncounted, MirroredTextsComeBack}
 
@@ -26,8 +26,7 @@ use Rattle.bn_reply_circuits.specs.MirrorLaws.{IsUncounted, MirroredTextsComeBac
 -- the mirror that is written
 pub image_spelled : (bytes text : List ℕ) (a : Mirrored bytes text) → Spelled a.version a.image text
 image_spelled bytes text a = record {
-  admitted = mirrors-admitted a.version a.spelling a.image a.spelled.admitted
-      a.is_mirror;
+  admitted = mirrors-admitted a.version a.spelling a.image a.spelled.admitted a.is_mirror;
   is_text = a.written;
 }
 
@@ -63,8 +62,7 @@ by_spelling bytes (inr (line, fault, first)) = (
   Text,
   fault_text line fault,
   [],
-  misspelled
-      (record { line = line; fault = fault; first = first; written = refl }) refl refl,
+  misspelled (record { line = line; fault = fault; first = first; written = refl }) refl refl,
 )
 
 mirror_one : (bytes : List ℕ) → IsOneAnswer (MirrorReplies bytes)
@@ -92,9 +90,6 @@ mirror_settled bytes = record {
 -- ---- what the code replies
 
 -- ---- twice
-
-not_done : Done ≡ Text → ⊥
-not_done e = cc
 
 same_of_both : (s t u : Spelling) → AreSame s t → AreSame t u → AreSame s u
 same_of_both s t u a b =

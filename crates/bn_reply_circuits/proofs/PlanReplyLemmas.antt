@@ -120,8 +120,7 @@ one_plan bytes text second a b =
     (spelled_rotary b.version b.spelling bytes b.tells.wires b.spelled b.tells.listed)
     (λ w. (
       (λ h. (b.tells.listed.each w).1 (sym (same.targets w.from) ∙ (a.tells.listed.each w).0 h)),
-      λ h.
-          (a.tells.listed.each w).1 (same.targets w.from ∙ (b.tells.listed.each w).0 h),
+      λ h. (a.tells.listed.each w).1 (same.targets w.from ∙ (b.tells.listed.each w).0 h),
     ))
     a.tells.floor b.tells.floor in
     a.tells.written ∙ ap (λ n. plan_text n a.tells.plan) same.elements ∙ ap (plan_text b.spelling.elements) plans
@@ -155,8 +154,7 @@ by_spelling bytes (inr h) = (
   Text,
   fault_text h.0 h.1,
   [],
-  misspelled
-      (record { line = h.0; fault = h.1; first = h.2; written = refl }) refl refl,
+  misspelled (record { line = h.0; fault = h.1; first = h.2; written = refl }) refl refl,
 )
 
 plan_one : (bytes : List ℕ) → IsOneAnswer (PlanReplies bytes)

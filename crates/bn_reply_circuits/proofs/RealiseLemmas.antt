@@ -122,8 +122,7 @@ bank_to_all m q i some_state some_row = by_state (cases_lt m.states q)
       statuses.Size,
       _,
       [],
-      large
-          (record { state_in = there; row_in = row; many = over; told = refl }) refl refl,
+      large (record { state_in = there; row_in = row; many = over; told = refl }) refl refl,
     )
     by_count there row (inr few) =
         let state = less_one q some_state in
@@ -132,8 +131,7 @@ bank_to_all m q i some_state some_row = by_state (cases_lt m.states q)
           state_is = state.1;
           row_is = line.1;
           state_in = omega (arith, state.1);
-          row_in = omega
-              (arith, line.1);
+          row_in = omega (arith, line.1);
         } in
         let found = bank_spelled m state.0 line.0 place.state_in place.row_in few in (
           statuses.Done,
@@ -204,15 +202,13 @@ realise_some q i bytes some_state some_row (inr refused) = by_refusal refused.0 
       statuses.Machine,
       _,
       [],
-      clashing
-          (record { said = clash.SameDomain a b; clashes = is; some = (λ e. cc); told = refl }) refl refl,
+      clashing (record { said = clash.SameDomain a b; clashes = is; some = (λ e. cc); told = refl }) refl refl,
     )
     by_refusal (faults.SameRange a b) some is = (
       statuses.Machine,
       _,
       [],
-      clashing
-          (record { said = clash.SameRange a b; clashes = is; some = (λ e. cc); told = refl }) refl refl,
+      clashing (record { said = clash.SameRange a b; clashes = is; some = (λ e. cc); told = refl }) refl refl,
     )
     by_refusal faults.NoMemory some is = absurd (some refl)
 

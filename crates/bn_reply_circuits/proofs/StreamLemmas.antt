@@ -56,8 +56,7 @@ module _ (replies : List ℕ → Status → List ℕ → List Place → Type 0) 
     input = Whole bytes;
     gives = (
       record { lost = reads.lost; ended = all },
-      gave_within left after MOST_INPUT_BYTES longer bytes reads
-          none,
+      gave_within left after MOST_INPUT_BYTES longer bytes reads none,
     );
     ends = ends;
     later = record { read = counts_nothing (Whole bytes ≡ Failed) failed fails same; write = counts };

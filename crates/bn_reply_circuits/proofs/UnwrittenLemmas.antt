@@ -31,8 +31,7 @@ pub will_as : (P Q : Status → List ℕ → List Place → Type 0) → ((status
     (a : Unwritten) → WillReply P a → WillReply Q a
 will_as P Q each a h = record {
   writable = h.writable;
-  right = λ status text is. each status text
-      (h.right status text is);
+  right = λ status text is. each status text (h.right status text is);
 }
 
 -- given, it is an answer

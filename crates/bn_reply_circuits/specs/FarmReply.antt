@@ -33,8 +33,7 @@ fault_words malformed = codes "form"
 fault_words no_board = codes "board"
 
 abbrev pub schedule_line : ℕ → ScheduleFault → List ℕ
-schedule_line number fault =
-    line (codes "text: schedule line " ∷ decimal number ∷ codes " " ∷ fault_words fault ∷ [])
+schedule_line number fault = line (codes "text: schedule line " ∷ decimal number ∷ codes " " ∷ fault_words fault ∷ [])
 
 abbrev pub farm_elements_line : ℕ → List ℕ
 farm_elements_line count = line (codes "size: elements " ∷ decimal count ∷ [])

@@ -4,13 +4,11 @@ use Rattle.bn_lists.specs.declared.memory.NoMemory.{NoMemory as WantOfMemory}
 use Rattle.bn_netlist.specs.declared.refusal.FromRefusal.{FromRefusal}
 use Rattle.bn_netlist.specs.declared.refusal.FromRefusal.TheVariants as reading
 use Rattle.bn_netlist_laws.specs.Faults.{malformed, too_many, no_element, out_of_order, end_wired, left_wired}
-use Rattle.bn_netlist_laws.specs.Faults.{start_fed}
-use Rattle.bn_netlist_laws.specs.Faults.{second_source, spelled_out}
+use Rattle.bn_netlist_laws.specs.Faults.{start_fed, second_source, spelled_out}
 use Rattle.bn_netlist.specs.declared.line_refusal.NetlistRefusal.{NetlistRefusal}
 use Rattle.bn_netlist.specs.declared.line_refusal.NetlistRefusal.TheVariants.{Syntax, Order, Target, TwoSources}
-use Rattle.bn_netlist.specs.declared.line_refusal.NetlistRefusal.TheVariants.{StartFed}
-use Rattle.bn_netlist.specs.declared.line_refusal.NetlistRefusal.TheVariants.{EndWired, LeftWired, TooMany, Spelling}
-use Rattle.bn_netlist.specs.declared.line_refusal.NetlistRefusal.TheVariants.{NoMemory}
+use Rattle.bn_netlist.specs.declared.line_refusal.NetlistRefusal.TheVariants.{StartFed, EndWired, LeftWired, TooMany}
+use Rattle.bn_netlist.specs.declared.line_refusal.NetlistRefusal.TheVariants.{Spelling, NoMemory}
 use Rattle.bn_rsm.specs.declared.refusal.RsmRefusal.TheVariants as clash
 use Rattle.bn_rsmtable.specs.declared.refusal.RsmTableRefusal.{RsmTableRefusal}
 use Rattle.bn_rsmtable.specs.declared.refusal.RsmTableRefusal.TheVariants as faults

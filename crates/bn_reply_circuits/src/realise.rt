@@ -131,8 +131,6 @@ fn bank_config(
     requires line { line < rsm.now.lines }
     ensures { IfOk result (IsBankConfig rsm.now state line) }
 {
-    // The net's own fact: it is a circuit.
-    let _count = bank.net().len();
     let end = exit_line(rsm, state, line);
     let config = bank.start(alloc, state, line)?;
     Ok(NetConfig {

@@ -1,9 +1,8 @@
 -- What is answered to a build or a drive tells the board, whose steps can be taken back.
-use Rattle.std.specs.Prelude.{◌≡◌, ℕ, ◌+◌, ◌*◌, ◌≤◌, List, [], refl}
-use Rattle.std.proofs.Common.{sym, ap, subst, ◌∙◌}
-use Rattle.bn_lists.specs.Runs.{Reaches}
-use Rattle.bn_circuits.specs.Circuits.{Circuit, Goes, IsCircuit, clock}
-use Rattle.bn_circuits.specs.Stepping.{back, run}
+use Rattle.std.specs.Prelude.{ℕ, ◌+◌, ◌≤◌, List, [], refl}
+use Rattle.std.proofs.Common.{sym, subst}
+use Rattle.bn_circuits.specs.Circuits.{Circuit, IsCircuit}
+use Rattle.bn_circuits.specs.Stepping.{run}
 use Rattle.bn_circuits.specs.declared.config.Config.{Config}
 use Rattle.bn_circuits.specs.declared.place.Place.{Place}
 use Rattle.bn_circuits.proofs.RunPartLemmas.{runs-undo_in_part}

@@ -1,9 +1,7 @@
 -- Numbers of a build's run: its moments, and the elements that it enters.
 use Rattle.std.specs.Prelude.{◌≡◌, ℕ, ◌+◌, ◌-◌, ◌*◌, ◌<◌, ◌≤◌, Bool, replicate}
-use Rattle.std.specs.Prelude.{refl}
-use Rattle.std.proofs.Common.{zero, suc, arith, sym, ap, subst, ◌∙◌}
+use Rattle.std.proofs.Common.{zero, suc, arith, sym, ap, subst}
 use Rattle.bn_lists.specs.Runs.{Reaches}
-use Rattle.bn_element.specs.Rotary.{rotary}
 use Rattle.bn_element.specs.Tables.{Table}
 use Rattle.bn_circuits.specs.Circuits.{Circuit, Goes, IsCircuit, IsPlace, inputs_of, line_at}
 use Rattle.bn_circuits.specs.Counting.{tally}

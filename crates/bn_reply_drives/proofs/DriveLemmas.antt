@@ -30,7 +30,7 @@ use Rattle.bn_board.specs.Flattened.{Flattened, IsSameBoard}
 use Rattle.bn_build_laws.specs.Builds.{Build, IsStart, build_elements, start_of}
 use Rattle.bn_build_laws.specs.Exits.{BoardLeaves}
 use Rattle.bn_build_laws.specs.Runs.{BuildRunsTo, EndsInWindow}
-use Rattle.bn_build_laws.proofs.RunLemmas.{none_low}
+use Rattle.bn_board_spec.proofs.StartingLemmas.{no_letters as none_low}
 use Rattle.bn_reply_builds.specs.Drives.{Drives, leaves, stays}
 use Rattle.bn_reply_builds.specs.DriveText.{drive_exit_line, drive_text, inside_line}
 use Rattle.bn_reply_builds.proofs.DriveLemmas.{drives-once}

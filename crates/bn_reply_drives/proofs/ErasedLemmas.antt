@@ -1,9 +1,9 @@
 -- What `drive` answers to the table that `erase` wrote of two tables.
 use Rattle.std.specs.Prelude.{◌≡◌, ◌⊎◌, ℕ, ◌+◌, ◌*◌, ◌<◌, ◌≤◌, ℤ, List, [], ◌∷◌, ◌++◌, length, map, Option, Some, None}
 use Rattle.std.specs.Prelude.{codes, decimal, pos, ◌-ℤ◌, position, slice_get, slice_index, slice_index_or, refl}
-use Rattle.std.proofs.Common.{zero, suc, arith, sym, ap, subst, ◌∙◌, inl, inr, get_or}
+use Rattle.std.proofs.Common.{suc, arith, sym, ap, subst, ◌∙◌, inl, inr, get_or}
 use Rattle.std.proofs.lemmas.List.{length-map}
-use Rattle.std.proofs.lemmas.Option.{get_or_from_slice_get, slice_get-get_or, slice_get-map, same_Some}
+use Rattle.std.proofs.lemmas.Option.{get_or_from_slice_get, slice_get-get_or, slice_get-map}
 use Rattle.std.specs.List.{range_with_len}
 use Rattle.std.specs.Option.{option_map}
 use Rattle.std.specs.Ordering.{int_eq}
@@ -132,13 +132,11 @@ word_renumbered j joint renumber names keeps (b ∷ word) (s ∷ z) (y ∷ x) h 
     let rest = word_renumbered j joint renumber names keeps word z x
     (record {
       spelled = let both = h.spelled in cc;
-      symbols_known = λ i d within. h.symbols_known (suc i) d
-          (omega arith);
+      symbols_known = λ i d within. h.symbols_known (suc i) d (omega arith);
     })
     (record {
       letters = let both = k.letters in cc;
-      symbols_known = λ i d within. k.symbols_known (suc i) d
-          (omega arith);
+      symbols_known = λ i d within. k.symbols_known (suc i) d (omega arith);
     }) in
     λ i. same i ∷ rest i
   where

@@ -1,14 +1,12 @@
 -- What is answered to a drive tells the machine's own run.
-use Rattle.std.specs.Prelude.{◌≡◌, ℕ, ◌+◌, ◌-◌, ◌*◌, ◌<◌, ◌≤◌, ◌⊎◌, List, [], ◌∷◌, ◌++◌, length, Option, Some, None}
-use Rattle.std.specs.Prelude.{refl}
-use Rattle.std.specs.Prelude.{codes, replicate}
+use Rattle.std.specs.Prelude.{◌≡◌, ℕ, ◌+◌, ◌-◌, ◌*◌, ◌<◌, ◌≤◌, List, [], ◌++◌, length, Option, Some, refl, replicate}
 use Rattle.std.proofs.Common.{zero, suc, arith, sym, ap, subst, ◌∙◌, zero-add, inl, inr}
 use Rattle.std.proofs.lemmas.Bool.{cases_lt}
 use Rattle.bn_lists.specs.Runs.{Reaches}
 use Rattle.bn_element.specs.Rotary.{rotary, west}
 use Rattle.bn_circuits.specs.Circuits.{Goes, IsPlace, clock, inputs_of as inputs_of_table}
 use Rattle.bn_circuits.specs.Situations.{Situation}
-use Rattle.bn_circuits.specs.Stepping.{places, run}
+use Rattle.bn_circuits.specs.Stepping.{run}
 use Rattle.bn_circuits.specs.declared.config.Config.{Config}
 use Rattle.bn_circuits.specs.declared.place.Place.{Place}
 use Rattle.bn_circuits.specs.declared.place.Place.TheVariants.{Enter}
@@ -17,7 +15,7 @@ use Rattle.bn_circuits.proofs.RunLemmas.{run_stops}
 use Rattle.bn_circuits.proofs.RunPartLemmas.{steps_of_run}
 use Rattle.bn_machine.specs.Outcome.{Limits}
 use Rattle.bn_net.specs.declared.net.TheConstants.{MOST_ELEMENTS}
-use Rattle.bn_quad.specs.Quadruples.{Configuration, Quadruples, Rule, QuadruplesRunTo, final_state_of}
+use Rattle.bn_quad.specs.Quadruples.{Configuration, Quadruples, QuadruplesRunTo, final_state_of}
 use Rattle.bn_qtable.specs.Rows.{QuadTable}
 use Rattle.bn_qtable.specs.TapeWords.{TapeWords}
 use Rattle.bn_bennett_laws.specs.Stages.{rooms_of}
@@ -35,11 +33,11 @@ use Rattle.bn_build_laws.specs.Builds.{Build, IsStart, build_elements, start_of}
 use Rattle.bn_build_laws.specs.Exits.{BoardLeaves, by_end, by_read, by_wait, by_window}
 use Rattle.bn_build_laws.specs.Runs.{BuildRunsTo, EndsInWindow}
 use Rattle.bn_build_laws.proofs.ConverseLemmas.{builds-once}
-use Rattle.bn_build_laws.proofs.RunLemmas.{builds-run, none_low}
+use Rattle.bn_build_laws.proofs.RunLemmas.{builds-run}
+use Rattle.bn_board_spec.proofs.StartingLemmas.{no_letters as none_low}
 use Rattle.bn_build_laws.proofs.ThereLemmas.{builds-there}
 use Rattle.bn_reply_builds.specs.DriveText.{drive_exit_line, drive_text, inside_line}
 use Rattle.bn_reply_builds.specs.Drives.{Drives, leaves, stays}
-use Rattle.bn_reply_builds.proofs.DriveLemmas.{drives-once}
 use Rattle.bn_reply.specs.declared.status.Status.{Status}
 use Rattle.bn_reply.specs.declared.status.Status.TheVariants as statuses
 use Rattle.bn_reply_laws.specs.RunText.{elements_line, quadruple_line, steps_line}
@@ -51,10 +49,9 @@ use Rattle.bn_reply_builds.specs.BuildReply.{BuiltReplies, IsBuiltFor, SizedRepl
 use Rattle.bn_reply_builds.specs.Buildable.{IsBuildable}
 use Rattle.bn_reply_builds.proofs.BuiltLemmas.{build_begins, build_count}
 use Rattle.bn_reply_builds.proofs.TableFacts.{buildable, inputs_of, letters_of}
-use Rattle.bn_reply_drives.specs.DriveHeadline.{DrivesTellTheirMachine, IsGiven, IsOwnRun, ShowsEnd, TellsDriven}
-use Rattle.bn_reply_drives.specs.DriveHeadline.{TellsEnd, TellsInside, TellsOwnRun, at_read, drive_lines, finished}
-use Rattle.bn_reply_drives.specs.DriveHeadline.{leaving, unleft}
-use Rattle.bn_reply_drives.specs.DriveReply.{DriveReplies}
+use Rattle.bn_reply_drives.specs.DriveHeadline.{DrivesTellTheirMachine, IsGiven, IsOwnRun, ShowsEnd, TellsEnd}
+use Rattle.bn_reply_drives.specs.DriveHeadline.{TellsInside, TellsOwnRun, at_read, drive_lines, finished, leaving}
+use Rattle.bn_reply_drives.specs.DriveHeadline.{unleft}
 use Rattle.bn_reply_drives.specs.Driven.{TellsDrive, drive_status}
 use Rattle.bn_reply_builds.specs.Outcomes.{drive_tape_lines}
 use Rattle.bn_reply_drives.proofs.CountLemmas.{first_within, input_within, reached_place, some_elements, tally_part}

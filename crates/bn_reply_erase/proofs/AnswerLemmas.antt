@@ -25,10 +25,10 @@ use Rattle.bn_reply.specs.declared.reply.Reply.{Reply}
 use Rattle.bn_lists.specs.declared.memory.NoMemory.{NoMemory as WantOfMemory}
 use Rattle.bn_reply.specs.declared.status.Status.{Status}
 use Rattle.bn_reply.proofs.TableLemmas.{reads_table, why_told}
-use Rattle.bn_reply_erase.specs.EraseReply.{TellsErasing, lettered, outcome_text, erasing_status}
-use Rattle.bn_reply_erase.specs.EraseRun.{AreOf, FitsLetters, HasEnded, outcome_of}
+use Rattle.bn_reply_erase.specs.EraseReply.{lettered}
+use Rattle.bn_reply_erase.specs.EraseRun.{AreOf, FitsLetters, HasEnded}
 use Rattle.bn_reply_erase.specs.Opened.{IsUnfitPair, first_unfit, nothing, second_unfit}
-use Rattle.bn_reply_erase.specs.Pairs.{PairReplies, with_second}
+use Rattle.bn_reply_erase.specs.Pairs.{PairReplies}
 use Rattle.bn_reply_erase.specs.Pairs as pairs
 use Rattle.bn_reply_erase.specs.declared.run.Ending.{Ending}
 use Rattle.bn_reply_erase.specs.declared.run.Ending.TheVariants.{Halted, Stuck, Running}
@@ -144,17 +144,3 @@ module _ (j : Joint) (first second : Program) (h : AreOf j first second) (e : Er
       )
   ending_fits (Stuck state) ended = ended.state j.first j.second own h.first_standard h.second_standard
   ending_fits Running ended = tt
-
-  pub ended_tells : (ending : Ending) (result : Result Reply WantOfMemory) → HasEnded e symbols n i ending
-      → IfOk result (λ r. r.status ≡ erasing_status (outcome_of e ending)) →
-      IfOk result (λ r. r.text.items ≡ outcome_text j i (outcome_of e ending))
-      → IfOk result (λ r. TellsErasing j n symbols r.status r.text.items [])
-  ended_tells ending (Ok r) ended status text = record {
-    steps = i;
-    outcome = outcome_of e ending;
-    comes_out = ended.comes_out j.first j.second own h.first_standard h.second_standard;
-    status_is = status;
-    text_is = text;
-    silent = refl;
-  }
-  ended_tells ending (Err _) ended status text = tt

@@ -119,6 +119,5 @@ pub erasing_runs_tell_both : ErasingRunsTellBoth
 erasing_runs_tell_both bytes word t u symbols n status text told h replies =
     let run = told_run bytes word t u symbols n h status text told replies in (
       tells_halt bytes word t u symbols n h status text told run,
-      halt_told bytes word t u symbols n h status text told
-          run,
+      halt_told bytes word t u symbols n h status text told run,
     )

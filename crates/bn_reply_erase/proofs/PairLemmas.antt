@@ -8,7 +8,7 @@ use Rattle.bn_standard.specs.Standard.{IsStandard}
 use Rattle.bn_reply.specs.Answering.{HasAnswer, IsOneAnswer, IsSettled}
 use Rattle.bn_reply.specs.Codes.{IsReplyStatus}
 use Rattle.bn_base.specs.Cuts.{IsCut}
-use Rattle.bn_reply.specs.TableReply.{JudgedReplies, TableReplies, TellsFault, TellsWhy}
+use Rattle.bn_reply.specs.TableReply.{JudgedReplies, TellsFault, TellsWhy}
 use Rattle.bn_reply.specs.TableReply as table_reply
 use Rattle.bn_reply.specs.declared.status.Status.{Status}
 use Rattle.bn_reply.specs.declared.status.Status.TheVariants as statuses

@@ -89,8 +89,7 @@ module _ (j : Joint) (n : ℕ) (symbols : List ℕ) (first : IsStandardMachine j
   run_settled = record {
     some = run_some;
     one = run_one;
-    status = λ s text told h. subst IsReplyStatus (sym h.status_is)
-        (outcome_answers h.outcome);
+    status = λ s text told h. subst IsReplyStatus (sym h.status_is) (outcome_answers h.outcome);
   }
 
   long_some : (MOST_COUNT < length symbols) ⊎ (length symbols ≤ MOST_COUNT) → HasAnswer (LongReplies j n symbols)

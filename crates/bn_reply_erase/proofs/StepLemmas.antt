@@ -10,9 +10,6 @@ use Rattle.bn_quad.specs.declared.tapes.QuadTurn.TheVariants as turns
 use Rattle.bn_bennett.proofs.CallByCall.{rooms_same, windows_on}
 use Rattle.bn_reply_erase.specs.EraseRun.{IsRun, IsStep, Reached}
 
-pub none_made : (p : Quadruples) (state : ℕ) (w : Tapes) → Reached p 0 state w state w
-none_made p state w = record { same = record { one = refl; two = refl; three = refl }; run = refl }
-
 pub one_step_more : (p : Quadruples) (made state : ℕ) (w : Tapes) (at : ℕ) (v : Tapes) (quad after : ℕ) (u : Tapes)
     → Reached p made state w at v →
     IsQuadTurn p (turns.Moved quad) at v after u → Reached p (made + 1) state w after u

@@ -21,8 +21,7 @@ use Rattle.bn_reply.specs.declared.status.Status.{Status}
 use Rattle.bn_reply.specs.declared.status.Status.TheVariants as statuses
 use Rattle.bn_reply_erase.specs.Pairs.{PairReplies}
 use Rattle.bn_base.specs.declared.limits.TheConstants.{MOST_COUNT}
-use Rattle.bn_reply.specs.Lines.{long_line}
-use Rattle.bn_reply.specs.Lines.{running_line}
+use Rattle.bn_reply.specs.Lines.{long_line, running_line}
 
 -- ---- the machine
 
@@ -107,8 +106,7 @@ pub data LongReplies (j : Joint) (n : ℕ) (symbols : List ℕ) (status : Status
 
 -- what `erase =W n` answers to these bytes: the run of the erasing machine from the word, of at most n steps
 abbrev pub EraseRunReplies : List ℕ → ℕ → List ℕ → Status → List ℕ → List Place → Type 0
-EraseRunReplies word n =
-    PairReplies (λ t u. WordReplies (LongReplies (joined t u) n) (lettered (joined t u)) word)
+EraseRunReplies word n = PairReplies (λ t u. WordReplies (LongReplies (joined t u) n) (lettered (joined t u)) word)
 
 -- ---- each has one answer to all bytes
 

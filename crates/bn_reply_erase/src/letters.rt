@@ -31,12 +31,11 @@ pub(crate) fn open_word(alloc: Global, joined: &Joined, word: &[u8]) -> Result<O
 fn symbol_of(joined: &Joined, byte: u8) -> Option<u32>
     ensures { MatchOption result (¬ IsLetterOf (lettered joined.now) byte) (IsSymbolOf (lettered joined.now) byte) }
 {
-    // What two machines over one alphabet keep: symbol 0 is the blank, and no two symbols have one letter.
-    let _machine = joined.first();
+    let symbol = joined.symbol_of(byte)?;
     if byte == BLANK {
         return None;
     }
-    joined.symbol_of(byte)
+    Some(symbol)
 }
 
 /// Appends the letters of some symbols.

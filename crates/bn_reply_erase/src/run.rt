@@ -118,8 +118,6 @@ fn ending_after(
 fn word_on(alloc: Global, tape: &Tape) -> Result<Vec<u32>, NoMemory>
     ensures { IfOk result (λ y. IsOutput (rewound tape.now.tape) y.items) }
 {
-    // the head's position itself isn't used, but that it is known shows that all letters lie in the window
-    let _head = tape.head();
     let mut word = Vec::new(alloc);
     let mut position = 1;
     while let Some(symbol) = letter_at(tape, position) {

@@ -3,7 +3,8 @@ use Rattle.std.specs.Prelude.{◌-◌}
 use Rattle.bn_table.proofs.MachineLemmas.{tables_machines}
 use Rattle.bn_bennett.proofs.Once.{translations_are_one}
 use Rattle.bn_board_spec.proofs.ExitLemmas.{exits-one}
-use Rattle.bn_board_laws.proofs.ClosedLemmas.{controls, read_off, run_to_exit, have_moments, flats_one, flats_there}
+use Rattle.bn_board_laws.proofs.ClosedLemmas.{read_off, run_to_exit, have_moments, flats_one, flats_there}
+use Rattle.bn_network.proofs.LawLemmas.{controls_are_one as controls}
 use Rattle.bn_reply_laws.specs.CompileReply.{CompileIsSettled}
 use Rattle.bn_reply_laws.specs.RunReply.{RunIsSettled}
 use Rattle.bn_reply_laws.specs.Laws.{AnswersTellHeadline, BoardsAreCounted, MomentsAreCounted}

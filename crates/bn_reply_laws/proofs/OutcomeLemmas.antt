@@ -29,9 +29,8 @@ use Rattle.bn_board_laws.proofs.CountLemmas.{before_end, costs-one, places_stop}
 use Rattle.bn_board_laws.proofs.OutcomeLemmas.{at_cost, not_unnamed}
 use Rattle.bn_reply.specs.declared.status.Status.TheVariants as statuses
 use Rattle.bn_reply_laws.specs.Counts.{Counts}
-use Rattle.bn_reply_laws.specs.RunText.{elements_line, exit_line, output_from, output_line, quadruple_line}
-use Rattle.bn_reply_laws.specs.RunText.{rest_text, run_text, shown_lines, state_text}
-use Rattle.bn_reply_laws.specs.RunText.{steps_line, stuck_line, tape_lines}
+use Rattle.bn_reply_laws.specs.RunText.{elements_line, exit_line, output_from, output_line, quadruple_line, rest_text}
+use Rattle.bn_reply_laws.specs.RunText.{run_text, shown_lines, state_text, steps_line, stuck_line, tape_lines}
 use Rattle.bn_reply_laws.specs.RunReply.{HasMoment, TellsRun, board_after, exit_status}
 use Rattle.bn_reply_laws.specs.ToldRuns.{outcome_line, outcome_rest, outcome_status}
 use Rattle.bn_reply_laws.specs.Laws.{MomentsAreCounted, RunsStopWithin, RunsTellOutcomes}
@@ -197,8 +196,7 @@ runs-stop_within machines exits boards bytes letters l t symbols f e status text
         let is = begun i o ran same one low in (
           ((λ _. low), (λ _. tells.status_is ∙ ap exit_status is)),
           (λ high. absurd (omega arith)),
-          (λ _. tells.text_is
-              ∙ ap (run_text t f d (tells.moments - 1)) is),
+          (λ _. tells.text_is ∙ ap (run_text t f d (tells.moments - 1)) is),
         )
     by_order i o ran same one (inr high) =
         let left : status ≢ statuses.Inside = λ h. not_inside f o tells.exit (ended i o ran same one high)

@@ -82,6 +82,5 @@ halted_fits p word l i y h = by_end h.moment h.ends
         let same : z ≡ y = cc in
         let far = (room (length z + 1) (omega arith) (omega arith)).output in (
           subst (λ w. length w ≤ l.output) same (omega arith),
-          subst
-              (λ (w : List ℕ). (k : ℕ) → k < length w → slice_index w k ≢ 0) same output.letters,
+          subst (λ (w : List ℕ). (k : ℕ) → k < length w → slice_index w k ≢ 0) same output.letters,
         )

@@ -51,8 +51,7 @@ exits-named boards p symbols l f flat accepted n =
               named_of f.layout (board_after f ran.cost).place ran.exit ran.is_exit
               (not_unnamed f o ran.exit ran.for_outcome) in (
                 ran.exit,
-                subst (λ (c : Config). IsNamedExit f.layout c.place ran.exit)
-                    (sym (at_cost p f i o ran n high)) there,
+                subst (λ (c : Config). IsNamedExit f.layout c.place ran.exit) (sym (at_cost p f i o ran n high)) there,
               ))
         ]
 

@@ -1,6 +1,6 @@
 -- The replies of the commands on configuration texts, of which there is one and only one.
-use Rattle.std.specs.Prelude.{◌≡◌, ℕ, List, [], Option, Some, None, replicate, ◌⊎◌, refl}
-use Rattle.std.proofs.Common.{zero, suc, inl, inr, sym, ap, subst, ◌∙◌}
+use Rattle.std.specs.Prelude.{◌≡◌, ℕ, List, [], replicate, ◌⊎◌, refl}
+use Rattle.std.proofs.Common.{inl, inr, sym, ap, subst, ◌∙◌}
 use Rattle.bn_circuits.specs.Circuits.{Circuit, IsCircuit, IsConfig}
 use Rattle.bn_circuits.specs.declared.place.Place.{Place}
 use Rattle.bn_circuits.specs.declared.config.Config.{Config}
@@ -25,8 +25,7 @@ use Rattle.bn_netlist_laws.proofs.VersionLemmas.{admission-rises, spellings-move
 use Rattle.bn_netlist_laws.proofs.DecideLemmas.{texts-spell-or-fault}
 use Rattle.bn_reply_laws.specs.CircuitReply.{fault_text, Misspelled}
 use Rattle.bn_reply_laws.specs.MigrateReply.{Migrated}
-use Rattle.bn_reply_laws.specs.CircuitReply.{BackReplies, StepReplies, Walked, CircuitReplies}
-use Rattle.bn_reply_laws.specs.CircuitReply.{CircuitIsSettled}
+use Rattle.bn_reply_laws.specs.CircuitReply.{BackReplies, StepReplies, Walked, CircuitReplies, CircuitIsSettled}
 use Rattle.bn_reply_laws.specs.MigrateReply.{MigrateIsSettled, MigrateReplies, MigratedStays}
 use Rattle.bn_reply_laws.specs.CircuitReply.{misspelled, walked}
 use Rattle.bn_reply_laws.specs.MigrateReply.{faulty, migrated}
@@ -123,8 +122,7 @@ module _ (goes : Circuit → Config → Config) (tells : Circuit → Config → 
     Text,
     _,
     [],
-    misspelled
-        (record { line = line; fault = fault; first = first; written = refl }) refl refl,
+    misspelled (record { line = line; fault = fault; first = first; written = refl }) refl refl,
   )
 
   walk_one : (bytes : List ℕ) → IsOneAnswer (CircuitReplies goes tells bytes)
@@ -159,15 +157,6 @@ pub back_settled : (e : ℕ) (bytes : List ℕ) → IsSettled (BackReplies e byt
 back_settled e = circuit_settled (λ k c. back k c e) (λ k c. places_back k e c) (λ k m same c. back-alike k m same c e)
     (λ k m same c. places_back-alike k m same e c) (λ k circuit c config. back-IsConfig k circuit c config e)
 
--- the statuses of their answers
-pub step_status : (e : ℕ) (bytes : List ℕ) (status : Status) (text : List ℕ) (told : List Place)
-    → StepReplies e bytes status text told → IsReplyStatus status
-step_status e bytes = (step_settled e bytes).status
-
-pub back_status : (e : ℕ) (bytes : List ℕ) (status : Status) (text : List ℕ) (told : List Place)
-    → BackReplies e bytes status text told → IsReplyStatus status
-back_status e bytes = (back_settled e bytes).status
-
 pub circuits_settled : CircuitIsSettled
 circuits_settled e bytes = (step_settled e bytes, back_settled e bytes)
 
@@ -197,15 +186,13 @@ migrate_some bytes (inl (v, s, is)) =
       Done,
       text.0,
       [],
-      migrated (record { version = v; spelling = s; spelled = is; written = text.1.is_text }) refl
-          refl,
+      migrated (record { version = v; spelling = s; spelled = is; written = text.1.is_text }) refl refl,
     )
 migrate_some bytes (inr (line, fault, first)) = (
   Text,
   _,
   [],
-  faulty
-      (record { line = line; fault = fault; first = first; written = refl }) refl refl,
+  faulty (record { line = line; fault = fault; first = first; written = refl }) refl refl,
 )
 
 migrate_one : (bytes : List ℕ) → IsOneAnswer (MigrateReplies bytes)
@@ -230,7 +217,7 @@ migrate_settled bytes = record {
   status = migrate_status bytes;
 }
 
-not_done : Done ≡ Text → ⊥
+pub not_done : Done ≡ Text → ⊥
 not_done e = cc
 
 pub migrated-stays : MigratedStays

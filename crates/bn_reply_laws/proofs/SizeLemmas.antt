@@ -1,23 +1,20 @@
 -- How long a configuration text is.
 use Rattle.std.specs.Prelude.{◌≡◌, ℕ, ◌+◌, ◌-◌, ◌*◌, ◌<◌, ◌≤◌, List, [], ◌∷◌, ◌++◌, length, replicate, slice_get}
 use Rattle.std.specs.Prelude.{slice_index, Option, Some, None, codes, decimal, refl}
-use Rattle.std.proofs.Common.{zero, suc, arith, sym, ap, subst, ◌∙◌}
+use Rattle.std.proofs.Common.{zero, suc, arith, sym, ap, subst}
 use Rattle.std.proofs.lemmas.Fmt.{length-decimal-le}
 use Rattle.std.proofs.lemmas.List.{length-append, length-replicate}
 use Rattle.std.proofs.lemmas.Option.{slice_get_within}
 use Rattle.bn_circuits.specs.Circuits.{IsPlace, inputs_of, outputs_of, line_at, target}
 use Rattle.bn_circuits.specs.declared.line.Line.{Line}
-use Rattle.bn_circuits.specs.declared.line.Wire.{Wire}
 use Rattle.bn_circuits.specs.declared.place.Place.{Place}
 use Rattle.bn_circuits.specs.declared.place.Place.TheVariants.{Enter, Left}
 use Rattle.bn_element.specs.Rotary.{rotary, north, east, south, west}
 use Rattle.bn_element.specs.Tables.{Table}
-use Rattle.bn_net.specs.declared.net.TheConstants.{MOST_ELEMENTS}
 use Rattle.bn_netlist_laws.specs.Sentences.{Sentence, Title, Count, Start, End, Steps, At, Element, Column, Row}
 use Rattle.bn_netlist_laws.specs.Sentences.{bar_letters, line_text, lines_text}
 use Rattle.bn_netlist_laws.specs.Sentences.{place_text, sentence_text, side_letters, target_text, targets_text}
-use Rattle.bn_netlist_laws.specs.Spelling.{Admits, AreEntries, Spelled, Spelling, circuit_of, column_entry}
-use Rattle.bn_netlist_laws.specs.Spelling.{element_entry}
+use Rattle.bn_netlist_laws.specs.Spelling.{Admits, AreEntries, Spelling, circuit_of, column_entry, element_entry}
 use Rattle.bn_netlist_laws.specs.Spelling.{most_elements, no_entry, row_sentences, targets_of}
 use Rattle.bn_netlist_laws.specs.declared.version.Version.{Version}
 use Rattle.bn_netlist_laws.specs.declared.version.Version.TheVariants.{One, Two}

@@ -31,7 +31,8 @@ use Rattle.bn_network.proofs.LineLemmas.{lines_some}
 use Rattle.bn_network_laws.proofs.CellRowLemmas.{cells_later}
 use Rattle.bn_board_spec.specs.Boards.{AreModules, IsBoard, IsBoardWire, own, between, StandsFor, bars_of, base}
 use Rattle.bn_board_spec.specs.Boards.{board_start, on_board, size, size_of}
-use Rattle.bn_board_spec.proofs.ModuleLemmas.{bank_within, banks_apart, input_once, one_table, output_once, wired_input}
+use Rattle.bn_board_spec.proofs.ModuleLemmas.{banks_apart, input_once, one_table, output_once, wired_input}
+use Rattle.bn_board_spec.proofs.BankedLemmas.{base-within as bank_within}
 use Rattle.bn_board_spec.proofs.ModuleLemmas.{wired_output}
 use Rattle.bn_board_spec.proofs.MovedLemmas.{in_bank}
 use Rattle.bn_board_spec.specs.Layouts.{Layout, IsLayout, end_place, lines_at}
@@ -80,9 +81,6 @@ bars_low (t ∷ ts) (r ∷ qs) e q h =
     q h
 
 -- ---- the network's wires
-
-element_of : (a b : Line) → a ≡ b → a.element ≡ b.element
-element_of a b same = ap (λ (x : Line). x.element) same
 
 number_of : (a b : Line) → a ≡ b → a.line ≡ b.line
 number_of a b same = ap (λ (x : Line). x.line) same

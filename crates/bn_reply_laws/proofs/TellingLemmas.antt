@@ -34,15 +34,12 @@ use Rattle.bn_reply.specs.declared.status.Status.TheVariants as statuses
 use Rattle.bn_reply_laws.specs.Counts.{Counts}
 use Rattle.bn_reply_laws.specs.Windows.{ComesTo}
 use Rattle.bn_reply_laws.specs.CompileReply.{CompileIsSettled, TellsStart}
-use Rattle.bn_reply_laws.specs.RunText.{elements_line, exit_line, output_from, output_line, quadruple_line}
-use Rattle.bn_reply_laws.specs.RunText.{rest_text, run_text, shown_lines, state_text}
-use Rattle.bn_reply_laws.specs.RunText.{steps_line, stuck_line, tape_lines}
-use Rattle.bn_reply_laws.specs.RunReply.{HasMoment, RunIsSettled, TellsRun, board_after, budget, reached}
-use Rattle.bn_reply_laws.specs.RunReply.{exit_status}
+use Rattle.bn_reply_laws.specs.RunText.{elements_line, exit_line, output_from, output_line, quadruple_line, rest_text}
+use Rattle.bn_reply_laws.specs.RunText.{run_text, shown_lines, state_text, steps_line, stuck_line, tape_lines}
+use Rattle.bn_reply_laws.specs.RunReply.{HasMoment, RunIsSettled, TellsRun, board_after, budget, reached, exit_status}
 use Rattle.bn_reply_laws.specs.ToldRuns.{IsGiven}
 use Rattle.bn_reply_laws.specs.Laws.{BoardsAreCounted, BoardsAreSpelled, BoardsHaveRuns, BoardsTellAlike}
-use Rattle.bn_reply_laws.specs.Laws.{BoardsTellRuns, ExitsAreNamed, MomentsAreCounted}
-use Rattle.bn_reply_laws.specs.Laws.{found_text}
+use Rattle.bn_reply_laws.specs.Laws.{BoardsTellRuns, ExitsAreNamed, MomentsAreCounted, found_text}
 use Rattle.bn_reply_laws.proofs.CountLemmas.{counts_once}
 use Rattle.bn_reply_laws.proofs.SpelledLemmas.{spelled_alike}
 use Rattle.bn_reply_laws.proofs.RunLemmas.{named_apart, named_of}

@@ -68,8 +68,7 @@ module _ (tells : Flat → Status → List ℕ → List Place → Type 0) (p : P
               statuses.Size,
               large_line count,
               [],
-              large fits count (counted.1 p symbols l there.0 there.1) great refl refl
-                  refl,
+              large fits count (counted.1 p symbols l there.0 there.1) great refl refl refl,
             )
         by_count fits (inr few) =
             let comes : ComesTo p l symbols there.0 = record { fits = fits; flat = there.1; few = few } in

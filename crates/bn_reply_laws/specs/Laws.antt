@@ -1,5 +1,5 @@
 -- What the laws of this crate say, each a field of `Laws`.
-use Rattle.std.specs.Prelude.{◌≡◌, ◌≢◌, ◌↔◌, ℕ, ◌+◌, ◌-◌, ◌<◌, ◌≤◌, List, [], length, Option, Some, None}
+use Rattle.std.specs.Prelude.{◌≡◌, ◌≢◌, ◌↔◌, ℕ, ◌+◌, ◌-◌, ◌<◌, ◌≤◌, List, length, Option, Some, None}
 use Rattle.bn_io.specs.Told.{Grows}
 use Rattle.bn_circuits.specs.declared.place.Place.{Place}
 use Rattle.bn_circuits.specs.Stepping.{places}
@@ -22,10 +22,8 @@ use Rattle.bn_network.specs.Limits.{AreSmall}
 use Rattle.bn_reply_laws.specs.Windows.{ComesTo, CountsElements}
 use Rattle.bn_reply_laws.specs.CompileReply.{IsFlatSpelling}
 use Rattle.bn_reply_laws.specs.RunText.{run_text}
-use Rattle.bn_reply_laws.specs.RunReply.{reached, exit_status, HasMoment, RunReplies, TellsRun, board_after}
-use Rattle.bn_reply_laws.specs.RunReply.{budget}
-use Rattle.bn_reply_laws.specs.ToldRuns.{AsksRun, ComesOutOn, IsGiven, TellsHeadline}
-use Rattle.bn_reply_laws.specs.ToldRuns.{TellsOutcome, TookOutcome}
+use Rattle.bn_reply_laws.specs.RunReply.{reached, exit_status, HasMoment, RunReplies, TellsRun, board_after, budget}
+use Rattle.bn_reply_laws.specs.ToldRuns.{AsksRun, ComesOutOn, IsGiven, TellsHeadline, TellsOutcome, TookOutcome}
 use Rattle.bn_reply.specs.declared.limits.TheConstants.{MOST_INPUT_BYTES}
 use Rattle.bn_reply_laws.specs.CircuitReply.{CircuitIsSettled}
 use Rattle.bn_reply_laws.specs.CompileLaws.{TextsDifferInWords, CompiledTextsStepBack}
@@ -198,15 +196,15 @@ pub record Laws : Type 0 where
   pub compiled_texts_step_back : CompiledTextsStepBack
   -- To all words, limits that may be asked for, numbers of steps and bytes `run` has an answer, and only one.
   pub run_has_one_reply : RunIsSettled
-  -- What the run of a board tells is the outcome of the machine's own bounded run.
+  -- What the run of a board without a number of steps tells is the outcome of the machine's own bounded run.
   pub runs_tell_outcomes : RunsTellOutcomes
   -- With a greatest number of steps the run is inside exactly where that is below the board's cost, and else tells
   -- what it tells without one.
   pub runs_stop_within : RunsStopWithin
   -- Each machine, word and limits have one count of elements and one outcome, and a board, the same up to the order
-  -- of wires, with one cost, where it isn't too large.
+  -- of wires, with one cost, where the word fits and the board isn't too large.
   pub runs_have_one_of_each : RunsHaveOneOfEach
-  -- A reply to the words that ask for a run tells the outcome of the machine's own bounded run.
+  -- A reply to a run, where the sink takes its text, tells the outcome of the machine's own bounded run.
   pub replies_tell_outcomes : RepliesTellOutcomes
   -- The headline follows from the answer, where the sink takes it whole.
   pub answers_tell_headline : AnswersTellHeadline

@@ -7,8 +7,7 @@ use Rattle.bn_reply.specs.declared.limits.TheConstants.{MOST_INPUT_BYTES}
 -- At most 52 bytes an element, in either version, and 97 for the header; so that each text of a configuration may be
 -- given to the commands that take one.
 abbrev pub TextsAreShort : Type 0
-TextsAreShort =
-    (v : Version) (s : Spelling) (text : List ℕ) → Spelled v s text → length text ≤ 97 + 52 * s.elements
+TextsAreShort = (v : Version) (s : Spelling) (text : List ℕ) → Spelled v s text → length text ≤ 97 + 52 * s.elements
 
 abbrev pub TextsMayBeRead : Type 0
 TextsMayBeRead = (v : Version) (s : Spelling) (text : List ℕ) → Spelled v s text → length text ≤ MOST_INPUT_BYTES

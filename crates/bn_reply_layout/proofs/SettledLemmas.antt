@@ -30,8 +30,7 @@ layout_settled machines flats ones counted word l bytes small =
       statuses.Done,
       layout_text t f.translation f.layout f.names,
       [],
-      record
-          { text_is = refl; done = refl; silent = refl },
+      record { text_is = refl; done = refl; silent = refl },
     )
 
     one : (t : Named) (symbols : List ℕ) (f g : Flat) → IsGiven bytes word l t symbols → ComesTo t.machine l symbols f

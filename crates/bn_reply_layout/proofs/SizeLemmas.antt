@@ -1,13 +1,8 @@
 -- Sizes of cells are small.
 use Rattle.std.specs.Prelude.{ℕ, ◌+◌, ◌*◌, ◌≤◌}
 use Rattle.std.proofs.Common.{arith}
-use Rattle.std.proofs.Math.Nat.{mul-le-mul_right, mul-le-mul_left}
 use Rattle.bn_network.specs.declared.limits.TheConstants.{MOST_SYMBOLS}
-
--- a product of bounded numbers
-product_within : (x y a b : ℕ) → x ≤ a → y ≤ b → x * y ≤ a * b
-product_within x y a b first second = let one : x * y ≤ a * y = mul-le-mul_right y first in let two : a * y ≤ a * b =
-    mul-le-mul_left a second in omega arith
+use Rattle.bn_board.proofs.LayoutLemmas.{product_within}
 
 -- a cell's elements
 pub cell_small : (z : ℕ) → z ≤ MOST_SYMBOLS → 2 * z * (2 * z + 9) ≤ 8002 * 8011

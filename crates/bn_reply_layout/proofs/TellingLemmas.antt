@@ -18,8 +18,7 @@ told_before : (x t rest : List ℕ) → IsTold x t → IsTold x (t ++ rest)
 told_before x t rest h = (
   h.0,
   h.1 ++ rest,
-  ap (λ s. s ++ rest) h.2 ∙ append_assoc h.0 (x ++ h.1) rest
-      ∙ ap (λ s. h.0 ++ s) (append_assoc x h.1 rest),
+  ap (λ s. s ++ rest) h.2 ∙ append_assoc h.0 (x ++ h.1) rest ∙ ap (λ s. h.0 ++ s) (append_assoc x h.1 rest),
 )
 
 -- among lines

@@ -59,8 +59,7 @@ module _ (m : Quadruples) (f : Build) (c : Configuration ℕ) (b : Flattened) (o
         → IsExitLine (table_of m names) f c b.config.place b.config.states exit
     exit_line exit text = by b.config.place refl
       where
-        by : (p : Place) → b.config.place ≡ p
-            → IsExitLine (table_of m names) f c b.config.place b.config.states exit
+        by : (p : Place) → b.config.place ≡ p → IsExitLine (table_of m names) f c b.config.place b.config.states exit
         by (Enter e l) at = inside e l at (text.inside e l at)
         by (Left k l) at =
             let left = has_left (table_of m names) f of.build of.room c of.begins b.config.steps b.config (on_run kept)

@@ -116,8 +116,7 @@ module _ (t : QuadTable) (l : Limits) (one two three : List ℕ) (inputs : AreIn
     begun = refl
 
     one_text : (d : Config) (text other : List ℕ) → OnRun d text → OnRun d other → text ≡ other
-    one_text d text other a b =
-        shows_once t f h.build (room f h) c (begins f h) d.steps d a.0 text other a.1 b.1
+    one_text d text other a b = shows_once t f h.build (room f h) c (begins f h) d.steps d a.0 text other a.1 b.1
 
     on_run : (xs : List Command) (end : Session) (text : List ℕ)
         → Plays f.circuit (moment_at f.layout) (ShowsBuild t f c) xs (session (start_of f c) []) end text

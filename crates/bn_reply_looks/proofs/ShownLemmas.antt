@@ -22,7 +22,7 @@ use Rattle.bn_build_laws.specs.Builds.{Build, IsBuild, IsStart, build_elements, 
 use Rattle.bn_build_laws.specs.Runs.{EndsInWindow, HasLeft}
 use Rattle.bn_build_laws.proofs.ConverseLemmas.{builds-once}
 use Rattle.bn_build_laws.proofs.LeftLemmas.{builds-left}
-use Rattle.bn_build_laws.proofs.RunLemmas.{none_low}
+use Rattle.bn_board_spec.proofs.StartingLemmas.{no_letters as none_low}
 use Rattle.bn_reply_builds.specs.DriveText.{drive_exit_line}
 use Rattle.bn_view.specs.Modules.{IsModuleAt}
 use Rattle.bn_view.specs.Shown.{IsShown}
@@ -32,10 +32,6 @@ use Rattle.bn_view.proofs.ShownLemmas.{shown-agrees}
 use Rattle.bn_reply_builds.proofs.OutcomeLemmas.{not_inside}
 use Rattle.bn_reply_looks.specs.LookText.{look_text}
 use Rattle.bn_reply_looks.specs.Looking.{IsExitLine, ShowsBuild, inside, outside}
-
--- what has left doesn't enter
-not_both : (p : Place) (e l m n : ℕ) → p ≡ Enter e l → p ≡ Left m n → ⊥
-not_both p e l m n in_it out = let both : Enter e l ≡ Left m n = sym in_it ∙ out in cc
 
 module _ (t : QuadTable) (f : Build) (is : IsBuild f) (room : 48 * build_elements f ≤ clock) (c : Configuration ℕ)
     (start : IsStart f c (start_from f.machine f.limits c) (start_of f c)) (n : ℕ) (d : Config)

@@ -193,8 +193,7 @@ pub read_alphabet : (bytes : List ℕ) (t : QuadTable) (tape : ℕ) → ReadsQua
 read_alphabet bytes t zero h low = absurd (omega (arith, low))
 read_alphabet bytes t (suc zero) h low = by_first t.names.one _ h.spelled.one_by_first h.spelled.one_form
 read_alphabet bytes t (suc (suc zero)) h low = by_first t.names.two _ h.spelled.two_by_first h.spelled.two_form
-read_alphabet bytes t (suc (suc (suc k))) h low = by_first t.names.three _ h.spelled.three_by_first
-    h.spelled.three_form
+read_alphabet bytes t (suc (suc (suc k))) h low = by_first t.names.three _ h.spelled.three_by_first h.spelled.three_form
 
 pub read_alphabets : (bytes : List ℕ) (t : QuadTable) → ReadsQuadruples bytes t → AreAlphabets t.names
 read_alphabets bytes t h = record {

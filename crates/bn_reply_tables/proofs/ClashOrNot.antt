@@ -73,8 +73,7 @@ module _ (clash : Clash) (test : (r s : Rule ℕ) → QuadruplesClash clash r s 
       elim (test r (get_or rs n nought)) [
         | inl clashes ↦ inr (
           suc n,
-          least_partner clash rs i (suc n) r (get_or rs n nought) order before here there
-              clashes,
+          least_partner clash rs i (suc n) r (get_or rs n nought) order before here there clashes,
         )
         | inr apart ↦ partner_from i r here fuel (suc n) next (omega arith)
             (no_partner_more clash rs i (suc n) r (get_or rs n nought) before here there apart)

@@ -1,11 +1,10 @@
 -- The states and symbols that a run comes upon are the machine's.
 use Rattle.std.proofs.Common.{◌≡◌, ℕ, ◌<◌, ◌≤◌, ◌∷◌, List, [], length, ◌⊎◌, inl, inr, sym, subst, ap, ◌∙◌, arith, suc}
-use Rattle.std.proofs.Common.{zero, Some, Bool, true, false, cond}
-use Rattle.std.proofs.Common.{get_or}
+use Rattle.std.proofs.Common.{zero, Some, Bool, true, false, cond, get_or}
 use Rattle.std.specs.Prelude.{ℤ, pos, negsuc, ◌+ℤ◌, All, slice_index}
 use Rattle.std.specs.Ordering.{int_eq}
 use Rattle.std.proofs.lemmas.Bool.{cases_lt}
-use Rattle.std.proofs.lemmas.List.{get_or_past, get_or_default, length-map}
+use Rattle.std.proofs.lemmas.List.{get_or_past, get_or_default}
 use Rattle.std.proofs.lemmas.Option.{slice_get_within, get_or_from_slice_get}
 use Rattle.bn_lists.specs.Runs.{Reaches}
 use Rattle.bn_machine.specs.Tape.{cell, letter_at}
@@ -16,11 +15,12 @@ use Rattle.bn_machine.specs.Run.{HasEnding, EndsAt}
 use Rattle.bn_machine.specs.Run as free
 use Rattle.bn_machine.specs.Window.{Room, anywhere}
 use Rattle.bn_machine.specs.declared.quint.Quint.{Quint}
-use Rattle.bn_table.specs.Rows.{Named, IsTable, rows_of}
+use Rattle.bn_table.specs.Rows.{Named, IsTable}
 use Rattle.bn_reply.specs.Words.{IsSpelledBy}
 use Rattle.bn_reply_tables.specs.MachineRun.{FitsTable, ending_of}
 use Rattle.bn_reply_tables.specs.declared.machine_run.Ending.{Ending}
 use Rattle.bn_reply_tables.specs.declared.machine_run.Ending.TheVariants.{Halted, Stuck, Running}
+use Rattle.bn_table.proofs.MachineLemmas.{table_machine}
 
 -- the moment's state and all its symbols are the machine's
 pub record Fits (p : Program) (c : Moment) : Type 0 where
@@ -42,8 +42,7 @@ first_fits : (f z : ℕ) (qs : List Quint) → 0 < length qs → All (IsInRange 
 first_fits f z [] some h = absurd (omega arith)
 first_fits f z (q ∷ qs) some h = let inside = h 0 q some in (
   inside.state,
-  let low : q.read
-      < z = inside.read in omega arith,
+  let low : q.read < z = inside.read in omega arith,
 )
 
 letter_fits : (p : Program) (word : List ℕ) → 0 < p.symbols → AreSymbols p word → (q : ℤ) → letter_at word q < p.symbols
@@ -60,8 +59,7 @@ start_fits p word m h =
     let first = first_fits p.states p.symbols p.quints m.some m.in_range in
     record {
       state = first.0;
-      symbols = λ q. subst (λ (s : ℕ). s < p.symbols) (sym (cell-word word q))
-          (letter_fits p word first.1 h q);
+      symbols = λ q. subst (λ (s : ℕ). s < p.symbols) (sym (cell-word word q)) (letter_fits p word first.1 h q);
     }
 
 written_fits : (z : ℕ) (b : Bool) (w c : ℕ) → w < z → c < z → cond b w c < z
@@ -87,16 +85,6 @@ pub run_fits : (room : Room) (p : Program) (i : ℕ) (c d : Moment) → IsMachin
     → Reaches (MachineRunsTo room p) i c d → Fits p d
 run_fits room p zero c d m h run = subst (Fits p) run h
 run_fits room p (suc i) c d m h run = run_fits room p i run.0 d m (step_fits room p c run.0 m h run.1) run.2
-
--- a table's machine
-pub table_machine : (t : Named) → IsTable t → IsMachine t.machine
-table_machine t h = record {
-  some = let rows : length (rows_of t) ≡ length t.machine.quints = simp length-map in omega (arith, h.some);
-  few = let rows : length (rows_of t) ≡ length t.machine.quints = simp length-map in omega (arith, h.few);
-  in_range = λ k d inside. subst (λ (f : ℕ). IsInRange f t.machine.symbols (get_or t.machine.quints k d)) (sym h.states)
-      (subst (λ (z : ℕ). IsInRange (length t.names) z (get_or t.machine.quints k d)) (sym h.symbols)
-      (h.spelled.in_range k d inside));
-}
 
 pub spelled_symbols : (t : Named) (word symbols : List ℕ) → IsTable t → IsSpelledBy t word symbols
     → AreSymbols t.machine symbols
@@ -124,8 +112,7 @@ end_fits t n i c (Stuck state symbol) h (free.sticks stuck same) =
     let states : c.state ≡ state = cc in
     let symbols : cell c.tape c.tape.head ≡ symbol = cc in (
       subst (λ (s : ℕ). s < t.machine.states) states h.state,
-      subst (λ (s : ℕ). s < t.machine.symbols) symbols
-          (h.symbols c.tape.head),
+      subst (λ (s : ℕ). s < t.machine.symbols) symbols (h.symbols c.tape.head),
     )
 end_fits t n i c (Stuck state symbol) h (free.runs d goes all same) = absurd (cc)
 end_fits t n i c Running h ends = tt

@@ -1,6 +1,5 @@
 -- `inverse` has one answer to all bytes, and twice it gives the first table's entries.
-use Rattle.std.specs.Prelude.{◌≡◌, ℕ, List, [], ◌∷◌, ◌++◌, length, map, reverse, All, cond}
-use Rattle.std.specs.Prelude.{bytes_eq, refl, ◌⊎◌}
+use Rattle.std.specs.Prelude.{◌≡◌, ℕ, List, [], ◌∷◌, ◌++◌, length, map, reverse, All, cond, bytes_eq, refl, ◌⊎◌}
 use Rattle.std.proofs.Common.{arith, sym, ap, subst, ◌∙◌, inl, inr}
 use Rattle.std.proofs.lemmas.List.{length-map, length-reverse, map-append, reverse-append}
 use Rattle.std.proofs.lemmas.List.Elements.{All-head, All-tail}
@@ -13,8 +12,7 @@ use Rattle.bn_machine.specs.declared.quint.Shift.TheVariants.{Left, Stay, Right}
 use Rattle.bn_quad.specs.Names.{Naming}
 use Rattle.bn_quad.specs.Quadruples.{Deed, Rewrite, Move, Rule, Quadruples, IsQuadMachine, IsRuleInRange, quadruples_of}
 use Rattle.bn_quad.specs.Quadruples.{inverse_of, turned, turned_deed, turned_list}
-use Rattle.bn_qtable.specs.Entry.{HasForms, SaysHasForms, quadruple_entry, read_field, act_field}
-use Rattle.bn_qtable.specs.Entry.{slash}
+use Rattle.bn_qtable.specs.Entry.{HasForms, SaysHasForms, quadruple_entry, read_field, act_field, slash}
 use Rattle.bn_qtable.specs.Faults.{quadruple_table_fault, quadruple_entry_fault}
 use Rattle.bn_qtable.specs.Named.{HasNames}
 use Rattle.bn_qtable.specs.Reading.{ReadsQuadruples}

@@ -42,8 +42,7 @@ module _ (t : Named) (n : ℕ) (symbols : List ℕ) where
   run_settled = record {
     some = run_some;
     one = run_one;
-    status = λ s text told h. subst IsReplyStatus (sym h.status_is)
-        (ending_answers h.ending);
+    status = λ s text told h. subst IsReplyStatus (sym h.status_is) (ending_answers h.ending);
   }
 
 pub machine_settled : MachineIsSettled

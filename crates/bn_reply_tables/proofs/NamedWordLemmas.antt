@@ -22,8 +22,7 @@ some_once e = cc
 -- ---- the symbol of a name
 
 name_there : (names : List (List ℕ)) (s : ℕ) (name : List ℕ) → slice_get names s ≡ Some name → Contains names name
-name_there names s name here =
-    (s, slice_get_within names s name here, get_or_from_slice_get names s name name here)
+name_there names s name here = (s, slice_get_within names s name here, get_or_from_slice_get names s name name here)
 
 -- what a search of the names says of a name that isn't the blank's
 pub name_found : (names : List (List ℕ)) → IsAlphabet names → (name : List ℕ) → name ≢ blank_name → (o : Option ℕ) →

@@ -58,8 +58,7 @@ verdicts_at bytes t reads = let some = (reversible_settled bytes).some in by som
     by s text told (reversible.faulty h e n) = absurd (h.unread t reads)
     by s text told (reversible.judged v also h e n) = (
       text,
-      subst (λ (w : QuadTable). TellsVerdicts w.machine.rules text) (one_reading (entries_of bytes) v t also
-          reads) h,
+      subst (λ (w : QuadTable). TellsVerdicts w.machine.rules text) (one_reading (entries_of bytes) v t also reads) h,
     )
 
 module _ (tells : QuadTable → Status → List ℕ → List Place → Type 0) (bytes : List ℕ)
@@ -69,14 +68,12 @@ module _ (tells : QuadTable → Status → List ℕ → List Place → Type 0) (
   judged_some : (t : QuadTable) → ReadsQuadruples bytes t → (a : Option (ℕ × ℕ)) → IsVerdict Domain t.machine.rules a
       →
       (b : Option (ℕ × ℕ)) → IsVerdict Range t.machine.rules b → HasAnswer (QuadReplies tells bytes)
-  judged_some t reads (Some p) least b also =
-      (statuses.Machine, _, [], domain t reads p.0 p.1 least refl refl refl)
+  judged_some t reads (Some p) least b also = (statuses.Machine, _, [], domain t reads p.0 p.1 least refl refl refl)
   judged_some t reads None apart (Some p) least = (
     statuses.Machine,
     _,
     [],
-    range t reads apart p.0 p.1 least refl
-        refl refl,
+    range t reads apart p.0 p.1 least refl refl refl,
   )
   judged_some t reads None apart None back =
       let some = (settled t reads apart back).some in
@@ -102,11 +99,9 @@ module _ (tells : QuadTable → Status → List ℕ → List Place → Type 0) (
       let same = clash_once Domain t.machine.rules i j k m h g in
       agree statuses.Machine s u a b x y e f (is ∙ (λ q. overlap_line (codes "domain") (same.0 q) (same.1 q)) ∙ sym
       also) n l
-  judged_one t reads s u a b x y (overlaps i j h is e n) (meets apart k m g also f l) = absurd (apart.none i j
-      h.holds)
+  judged_one t reads s u a b x y (overlaps i j h is e n) (meets apart k m g also f l) = absurd (apart.none i j h.holds)
   judged_one t reads s u a b x y (overlaps i j h is e n) (fit apart back g) = absurd (apart.none i j h.holds)
-  judged_one t reads s u a b x y (meets apart i j h is e n) (overlaps k m g also f l) = absurd (apart.none k m
-      g.holds)
+  judged_one t reads s u a b x y (meets apart i j h is e n) (overlaps k m g also f l) = absurd (apart.none k m g.holds)
   judged_one t reads s u a b x y (meets apart i j h is e n) (meets apart' k m g also f l) =
       let same = clash_once Range t.machine.rules i j k m h g in
       agree statuses.Machine s u a b x y e f (is ∙ (λ q. overlap_line (codes "range") (same.0 q) (same.1 q)) ∙ sym
@@ -146,8 +141,7 @@ module _ (tells : QuadTable → Status → List ℕ → List Place → Type 0) (
       both t reads s u a b x y (range t reads apart i j least is f m) k
   quad_one s u a b x y (passes t reads apart back h) k = both t reads s u a b x y (passes t reads apart back h) k
 
-  quad_status : (s : Status) (text : List ℕ) (told : List Place) → QuadReplies tells bytes s text told →
-      IsReplyStatus s
+  quad_status : (s : Status) (text : List ℕ) (told : List Place) → QuadReplies tells bytes s text told → IsReplyStatus s
   quad_status s text told (faulty h e n) = subst IsReplyStatus (sym e) tt
   quad_status s text told (domain t reads i j least is e n) = subst IsReplyStatus (sym e) tt
   quad_status s text told (range t reads apart i j least is e n) = subst IsReplyStatus (sym e) tt

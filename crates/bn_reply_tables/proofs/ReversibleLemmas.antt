@@ -1,7 +1,6 @@
 -- `reversible` has one answer to all bytes.
-use Rattle.std.specs.Prelude.{◌≡◌, ℕ, ◌<◌, ◌≤◌, List, [], ◌++◌, Option, Some, None, codes, ◌⊎◌}
-use Rattle.std.proofs.Common.{refl, sym, subst, ◌∙◌, arith, inl, inr}
-use Rattle.std.proofs.lemmas.Bool.{cases_lt}
+use Rattle.std.specs.Prelude.{◌≡◌, ℕ, List, [], ◌++◌, Option, Some, None, codes, ◌⊎◌}
+use Rattle.std.proofs.Common.{refl, sym, subst, ◌∙◌, inl, inr}
 use Rattle.bn_csv.specs.Entries.{entries_of}
 use Rattle.bn_quad.specs.Quadruples.{Rule}
 use Rattle.bn_quad.specs.Overlap.{QuadruplesClash, IsClash, IsLeastClash}
@@ -17,22 +16,13 @@ use Rattle.bn_reply.specs.Codes.{IsReplyStatus}
 use Rattle.bn_reply.proofs.SettledLemmas.{agree}
 use Rattle.bn_reply.proofs.TableLemmas.{first_once, read_or_told}
 use Rattle.bn_reply_tables.specs.ReversibleReply.{IsVerdict, TellsVerdicts, TellsQuadFault, ReversibleReplies, faulty}
-use Rattle.bn_reply_tables.specs.ReversibleReply.{judged, ReversibleIsSettled}
-use Rattle.bn_reply_tables.specs.ReversibleReply.{quad_fault_line, verdict_line}
+use Rattle.bn_reply_tables.specs.ReversibleReply.{judged, ReversibleIsSettled, quad_fault_line, verdict_line}
 use Rattle.bn_reply.specs.declared.status.Status.{Status}
 use Rattle.bn_reply.specs.declared.status.Status.TheVariants as statuses
 use Rattle.bn_reply_tables.proofs.ClashOrNot.{clash_or_none, overlap_in_domain, overlap_in_range}
+use Rattle.bn_lists.proofs.LeastLemmas.{least_once as neither_below}
 
 -- ---- one answer
-
--- two numbers neither of which is below the other
-neither_below : (i j : ℕ) → (i < j → ⊥) → (j < i → ⊥) → i ≡ j
-neither_below i j low high = by_order (cases_lt i j) (cases_lt j i)
-  where
-    by_order : (i < j) ⊎ (j ≤ i) → (j < i) ⊎ (i ≤ j) → i ≡ j
-    by_order (inl h) k = absurd (low h)
-    by_order (inr h) (inl k) = absurd (high k)
-    by_order (inr h) (inr k) = omega arith
 
 pub clash_once : (clash : Clash) (rs : List (Rule ℕ)) (i j m n : ℕ) → IsLeastClash clash rs i j
     → IsLeastClash clash rs m n → (i ≡ m) × (j ≡ n)

@@ -37,8 +37,7 @@ use Rattle.bn_reply_tables.specs.StandardReply.{refusal_status}
 repeats_or_not : (qs : List Quint) → IsUnambiguous qs ⊎ ((i : ℕ) × (j : ℕ) × IsLeastRepeat qs i j)
 repeats_or_not qs = elim (standard_or_not qs) [
   | inl standard ↦ inl standard.unambiguous
-  | inr fails
-      ↦ by_why fails.why fails.first fails.said
+  | inr fails ↦ by_why fails.why fails.first fails.said
 ]
   where
     by_why : (why : Why) → IsStandardRefusal qs why → why ≢ whys.NoMemory
@@ -83,21 +82,18 @@ accepted_or_refused p machine = by_tests (repeats_or_not p.quints) (halting_or_n
     by_tests (inr r) halting count = inr (record {
       refusal = refusals.Repeat r.0 r.1;
       fits = r.2;
-      said = λ e. absurd
-          (cc);
+      said = λ e. absurd (cc);
     })
     by_tests (inl apart) (inr h) count = inr (record {
       refusal = refusals.Halting h.0;
       fits = (apart, h.1);
-      said = λ e.
-          absurd (cc);
+      said = λ e. absurd (cc);
     })
     by_tests (inl apart) (inl halts) (inl many) =
         let loose : IsLoose p = record { machine = machine; unambiguous = apart; halts = halts } in
         inr (record { refusal = refusals.Many (count_of p); fits = (loose, refl, many); said = λ e. absurd (cc) })
     by_tests (inl apart) (inl halts) (inr few) = inl (record {
-      loose = record
-          { machine = machine; unambiguous = apart; halts = halts };
+      loose = record { machine = machine; unambiguous = apart; halts = halts };
       few = few;
     })
 
@@ -116,8 +112,7 @@ module _ (t : Named) where
     refusal_status r.refusal,
     refusal_line r.refusal,
     [],
-    refused r.refusal r.fits r.said refl refl
-        refl,
+    refused r.refusal r.fits r.said refl refl refl,
   )
 
   tells_one : IsOneAnswer (TellsStandard t)
@@ -125,8 +120,7 @@ module _ (t : Named) where
       let same : r ≡ q = refusals_once.0 t.machine r q said also h k in
       record {
         statuses = status ∙ ap refusal_status same ∙ sym f;
-        texts = text ∙ ap refusal_line same
-            ∙ sym g;
+        texts = text ∙ ap refusal_line same ∙ sym g;
         places = told ∙ sym m;
       }
   tells_one s u a b x y (refused r h said status text told) (accepted k done) =

@@ -7,8 +7,7 @@ use Rattle.bn_circuits.specs.declared.place.Place.{Place}
 use Rattle.bn_machine.specs.declared.quint.Shift.TheVariants as shift
 use Rattle.bn_quad.specs.Calls.{IsNotUniform, IsUniformRefusal}
 use Rattle.bn_quad.specs.Overlap.{DiffersInReads, DiffersInWrites, HasNoClash, HasNoFlaw, HaveSameTapes, IsAlike}
-use Rattle.bn_quad.specs.Overlap.{IsFlawed, IsIdle}
-use Rattle.bn_quad.specs.Overlap.{IsLeastClash, IsSilent, IsUniform, final_flaw, initial_flaw}
+use Rattle.bn_quad.specs.Overlap.{IsFlawed, IsIdle, IsLeastClash, IsSilent, IsUniform, final_flaw, initial_flaw}
 use Rattle.bn_quad.specs.Quadruples.{Deed, Move, Rewrite, Rule}
 use Rattle.bn_quad.specs.declared.clash.Clash.TheVariants.{Reads, Writes}
 use Rattle.bn_quad.specs.declared.clash.Flaw.{Flaw}

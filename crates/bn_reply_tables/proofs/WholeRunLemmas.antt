@@ -9,13 +9,12 @@ use Rattle.std.proofs.Math.Seq.{take-length}
 use Rattle.bn_machine.specs.Tape.{Tape, scanned}
 use Rattle.bn_machine.specs.Machine.{Program, Moment, moment, start_of, IsFinal}
 use Rattle.bn_machine.specs.MachineCalls.{IsTurn}
-use Rattle.bn_machine.specs.Run.{After, AfterWithin, HasEnding, IsOutput}
+use Rattle.bn_machine.specs.Run.{After, HasEnding, IsOutput}
 use Rattle.bn_machine.specs.Run as free
 use Rattle.bn_machine.specs.Window.{Windowed, IsBetween, within, anywhere, new_window}
 use Rattle.bn_machine.specs.Steps.{AgreesUpTo}
 use Rattle.bn_machine.proofs.MachineStepLemmas.{agrees_turned, agrees_final, agrees_stuck, agrees_step, agrees_scanned}
-use Rattle.bn_machine.proofs.MachineStepLemmas.{cut_run, goes_anywhere, head_after}
-use Rattle.bn_machine.proofs.MachineStepLemmas.{run_anywhere}
+use Rattle.bn_machine.proofs.MachineStepLemmas.{cut_run, goes_anywhere, head_after, run_anywhere}
 use Rattle.bn_machine.proofs.CutLemmas.{near_not_leaving, output_before, output_beyond}
 use Rattle.bn_machine.specs.declared.machine.Turn.{Turn}
 use Rattle.bn_machine.specs.declared.machine.Turn.TheVariants as turns

@@ -7,8 +7,7 @@ use Rattle.std.proofs.lemmas.List.{drop_more, take_rest}
 use Rattle.std.proofs.lemmas.List.Quantifiers.{position-Some}
 use Rattle.bn_circuits.specs.declared.place.Place.{Place}
 use Rattle.bn_quad.specs.Names.{Naming}
-use Rattle.bn_qtable.specs.TapeWords.{Names, TapeWords, begin_first, comma, names_between}
-use Rattle.bn_qtable.specs.TapeWords.{names_of_word, names_on}
+use Rattle.bn_qtable.specs.TapeWords.{Names, TapeWords, begin_first, comma, names_between, names_of_word, names_on}
 use Rattle.bn_reply.specs.Answering.{HasAnswer, IsOneAnswer, IsSettled}
 use Rattle.bn_reply.specs.Codes.{IsReplyStatus}
 use Rattle.bn_reply.specs.declared.status.Status.{Status}

@@ -1,6 +1,7 @@
 //! The command `bennett`.
 
 ghost use Rattle.std.specs.Prelude.{◌≡◌, [], IfOk};
+ghost use Rattle.bn_table.specs.Rows.{FitsTable};
 ghost use Rattle.bn_reply.specs.Answering.{IsDone};
 ghost use Rattle.bn_reply.specs.TableReply.{JudgedReplies};
 ghost use Rattle.bn_reply_tables.specs.BennettReply.{BennettReplies, bennett_text};
@@ -42,11 +43,10 @@ fn translated_text(
     table: &Table,
     standard: &Standard<'_>,
 ) -> Result<Vec<u8>, NoMemory>
-    requires { standard.now ≡ table.now.machine }
+    requires same { standard.now ≡ table.now.machine }
+    requires fits { FitsTable table.now.machine }
     ensures { IfOk result (λ text. text.items ≡ bennett_text table.now) }
 {
-    // The table's own fact: its machine is within the limits of tables.
-    let _machine = table.machine();
     let translated = translate(alloc, standard)?;
     let names = names(alloc, table, &translated)?;
     write_quads(alloc, translated.machine().machine(), &names)

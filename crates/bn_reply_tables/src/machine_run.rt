@@ -112,10 +112,11 @@ fn output_of(alloc: Global, tape: &Tape) -> Result<Vec<u32>, NoMemory>
     Ok(output)
 }
 
-/// The symbol at a position of a tape, `None` exactly where it is the blank, as it is outside of the window.
+/// The symbol at a position of a tape, `None` exactly where it is the blank, as it is outside of the window. Its
+/// contract also tells what every tape keeps.
 pub fn letter_at(tape: &Tape, position: i64) -> Option<u32>
-    requires { IsWindowed tape.now }
-    ensures { MatchOption result (cell tape.now.tape position ≡ 0) (IsLetterAt tape.now position) }
+    ensures letter { MatchOption result (cell tape.now.tape position ≡ 0) (IsLetterAt tape.now position) }
+    ensures valid { IsWindowed tape.now }
 {
     match tape.symbol(position) {
         Some(0) | None => None,

@@ -8,8 +8,7 @@ use Rattle.bn_lists.proofs.RunsLemmas.{runs_end_once}
 use Rattle.bn_machine.specs.Tape.{Tape, cell, word_tape}
 use Rattle.bn_quad.specs.Overlap.{IsDeterministic}
 use Rattle.bn_quad.specs.Quadruples.{Configuration, Deed, GoesBy, HasNoRule, Quadruples, QuadruplesRunTo, done}
-use Rattle.bn_quad.specs.Quadruples.{everywhere}
-use Rattle.bn_quad.specs.Quadruples.{final_state_of}
+use Rattle.bn_quad.specs.Quadruples.{everywhere, final_state_of}
 use Rattle.bn_quad.proofs.QuadStepLemmas.{goes_by_once, goes_function, leads_goes}
 use Rattle.bn_bennett_laws.specs.Steps.{Steps}
 use Rattle.bn_erase_laws.proofs.DecidedLemmas.{Next, has_none, is_final, next_of, steps_on}
@@ -33,8 +32,7 @@ shown_word word letters = record {
   first = pos 0;
   last = _;
   begins = first_of_word word;
-  ends = last_of_word word
-      letters;
+  ends = last_of_word word letters;
 }
 
 shown_deed : (d : Deed) (t : Tape) → Shown t → Shown (done d t)

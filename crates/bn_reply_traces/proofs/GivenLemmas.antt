@@ -58,8 +58,7 @@ ended_as t word n s steps rule h = by rule h.next h.early
         let out = output_exists moment.tape in (
           Halted out.0,
           comes (Halted out.0) (free.halts out.0 final out.1 refl),
-          inl
-              (sym h.stage.state ∙ final, (out.0, refl)),
+          inl (sym h.stage.state ∙ final, (out.0, refl)),
         )
     by None is early (inr stuck) = (
       Stuck s.state (scanned s.tape.tape),
@@ -136,8 +135,7 @@ trace_ends t word n s steps rule kept old now new result before middle after tol
           are.given,
           last,
           refl,
-          subst (λ a. Grows old a are.given) (sym none.1)
-              are.grown,
+          subst (λ a. Grows old a are.given) (sym none.1) are.grown,
         )))
 
 -- a front of the lines was given

@@ -10,8 +10,7 @@ use Rattle.std.proofs.lemmas.Bool.{cases_eq}
 use Rattle.bn_io.specs.Told.{Grows, GrowsByFront}
 use Rattle.bn_io.proofs.GivingLemmas.{grows_none}
 use Rattle.bn_io.proofs.ToldLemmas.{Grows-joins}
-use Rattle.bn_machine.specs.Machine.{HasNoMatch, IsFirstMatch, IsLeaving, Moment, Program}
-use Rattle.bn_machine.specs.Machine.{start}
+use Rattle.bn_machine.specs.Machine.{HasNoMatch, IsFirstMatch, IsLeaving, Moment, Program, start}
 use Rattle.bn_machine.specs.Tape.{Tape, cell, scanned}
 use Rattle.bn_machine.specs.Window.{IsWindowed, Windowed, anywhere}
 use Rattle.bn_machine.specs.declared.quint.Quint.{Quint}
@@ -21,7 +20,8 @@ use Rattle.bn_machine.proofs.MachineStepLemmas.{moment_after}
 use Rattle.bn_table.specs.Rows.{IsTable, Named}
 use Rattle.bn_base.specs.declared.limits.TheConstants.{MOST_COUNT}
 use Rattle.bn_reply.specs.Lines.{line}
-use Rattle.bn_reply_tables.proofs.FitLemmas.{Fits, AreSymbols, run_fits, start_fits, table_machine}
+use Rattle.bn_reply_tables.proofs.FitLemmas.{Fits, AreSymbols, run_fits, start_fits}
+use Rattle.bn_table.proofs.MachineLemmas.{table_machine}
 use Rattle.bn_reply_traces.specs.Extents.{IsMarked}
 use Rattle.bn_reply_traces.specs.MomentText.{IsLineAfter, IsNext, letter_text, rule_text}
 use Rattle.bn_reply_traces.specs.Stages.{AreTold, AreToldInPart, IsRule, IsShowable, IsStageAfter}

@@ -28,8 +28,7 @@ use Rattle.bn_reply_traces.specs.MomentsReply.{ComesOut, Halted, Outcome, Runnin
 use Rattle.bn_reply_traces.specs.MomentsReply.{moments_outcome_line, outcome_status}
 use Rattle.bn_reply_traces.specs.Stages.{OutcomeEnds}
 use Rattle.bn_reply_traces.proofs.ConfigurationLemmas.{final_not_going, lines_some, none_not_going, number_or, one_line}
-use Rattle.bn_reply_traces.proofs.ConfigurationLemmas.{steps_go}
-use Rattle.bn_reply_traces.proofs.ConfigurationLemmas.{words_shown}
+use Rattle.bn_reply_traces.proofs.ConfigurationLemmas.{steps_go, words_shown}
 use Rattle.bn_reply_traces.proofs.LinesLemmas.{lines_front, lines_once}
 
 -- ---- how a run comes out

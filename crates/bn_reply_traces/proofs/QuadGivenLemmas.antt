@@ -56,8 +56,7 @@ module _ (r : QuadRun) (run : IsQuadRun r) (i : ℕ) (s : QuadStage) (c : Config
       shown = text;
       shown_is = said;
       rule = rule;
-      next = next rule
-          stepped;
+      next = next rule stepped;
       is = refl;
     },
   )

@@ -13,10 +13,8 @@ use Rattle.bn_machine.specs.declared.quint.Side.TheVariants as sides
 use Rattle.bn_quad.specs.Calls.{AreSameWindows, DeedLeaves, IsLeaving, IsQuadTurn, LeavesAt, configuration, rooms_of}
 use Rattle.bn_quad.specs.Calls.{windows_of}
 use Rattle.bn_quad.specs.Quadruples.{AppliesTo, AreDeedsInRange, Configuration, Deed, DeedApplies, GoesBy, IsFirstRule}
-use Rattle.bn_quad.specs.Quadruples.{IsQuadMachine}
-use Rattle.bn_quad.specs.Quadruples.{IsQuadrupleStuck, IsRuleInRange, Move, Quadruples, QuadruplesRunTo, Rewrite, Rule}
-use Rattle.bn_quad.specs.Quadruples.{deeds_of}
-use Rattle.bn_quad.specs.Quadruples.{everywhere, after, initial_of}
+use Rattle.bn_quad.specs.Quadruples.{IsQuadMachine, IsQuadrupleStuck, IsRuleInRange, Move, Quadruples, QuadruplesRunTo}
+use Rattle.bn_quad.specs.Quadruples.{Rewrite, Rule, deeds_of, everywhere, after, initial_of}
 use Rattle.bn_quad.specs.declared.tapes.QuadTurn.{QuadTurn}
 use Rattle.bn_quad.specs.declared.tapes.QuadTurn.TheVariants as turns
 use Rattle.bn_quad.specs.declared.tapes.Tapes.{Tapes}

@@ -1,18 +1,14 @@
 -- What is said of a moment of a run of a machine of quadruples, piece by piece; and the last line.
-use Rattle.std.specs.Prelude.{◌≡◌, ℕ, ◌<◌, List, ◌++◌, length, Some, None, codes, decimal, refl}
-use Rattle.std.proofs.Common.{inl, inr, sym, subst, ap, ◌∙◌, append_assoc}
-use Rattle.bn_machine.specs.Tape.{Tape, scanned}
+use Rattle.std.specs.Prelude.{◌≡◌, ℕ, List, ◌++◌, length, codes, decimal, refl}
+use Rattle.std.proofs.Common.{sym, subst, ap, ◌∙◌, append_assoc}
+use Rattle.bn_machine.specs.Tape.{Tape}
 use Rattle.bn_machine.specs.Window.{Windowed}
-use Rattle.bn_quad.specs.Quadruples.{Configuration, Quadruples, final_state_of}
+use Rattle.bn_quad.specs.Quadruples.{Configuration}
 use Rattle.bn_qtable.specs.Rows.{QuadTable}
-use Rattle.bn_reply_traces.specs.ConfigurationText.{IsConfigurationText, IsNextQuadruple, name_in}
+use Rattle.bn_reply_traces.specs.ConfigurationText.{IsConfigurationText, name_in}
 use Rattle.bn_reply_traces.specs.MomentText.{IsTapeText}
-use Rattle.bn_reply_traces.specs.MomentsReply.{ComesOut, Halted, Outcome, Running, Stuck, moments_outcome_line}
-use Rattle.bn_reply_traces.specs.MomentsReply.{outcome_status}
 use Rattle.bn_reply_traces.specs.QuadStages.{IsTapeStage}
 use Rattle.bn_reply_traces.specs.declared.extent.Extent.{Extent}
-use Rattle.bn_reply_traces.proofs.ConfigurationLemmas.{final_not_going, none_not_going}
-use Rattle.bn_reply_traces.proofs.TapeStageLemmas.{scans_alike}
 
 -- ---- a tape
 
@@ -29,11 +25,6 @@ pub tape_told : (names result : List (List ℕ)) → result ≡ names → (x : T
     (shown : List ℕ) × IsTapeText (name_in names) x shown × (new ≡ old ++ (number ++ shown))
 tape_told names result is x old new number h =
     (h.0, subst (λ (ns : List (List ℕ)). IsTapeText (name_in ns) x h.0) is h.1, h.2)
-
--- the symbol that is scanned is one of the tape's
-pub scanned_known : (z : ℕ) (word : List ℕ) (n i : ℕ) (w : Windowed) (e : Extent) (t : Tape) →
-    IsTapeStage z word n i w e t → scanned w.tape < z
-scanned_known z word n i w e t h = subst (λ s. s < z) (scans_alike z word n i w e t h) (h.below t.head)
 
 -- ---- a configuration
 
@@ -84,32 +75,3 @@ nine_pieces old a b c d e f g h k o1 o2 o3 o4 o5 o6 o7 o8 o9 h1 h2 h3 h4 h5 h6 h
     ∙ ap (λ z. z ++ k) (h8 ∙ ap (λ z. z ++ h) (h7 ∙ ap (λ z. z ++ g) (h6 ∙ ap (λ z. z ++ f) (h5 ∙ ap (λ z. z ++ e) (h4
     ∙ ap (λ z. z ++ d) (h3 ∙ ap (λ z. z ++ c) (h2 ∙ ap (λ z. z ++ b) h1)))))))
     ∙ joined_nine old a b c d e f g h k
-
--- what was written is the line of the outcome, which is the one that was meant
-pub written_as : (t : QuadTable) (i : ℕ) (c : Configuration ℕ) (meant o : Outcome) (new old : List ℕ) → meant ≡ o →
-    new ≡ old ++ moments_outcome_line t i c meant →
-    (outcome_status meant ≡ outcome_status o) × (new ≡ old ++ moments_outcome_line t i c o)
-written_as t i c meant o new old same h =
-    (ap outcome_status same, h ∙ ap (λ (q : Outcome). old ++ moments_outcome_line t i c q) same)
-
--- where a quadruple is applied next the run goes on
-pub goes_on : (p : Quadruples) (n i m : ℕ) (c : Configuration ℕ) (o : Outcome) → IsNextQuadruple p c (Some m) →
-    ComesOut p n i c o → Running ≡ o
-goes_on p n i m c Halted next out = absurd (final_not_going p c next.0 out (m, next.1))
-goes_on p n i m c Stuck next out = absurd (none_not_going p c next.0 out.none (m, next.1))
-goes_on p n i m c Running next out = refl
-
--- where none is, the machine has halted in its final state, and is stuck in another
-pub halts_there : (p : Quadruples) (n i : ℕ) (c : Configuration ℕ) (o : Outcome) → c.state ≡ final_state_of p.rules →
-    ComesOut p n i c o → Halted ≡ o
-halts_there p n i c Halted final out = refl
-halts_there p n i c Stuck final out = absurd (out.going final)
-halts_there p n i c Running final out = absurd (final_not_going p c out.1.0 final out.1.1)
-
-pub sticks_there : (p : Quadruples) (n i : ℕ) (c : Configuration ℕ) (o : Outcome)
-    → (c.state ≡ final_state_of p.rules → ⊥) →
-    IsNextQuadruple p c None → ComesOut p n i c o → Stuck ≡ o
-sticks_there p n i c o going (inl final) out = absurd (going final)
-sticks_there p n i c Halted going (inr stuck) out = absurd (going out)
-sticks_there p n i c Stuck going (inr stuck) out = refl
-sticks_there p n i c Running going (inr stuck) out = absurd (none_not_going p c out.1.0 stuck.none out.1.1)

@@ -5,8 +5,7 @@ use Rattle.std.specs.Option.{is_some}
 use Rattle.std.proofs.Common.{arith, inl, sym, subst, ap, ◌∙◌, not}
 use Rattle.std.proofs.lemmas.Int.{ints}
 use Rattle.bn_lists.proofs.RunsLemmas.{runs_end_once, runs_more}
-use Rattle.bn_machine.specs.Machine.{IsLeaving, MachineRunsTo, Moment, Program}
-use Rattle.bn_machine.specs.Machine.{moment, start, start_of}
+use Rattle.bn_machine.specs.Machine.{IsLeaving, MachineRunsTo, Moment, Program, moment, start, start_of}
 use Rattle.bn_machine.specs.MachineCalls.{IsTurn}
 use Rattle.bn_machine.specs.Run.{After}
 use Rattle.bn_machine.specs.Tape.{Tape, cell, scanned, word_tape}

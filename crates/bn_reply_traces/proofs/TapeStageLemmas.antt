@@ -1,7 +1,6 @@
 -- A tape of a stage, and the tape without ends that it stands for.
-use Rattle.std.specs.Prelude.{◌≡◌, ◌≢◌, ◌↔◌, ℕ, ◌+◌, ◌<◌, ◌≤◌, ◌⊎◌, ℤ, pos, ◌+ℤ◌, ◌-ℤ◌, ◌≤ℤ◌, List, length, take}
-use Rattle.std.specs.Prelude.{min, max}
-use Rattle.std.specs.Prelude.{All, Bool, true, zero, suc, negsuc, refl}
+use Rattle.std.specs.Prelude.{◌≡◌, ◌≢◌, ◌↔◌, ℕ, ◌+◌, ◌<◌, ◌≤◌, ◌⊎◌, ℤ, pos, ◌+ℤ◌, ◌-ℤ◌, ◌≤ℤ◌, List, length, take, min}
+use Rattle.std.specs.Prelude.{max, All, Bool, true, zero, suc, negsuc, refl}
 use Rattle.std.proofs.Common.{arith, get_or, inl, inr, sym, subst, ap, ◌∙◌}
 use Rattle.std.proofs.lemmas.Int.{ints}
 use Rattle.std.proofs.lemmas.Bool.{cases_lt}

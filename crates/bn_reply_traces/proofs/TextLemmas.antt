@@ -1,6 +1,5 @@
 -- What is said of a tape, cell by cell; and the last line.
-use Rattle.std.specs.Prelude.{◌≡◌, ◌≢◌, ℕ, zero, suc, ◌⊎◌, ℤ, pos, ◌+ℤ◌, List, ◌++◌, Option, Some, None}
-use Rattle.std.specs.Prelude.{false, codes}
+use Rattle.std.specs.Prelude.{◌≡◌, ◌≢◌, ℕ, zero, suc, ◌⊎◌, ℤ, pos, ◌+ℤ◌, List, ◌++◌, Option, Some, None, false, codes}
 use Rattle.std.specs.Option.{is_some}
 use Rattle.std.proofs.Common.{arith, inl, inr, sym, ap, ◌∙◌, append_assoc, append-nil}
 use Rattle.std.proofs.lemmas.Int.{ints}

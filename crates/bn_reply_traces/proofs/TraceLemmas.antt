@@ -183,8 +183,7 @@ one_next p c None (Some m) (inl final) y = absurd (final_not_going anywhere p c 
 one_next p c None (Some m) (inr stuck) y = absurd (stuck_not_going anywhere p c y.0 stuck (m, y.1))
 one_next p c (Some n) None x (inl final) = absurd (final_not_going anywhere p c x.0 final (n, x.1))
 one_next p c (Some n) None x (inr stuck) = absurd (stuck_not_going anywhere p c x.0 stuck (n, x.1))
-one_next p c (Some n) (Some m) x y =
-    ap (λ (k : ℕ). Some k) (goes_by_once anywhere anywhere p n m c x.0 y.0 x.1 y.1).0
+one_next p c (Some n) (Some m) x y = ap (λ (k : ℕ). Some k) (goes_by_once anywhere anywhere p n m c x.0 y.0 x.1 y.1).0
 
 one_line : (t : Named) (word : List ℕ) (i : ℕ) (a b : List ℕ) → IsLineAfter t word i a → IsLineAfter t word i b → a ≡ b
 one_line t word i a b x y =

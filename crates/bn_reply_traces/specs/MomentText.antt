@@ -1,7 +1,6 @@
 -- The line of a moment of a machine's own run (this project's own profile).
-use Rattle.std.specs.Prelude.{◌≡◌, ℕ, zero, suc, ◌⊎◌, ℤ, pos, ◌+ℤ◌, List, []}
-use Rattle.std.specs.Prelude.{◌∷◌, ◌++◌, Option, Some, None, codes, decimal}
-use Rattle.std.specs.Prelude.{slice_index, slice_index_or}
+use Rattle.std.specs.Prelude.{◌≡◌, ℕ, zero, suc, ◌⊎◌, ℤ, pos, ◌+ℤ◌, List, [], ◌∷◌, ◌++◌, Option, Some, None, codes}
+use Rattle.std.specs.Prelude.{decimal, slice_index, slice_index_or}
 use Rattle.bn_machine.specs.Machine.{GoesBy, IsFinal, IsMachineStuck, Moment, Program}
 use Rattle.bn_machine.specs.Run.{After}
 use Rattle.bn_machine.specs.Tape.{Tape, cell}

@@ -152,8 +152,7 @@ IsSteppedTo t words n i c s (Some m) u =
 -- A run ends at c after so many steps, where this quadruple would be applied next, if one is: this is the stage then,
 -- or the one behind where there is.
 abbrev pub IsQuadEndedAt : QuadRun → Configuration ℕ → QuadStage → ℕ → Option ℕ → Type 0
-IsQuadEndedAt r c s steps None =
-    (steps ≤ r.most_steps) × IsStageIn r steps c s × IsNextQuadruple r.machine.now c None
+IsQuadEndedAt r c s steps None = (steps ≤ r.most_steps) × IsStageIn r steps c s × IsNextQuadruple r.machine.now c None
 IsQuadEndedAt r c s steps (Some m) =
     (steps ≡ r.most_steps) × Reaches (QuadruplesRunTo everywhere r.machine.now) steps (first_of r.machine.now r.words) c
     × IsNextQuadruple r.machine.now c (Some m)

@@ -80,8 +80,7 @@ pub record IsShowable (t : Named) (word : List ℕ) (s : Stage) : Type 0 where
 abbrev pub IsRule : Program → ℕ → ℕ → Option ℕ → Type 0
 IsRule p state symbol None =
     (state ≡ final_of p.quints) ⊎ ((state ≢ final_of p.quints) × HasNoMatch p.quints state symbol)
-IsRule p state symbol (Some n) =
-    (state ≢ final_of p.quints) × ((q : Quint) × IsFirstMatch p.quints state symbol n q)
+IsRule p state symbol (Some n) = (state ≢ final_of p.quints) × ((q : Quint) × IsFirstMatch p.quints state symbol n q)
 
 -- the line of a stage, by the tape that it stands for and how many of its cells are shown
 abbrev pub stage_line : Named → ℕ → Stage → Tape → ℕ → Option ℕ → List ℕ

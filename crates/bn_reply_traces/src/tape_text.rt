@@ -3,6 +3,7 @@
 ghost use Rattle.std.specs.Prelude.{◌≡◌, ℕ, List, ◌+◌, ◌<◌, ◌≤◌, ◌^◌, ◌++◌, pos, ◌+ℤ◌, ◌-ℤ◌, ◌≤ℤ◌, length, max};
 ghost use Rattle.std.specs.Prelude.{OnOk};
 ghost use Rattle.bn_machine.specs.Tape.{Tape as Endless, cell};
+ghost use Rattle.bn_machine.specs.Window.{IsWindowed};
 ghost use Rattle.bn_reply_traces.specs.Extents.{symbols_from};
 ghost use Rattle.bn_reply_traces.specs.MomentText.{letter_text, names_text};
 ghost use Rattle.bn_reply_traces.specs.Stages.{AreBelow, IsWithin, StandsFor, shown_text};
@@ -89,6 +90,7 @@ fn push_cells<L: Spells>(
     first: i64,
     count: u64,
 ) -> Result<(), NoMemory>
+    requires windowed { IsWindowed tape.now }
     requires few { length word.now < 2 ^ 62 }
     requires begins { (pos 0 -ℤ pos tape.now.left) ≤ℤ first }
     requires ends { (first +ℤ pos count) ≤ℤ pos (max tape.now.right (length word.now) + 1) }
@@ -96,7 +98,6 @@ fn push_cells<L: Spells>(
     ensures { (t : Endless) → StandsFor tape.now word.now t → OnOk result (text.new.items
         ≡ text.old.items ++ names_text (L.name names.now) (symbols_from (cell t) first count)) }
 {
-    let _head = tape.head();
     for index in 0..count {
         push(text, b" ")?;
         names.push_symbol(text, symbol_at(tape, word, first + index as i64))?;

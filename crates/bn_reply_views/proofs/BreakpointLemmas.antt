@@ -2,7 +2,7 @@
 use Rattle.std.specs.Prelude.{◌≡◌, ◌↔◌, ℕ, ◌+◌, ◌-◌, ◌<◌, ◌≤◌, Bool, true, false, List, ◌++◌, Option, Some, None, refl}
 use Rattle.std.specs.Prelude.{◌⊎◌}
 use Rattle.std.proofs.Common.{zero, suc, arith, sym, ap, subst, ◌∙◌, inl, inr}
-use Rattle.std.proofs.lemmas.Bool.{cases_lt, false≢true}
+use Rattle.std.proofs.lemmas.Bool.{cases_lt}
 use Rattle.bn_lists.specs.Runs.{Reaches}
 use Rattle.bn_circuits.specs.Circuits.{Circuit, Goes}
 use Rattle.bn_circuits.specs.Stepping.{run, back}
@@ -28,9 +28,7 @@ use Rattle.bn_reply_views.proofs.RunLemmas.{goes_least}
 use Rattle.bn_reply_views.specs.BreakpointLaws.{IsMomentAfter, at_moment, no_moment, IsHit, IsNextHit, at_next, no_next}
 use Rattle.bn_reply_views.specs.BreakpointLaws.{IsLastHit, at_last, no_last, GoesStopAtNextHit, RevsStopAtLastHit}
 use Rattle.bn_reply_views.specs.BreakpointLaws.{StepsTakenBackAreSteps, BoardsShowOneText}
-
-both_ways : (x : Bool) → x ≡ true → x ≡ false → ⊥
-both_ways x met unmet = false≢true (sym unmet ∙ met)
+use Rattle.bn_session.proofs.PlayedLemmas.{both_ways}
 
 module _ (p : Program) (word : List ℕ) (l : Limits) (f : Flat) (flat : IsFlatOf p word l f)
     (accepted : IsAccepted p word l f) where
@@ -185,9 +183,6 @@ revs-last p word l f flat accepted t e s end text on plays =
     last_hit p word l f flat accepted s.breaks s.config on e end.config plays.0
 
 -- ---- steps taken back
-
-same_session : (s t : Session) → s.config ≡ t.config → s.breaks ≡ t.breaks → s ≡ t
-same_session s t config breaks = λ i. session (config i) (breaks i)
 
 pub steps-back : StepsTakenBackAreSteps
 steps-back p word l f flat t r s x y z d text other path plays fewer =

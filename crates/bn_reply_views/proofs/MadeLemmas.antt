@@ -3,24 +3,18 @@ use Rattle.std.specs.Prelude.{◌≡◌, ℕ, List, [], refl}
 use Rattle.std.proofs.Common.{sym, ap, subst, ◌∙◌}
 use Rattle.bn_circuits.specs.Stepping.{run}
 use Rattle.bn_circuits.proofs.RunLemmas.{back-zero}
-use Rattle.bn_circuits.specs.declared.config.Config.{Config}
 use Rattle.bn_net.specs.RotaryNets.{rotary_circuit}
 use Rattle.bn_machine.specs.Outcome.{Limits}
 use Rattle.bn_table.specs.Rows.{Named}
-use Rattle.bn_bennett.specs.Translation.{IsTranslation, Translation}
-use Rattle.bn_board_spec.specs.Layouts.{IsExit, Layout}
+use Rattle.bn_bennett.specs.Translation.{Translation}
 use Rattle.bn_board_spec.specs.Flats.{Flat, IsAccepted, flat_start}
-use Rattle.bn_board_spec.specs.LayoutLaws.{ExitsAreOne}
-use Rattle.bn_board_laws.specs.RunLaws.{BoardsRunToTheirExit}
 use Rattle.bn_board.specs.Flattened.{Flattened, IsSameBoard, origin, origin_by}
 use Rattle.bn_reply.specs.declared.status.Status.TheVariants as statuses
 use Rattle.bn_reply_laws.specs.Laws.{ExitsAreNamed}
 use Rattle.bn_reply_laws.specs.RunReply.{board_after}
 use Rattle.bn_reply_boards.specs.Opened.{IsMade}
-use Rattle.bn_reply_boards.specs.Shown.{HasNames}
-use Rattle.bn_reply_boards.proofs.NameLemmas.{exit_names}
 use Rattle.bn_view.specs.Viewed.{IsBoardFor, IsViewOf}
-use Rattle.bn_reply_views.specs.Showing.{IsTableBoard, TellsLayers}
+use Rattle.bn_reply_views.specs.Showing.{TellsLayers}
 use Rattle.bn_reply_views.specs.ViewReply.{TellsView}
 use Rattle.bn_reply_views.proofs.ViewSettledLemmas.{has_name}
 
@@ -44,19 +38,6 @@ module _ (t : Named) (l : Limits) (symbols : List ℕ) (f : Flat) (m : Translati
   -- where it has come to
   pub config_is : b.config ≡ board_after f steps
   config_is = ran ∙ (λ i. run (sym made.circuit i) (made.config i) steps)
-
-  pub table_board : ExitsAreOne → BoardsRunToTheirExit → IsTableBoard t m b
-  table_board ones boards = record {
-    translates = subst (IsTranslation t.machine) made.translation made.comes.flat.translation;
-    word = symbols;
-    limits = l;
-    flat = f;
-    is_for = made_for;
-    names = λ e is. subst (λ x. HasNames t x e) made.translation
-        (exit_names t symbols l f made.comes.flat accepted ones boards steps e
-        (subst (λ (c : Config). IsExit f.layout c.place e) config_is
-        (subst (λ (x : Layout). IsExit x b.config.place e) (same.layout ∙ sym made.layout) is)));
-  }
 
   -- the text of its view is what is told
   pub view_tells : ExitsAreNamed → (text : List ℕ) → TellsLayers t f b.config text

@@ -63,8 +63,7 @@ use Rattle.bn_reply_views.specs.PlaceLaws.{PlacesAreOneInAll, SessionsShowViews}
 one_step : (names : List (List ℕ)) (script : List ℕ) (steps : ℕ) → script ≡ script_text (Step steps ∷ [])
     → steps ≤ greatest → IsScript names script (commands.Step steps ∷ [])
 one_step names script steps is low = record {
-  sentences = Step steps
-      ∷ [];
+  sentences = Step steps ∷ [];
   spelled = is;
   asked = (commands.Step steps, [], refl, low, refl, refl);
 }
@@ -169,8 +168,7 @@ module _ (table script word : List ℕ) (l : Limits) (steps : ℕ) (text stepped
       let place = v.tells.is_view.board.place ∙ ap (λ (x : Config). x.place) (sym config) in
       let made = v.tells.is_view.board.steps ∙ ap (λ (x : Config). x.steps) (sym config) in (
         rest_of t v.flat v.tells.view,
-        v.tells.text_is ∙ (λ i. element_line (place i) (made i)
-            ++ rest_of t v.flat v.tells.view),
+        v.tells.text_is ∙ (λ i. element_line (place i) (made i) ++ rest_of t v.flat v.tells.view),
       )
 
   -- the layers of any board of the table are what the view shows

@@ -36,23 +36,10 @@ use Rattle.bn_view.specs.Shown.{IsShown}
 use Rattle.bn_view.specs.Viewed.{Finds, IsBoardFor, IsView, IsViewOf}
 use Rattle.bn_view.specs.declared.layers.Layers.{Layers}
 use Rattle.bn_view.proofs.ViewLemmas.{board_reaches, view_of}
-use Rattle.bn_reply_views.specs.Showing.{IsTableBoard, TellsLayers}
+use Rattle.bn_reply_views.specs.Showing.{TellsLayers}
 use Rattle.bn_reply_views.specs.ViewText.{element_line, machine_line, module_line, state_line, view_text}
 use Rattle.bn_reply_views.specs.SessionReply.{IsAnswerTo}
 use Rattle.bn_reply_views.specs.Viewing.{MayShow, ShowsLayers}
-
--- ---- wherever it is in its run
-
-module _ (t : Named) (m : Translation) (b : Flattened) (may : MayShow t m b) (kept : IsBoardKept b) where
-  pub may_show_here : IsTableBoard t m b
-  may_show_here = record {
-    translates = may.translates;
-    word = may.word;
-    limits = may.limits;
-    flat = may.flat;
-    is_for = may.is_for;
-    names = λ e is. may.names b.config kept.reached.reaches e is;
-  }
 
 -- ---- one text for all words and limits
 
@@ -111,8 +98,7 @@ module _ (t : Named) (m : Translation) (b : Flattened) (kept : IsBoardKept b) (f
           λ word l f is. (
             v,
             view_of t.machine word l f m b is found kept v board,
-            text_same t may.flat f
-                (may.is_for.translation ∙ sym is.translation) v,
+            text_same t may.flat f (may.is_for.translation ∙ sym is.translation) v,
           ),
         )
 
@@ -122,8 +108,7 @@ module _ (t : Named) (m : Translation) (b : Flattened) (kept : IsBoardKept b) (f
       front = [];
       rest = some_text.0;
       is = some_text.1;
-      written = same
-          ∙ sym (append-nil old);
+      written = same ∙ sym (append-nil old);
     }
 
 -- ---- a script that was played

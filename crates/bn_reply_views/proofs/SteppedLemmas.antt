@@ -122,7 +122,6 @@ views-show_steps machines ones settled bytes word l steps text stepped status to
           there,
           (
             rest_of t g tells.view,
-            tells.text_is
-                ∙ (λ i. element_line (place i) (made i) ++ rest_of t g tells.view),
+            tells.text_is ∙ (λ i. element_line (place i) (made i) ++ rest_of t g tells.view),
           ),
         )

@@ -1,8 +1,7 @@
 -- The pieces of the text of a view, put together; and that it can be written.
-use Rattle.std.specs.Prelude.{◌≡◌, ℕ, ◌<◌, List, [], ◌++◌, length, Some, slice_get}
+use Rattle.std.specs.Prelude.{◌≡◌, ℕ, ◌<◌, List, [], ◌++◌, Some, slice_get}
 use Rattle.std.specs.Option.{option_map}
 use Rattle.std.proofs.Common.{arith, sym, ap, subst, ◌∙◌, append_assoc}
-use Rattle.std.proofs.lemmas.List.{length-map}
 use Rattle.std.proofs.lemmas.Option.{slice_get-map, slice_get-get_or}
 use Rattle.bn_machine.specs.Machine.{Program, start}
 use Rattle.bn_machine.specs.Window.{anywhere}
@@ -24,7 +23,8 @@ use Rattle.bn_reply_boards.specs.Shown.{HaveLetters}
 use Rattle.bn_reply_boards.proofs.ShownLemmas.{line_within, shown_letters}
 use Rattle.bn_view.specs.Viewed.{IsBoardFor, IsViewOf, MachineIsAt, ShowsMachine}
 use Rattle.bn_view.specs.declared.layers.Layers.{Layers}
-use Rattle.bn_reply_views.specs.Showing.{CanBeWritten, IsNamedState, IsTableBoard}
+use Rattle.bn_reply_views.specs.Showing.{CanBeWritten, IsNamedState}
+use Rattle.bn_reply_views.specs.Viewing.{MayShow}
 
 -- five pieces one behind the other
 pub five_pieces : (first a b d e g one two three four five : List ℕ) → first ≡ [] → one ≡ first ++ a → two ≡ one ++ b
@@ -36,14 +36,6 @@ five_pieces first a b d e g one two three four five none h1 h2 h3 h4 h5 =
     ∙ append_assoc ((a ++ b) ++ d) e g ∙ append_assoc (a ++ b) d (e ++ g) ∙ append_assoc a b (d ++ (e ++ g))
 
 -- ---- the name of a state
-
-pub state_known : (t : Named) (m : Translation) (names : Naming) → names ≡ translation_names t m
-    → IsTranslation t.machine m → (a : ℕ) → a < m.machine.states → a < length names.states
-state_known t m names is translation a low =
-    let count : length names.states ≡ length m.names = ap (λ (n : Naming). length n.states) is
-    ∙ length-map m.names bennett_state_text in
-    let states = translation.states in
-    omega arith
 
 pub state_name : (t : Named) (m : Translation) (names : Naming) → names ≡ translation_names t m
     → IsTranslation t.machine m → (a : ℕ) → a < m.machine.states
@@ -88,7 +80,7 @@ letters_three p word l f flat = ap (λ zs. symbol_count_at (record {
   awaited = f.layout.awaited;
 }) 3) (symbols_are p word l f flat)
 
-module _ (t : Named) (m : Translation) (b : Flattened) (is : IsTableBoard t m b) (kept : IsBoardKept b) where
+module _ (t : Named) (m : Translation) (b : Flattened) (is : MayShow t m b) (kept : IsBoardKept b) where
   pub can_be_written : (v : Layers) → v.place ≡ b.config.place → v.state < m.machine.states
       → ((p : Program) (word : List ℕ) (l : Limits) (f : Flat) → IsBoardFor p word l f m b → IsViewOf f b.config v)
       → ((p : Program) (word : List ℕ) (l : Limits) (f : Flat) → IsBoardFor p word l f m b → ShowsMachine p word l m v)
@@ -100,7 +92,8 @@ module _ (t : Named) (m : Translation) (b : Flattened) (is : IsTableBoard t m b)
       let machine = shows t.machine is.word is.limits f for_it in
       record {
         place = line_within b.net b.config kept.reached.good v.place place;
-        exit = is.names v.exit (subst (λ x. IsExit x b.config.place v.exit) for_it.layout view.exit);
+        exit = is.names b.config kept.reached.reaches v.exit (subst (λ x. IsExit x b.config.place v.exit) for_it.layout
+            view.exit);
         state = low;
         machine = named_state t is.word is.limits f for_it.accepted v.machine_step v.machine machine.at;
         one = subst (λ (s : Spelled). HaveLetters t 1 s.one.cells) (sym view.board.tapes)

@@ -36,5 +36,4 @@ SessionReplies word l = CutReplies (λ table script. WindowReplies (TellsSession
 
 -- it has one answer to all words, limits that may be asked for, and bytes
 abbrev pub SessionIsSettled : Type 0
-SessionIsSettled = (word : List ℕ) (l : Limits) (bytes : List ℕ) → AreSmall l
-    → IsSettled (SessionReplies word l bytes)
+SessionIsSettled = (word : List ℕ) (l : Limits) (bytes : List ℕ) → AreSmall l → IsSettled (SessionReplies word l bytes)

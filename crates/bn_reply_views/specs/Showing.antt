@@ -1,18 +1,14 @@
 -- What the text of a view is made of: a table's names and letters, and a translation's states.
 use Rattle.std.specs.Prelude.{◌≡◌, ℕ, ◌<◌, List}
 use Rattle.bn_circuits.specs.declared.config.Config.{Config}
-use Rattle.bn_machine.specs.Outcome.{Limits}
 use Rattle.bn_netlist_laws.specs.Sentences.{line_of_place}
 use Rattle.bn_table.specs.Rows.{Named}
-use Rattle.bn_bennett.specs.Translation.{Translation, IsTranslation}
+use Rattle.bn_bennett.specs.Translation.{Translation}
 use Rattle.bn_bennett.specs.declared.translated.MachineState.{MachineState}
 use Rattle.bn_bennett.specs.declared.translated.MachineState.TheVariants.{AtState, Within}
-use Rattle.bn_board_spec.specs.declared.exit.Exit.{Exit}
-use Rattle.bn_board_spec.specs.Layouts.{IsExit}
 use Rattle.bn_board_spec.specs.Flats.{Flat}
-use Rattle.bn_board.specs.Flattened.{Flattened}
 use Rattle.bn_reply_boards.specs.Shown.{HasNames, HaveLetters}
-use Rattle.bn_view.specs.Viewed.{IsBoardFor, IsViewOf}
+use Rattle.bn_view.specs.Viewed.{IsViewOf}
 use Rattle.bn_view.specs.declared.layers.Layers.{Layers}
 use Rattle.bn_reply_views.specs.ViewText.{view_text}
 
@@ -29,16 +25,6 @@ pub record CanBeWritten (t : Named) (m : Translation) (v : Layers) : Type 0 wher
   pub machine : IsNamedState t v.machine
   pub one : HaveLetters t 1 v.tapes.one.cells
   pub three : HaveLetters t 3 v.tapes.three.cells
-
--- The board is that of a table's machine and of this translation, and the table has names for whatever exit its layout
--- finds.
-pub record IsTableBoard (t : Named) (m : Translation) (b : Flattened) : Type 0 where
-  pub translates : IsTranslation t.machine m
-  pub word : List ℕ
-  pub limits : Limits
-  pub flat : Flat
-  pub is_for : IsBoardFor t.machine word limits flat m b
-  pub names : (e : Exit) → IsExit b.layout b.config.place e → HasNames t m e
 
 -- the text is that of the view of f where its board has come to d
 abbrev pub TellsLayers : Named → Flat → Config → List ℕ → Type 0

@@ -28,8 +28,7 @@ element_line p steps = line (codes "element " ∷ place_text p ∷ codes " steps
 
 -- where a cell is
 abbrev pub cell_text : ℕ → ℤ → List ℕ
-cell_text tape position =
-    codes "module tape " ++ (decimal tape ++ (codes " cell " ++ position_text position))
+cell_text tape position = codes "module tape " ++ (decimal tape ++ (codes " cell " ++ position_text position))
 
 -- the module, of a machine whose tapes have so many symbols, with the input line that is entered, or that it is inside;
 -- and of a signal that has left this line, its exit's

@@ -12,6 +12,6 @@ mod viewer;
 pub use laws::view_reply_laws;
 pub use script_text::{refuse_script, without_script};
 pub use session::reply_session;
-pub use view::{layers_text, reply_view};
+pub use view::reply_view;
 pub use view_text::{push_element, push_module};
 pub use viewer::push_bytes;

@@ -94,8 +94,6 @@ fn play_script(
         → IsBoardFor table.now.machine word l f translated.now board.old → board.old.config ≡ flat_start f
         → IsAnswerTo table.now f script.now r.text.items) }
 {
-    // What every board keeps.
-    let _elements = board.len();
     let mut text = Vec::new(alloc);
     let viewer = Viewer { table, translated };
     play(alloc, board, script, &viewer, &mut text)?;

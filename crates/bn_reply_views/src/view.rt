@@ -5,9 +5,11 @@ ghost use Rattle.bn_network.specs.Limits.{AreSmall};
 ghost use Rattle.bn_assembly.specs.Assembled.{limits_of};
 ghost use Rattle.bn_machine.specs.Outcome.{Limits};
 ghost use Rattle.bn_board_spec.specs.Flats.{Flat};
+ghost use Rattle.bn_board.specs.Flattened.{IsBoardKept};
 ghost use Rattle.bn_view.specs.Viewed.{IsBoardFor};
 ghost use Rattle.bn_reply_views.specs.ViewReply.{ViewReplies};
-ghost use Rattle.bn_reply_views.specs.Showing.{IsTableBoard, TellsLayers};
+ghost use Rattle.bn_reply_views.specs.Showing.{TellsLayers};
+ghost use Rattle.bn_reply_views.specs.Viewing.{MayShow};
 
 use crate::view_text::view_text;
 use bn_assembly::Windows;
@@ -44,17 +46,18 @@ pub fn reply_view(
     }
 }
 
-/// The text of the view of a board of a table's machine: seven lines, of the layers where the board is in its run.
-pub fn layers_text(
+// The text of the view of a board of a table's machine: seven lines, of the layers where the board is in its run.
+pub(crate) fn layers_text(
     alloc: Global,
     table: &Table,
     translated: &Translated,
     board: &Board,
 ) -> Result<Vec<u8>, NoMemory>
-    requires { IsTableBoard table.now translated.now board.now }
-    ensures { IfOk result (λ text. (word : List ℕ) (l : Limits) (f : Flat)
+    requires { MayShow table.now translated.now board.now }
+    ensures shown { IfOk result (λ text. (word : List ℕ) (l : Limits) (f : Flat)
         → IsBoardFor table.now.machine word l f translated.now board.now
         → TellsLayers table.now f board.now.config text.items) }
+    ensures kept { IsBoardKept board.now }
 {
     let layers = view(alloc, board, translated)?;
     view_text(alloc, table, translated, &layers)

@@ -26,8 +26,6 @@ impl<'a> Shows for Viewer<'a> {
     ghost allows = { λ v b. MayShow v.table.now v.translated.now b };
 
     fn show(&self, alloc: Global, board: &Board, out: &mut Vec<u8>) -> Result<(), NoMemory> {
-        // (for the prover: the contract of this call tells what the type keeps.)
-        let _elements = board.len();
         let text = layers_text(alloc, self.table, self.translated, board)?;
         push_bytes(out, text.as_slice())
     }

@@ -2,16 +2,15 @@
 -- them as they are.
 use Rattle.bn_table.proofs.MachineLemmas.{tables_machines}
 use Rattle.bn_board_spec.proofs.ExitLemmas.{exits-one}
-use Rattle.bn_reply_laws.specs.Laws.{ExitsAreNamed, MomentsAreCounted}
-use Rattle.bn_reply_laws.proofs.ClosedLemmas.{counted, run_settled}
-use Rattle.bn_board_laws.proofs.ClosedLemmas.{flats_one, flats_there, have_moments, run_to_exit}
+use Rattle.bn_reply_laws.specs.Laws.{ExitsAreNamed}
+use Rattle.bn_reply_laws.proofs.ClosedLemmas.{counted, run_settled, moments}
+use Rattle.bn_board_laws.proofs.ClosedLemmas.{flats_one, flats_there, run_to_exit}
 use Rattle.bn_reply_laws.proofs.OutcomeLemmas.{runs-tell_outcomes}
-use Rattle.bn_reply_laws.proofs.RunLemmas.{exits-named, moments-counted}
+use Rattle.bn_reply_laws.proofs.RunLemmas.{exits-named}
 use Rattle.bn_headline.specs.AutoReply.{AutoIsSettled}
 use Rattle.bn_headline.specs.AutoLaws.{AnswersTellFoundWindow, AutosEndInside, AutosTellFindings, AutosTellPlaces}
 use Rattle.bn_headline.proofs.AutoLemmas.{Answers, auto-settled, rounds-begin}
-use Rattle.bn_headline.proofs.FoundLemmas.{answers-tell_found, autos-end_inside, autos-tell_findings}
-use Rattle.bn_headline.proofs.FoundLemmas.{autos-tell_places}
+use Rattle.bn_headline.proofs.FoundLemmas.{answers-tell_found, autos-end_inside, autos-tell_findings, autos-tell_places}
 use Rattle.bn_headline.proofs.RoundLemmas.{Boards}
 use Rattle.bn_headline.proofs.SearchLemmas.{search-ends}
 use Rattle.bn_reply_windows.specs.Laws.{RoundsBeginSearches, RoundsGoOn}
@@ -19,9 +18,6 @@ use Rattle.bn_reply_windows.proofs.LawLemmas.{rounds-begin_searches, rounds-go_o
 
 pub named : ExitsAreNamed
 named = exits-named run_to_exit
-
-pub moments : MomentsAreCounted
-moments = moments-counted run_to_exit have_moments
 
 boards : Boards
 boards = record {
@@ -37,8 +33,7 @@ answers : Answers
 answers = record {
   boards = boards;
   settled = run_settled;
-  tells = runs-tell_outcomes tables_machines exits-one
-      run_to_exit moments;
+  tells = runs-tell_outcomes tables_machines exits-one run_to_exit moments;
   ends = search-ends flats_there counted;
 }
 

@@ -28,8 +28,7 @@ rounds_more p symbols zero w v u told more made round = (
   [],
   subst (λ x. IsRound p symbols x u more) (sym made.0) round,
   (refl, refl),
-  ap (λ ps. ps ++ more) made.1
-      ∙ sym (append-nil more),
+  ap (λ ps. ps ++ more) made.1 ∙ sym (append-nil more),
 )
 rounds_more p symbols (suc n) w v u told more made round = (
   made.0,
@@ -37,8 +36,7 @@ rounds_more p symbols (suc n) w v u told more made round = (
   made.2 ++ more,
   made.3,
   rounds_more p symbols n made.0 v u made.2 more made.4 round,
-  ap
-      (λ ps. ps ++ more) made.5 ∙ append_assoc made.1 made.2 more,
+  ap (λ ps. ps ++ more) made.5 ∙ append_assoc made.1 made.2 more,
 )
 
 -- before the first round

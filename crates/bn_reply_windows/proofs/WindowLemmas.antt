@@ -116,8 +116,7 @@ module _ (t : Named) (symbols : List ℕ) (w : Limits) where
     came = record {
       places = [];
       right = large is.count is.counts is.great is.text is.status refl;
-      hears = hears-nothing
-          told;
+      hears = hears-nothing told;
     };
     interrupted = tt;
   }
@@ -148,8 +147,7 @@ module _ (t : Named) (symbols : List ℕ) (w : Limits) where
         → IsRoundOf (EndReplies t symbols w) (LeavesBy t.machine symbols w) r told heard
     round_as (Ended r) told heard h = record {
       places = h.places;
-      right = end_replies r.status r.text.items h.places
-          h.right;
+      right = end_replies r.status r.text.items h.places h.right;
       hears = h.hears;
     }
     round_as (Short tape side) told heard h = (h.0, leaves_by tape side h.0 h.1, h.2)

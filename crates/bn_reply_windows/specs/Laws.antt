@@ -25,8 +25,7 @@ pub record GoesOn (p : Program) (symbols : List ℕ) (rounds : ℕ) (w : Limits)
   pub few : rounds ≤ MOST_ELEMENTS + 1
   pub small : AreSmall w
   pub fits : length symbols ≤ w.right
-  pub wider : (tape : ℕ) (side : Side) (told : List Place) → LeavesBy p symbols w tape side told
-      → MayWiden w tape side
+  pub wider : (tape : ℕ) (side : Side) (told : List Place) → LeavesBy p symbols w tape side told → MayWiden w tape side
 
 abbrev pub RoundsGoOn : Type 0
 RoundsGoOn =

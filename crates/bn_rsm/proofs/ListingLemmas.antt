@@ -110,8 +110,7 @@ module _ (t : Table) (is : IsReversible t) where
   moves_sound ms square are =
       record {
         one_to_one = one_to_one ms are.apart are.only;
-        within = subst
-            (λ n. AreWithin t.states t.inputs n (map move_of ms)) square (within ms are.only);
+        within = subst (λ n. AreWithin t.states t.inputs n (map move_of ms)) square (within ms are.only);
       }
 
   -- which goes where the table goes

@@ -104,8 +104,7 @@ one_to_one-push (x ∷ ms) m apart from to =
     let t = not_first (x.next == m.next && x.output == m.output) (Some (x.state, x.input)) (back_by ms m.next m.output)
     (x.state, x.input) refl to in (
       go_by-push ms m x.state x.input apart.0 (turned_test x.state x.input m.state m.input f.0),
-      back_by-push ms m x.next
-          x.output apart.1 (turned_test x.next x.output m.next m.output t.0),
+      back_by-push ms m x.next x.output apart.1 (turned_test x.next x.output m.next m.output t.0),
       one_to_one-push ms m apart.2 f.1 t.1,
     )
 
@@ -117,8 +116,7 @@ within-push s n k (x ∷ ms) m within a b c d = (
   within.1,
   within.2,
   within.3,
-  within-push s n k ms m within.4 a
-      b c d,
+  within-push s n k ms m within.4 a b c d,
 )
 
 -- the tests of the range, as bounds
@@ -132,8 +130,7 @@ pub in_range : (s k : ℕ) (m : RsmMove) → is_within s k m ≡ true → IsInRa
 in_range s k m h = record {
   state = grind (arith, nat_tests);
   line = grind (arith, nat_tests);
-  next = grind
-      (arith, nat_tests);
+  next = grind (arith, nat_tests);
   out = grind (arith, nat_tests);
 }
 
@@ -160,14 +157,6 @@ sound-push s k ms m sound none =
 pub record AreIndexed (s k : ℕ) (from to : Numbers) (moves : List RsmMove) (n : ℕ) : Type 0 where
   pub numbers : AreNumbers from to (take n moves)
   pub sound : AreSound s k (take n moves)
-
-pub none_indexed : (s k : ℕ) (from to : Numbers) (moves : List RsmMove) → ((p : ℕ × ℕ) → get same_pair from p ≡ None)
-    → ((p : ℕ × ℕ) → get same_pair to p ≡ None) → AreIndexed s k from to moves 0
-none_indexed s k from to moves no_from no_to =
-    record {
-      numbers = record { leaving = λ q i. no_from (q, i); leading = λ r o. no_to (r, o) };
-      sound = record { one_to_one = tt; within = tt };
-    }
 
 pub take_one_more : (moves : List RsmMove) (n : ℕ) (m : RsmMove) → slice_get moves n ≡ Some m
     → take (n + 1) moves ≡ take n moves ++ m ∷ []
@@ -276,8 +265,7 @@ sound-faultless s k ms n m sound stands =
     rw (
       within_at s k ms n m sound.within stands,
       no_earlier_from ms n 1 m sound.one_to_one stands,
-      no_earlier_to ms n 1
-          m sound.one_to_one stands,
+      no_earlier_to ms n 1 m sound.one_to_one stands,
     ) refl
 
 not_at_fault : (s k : ℕ) (ms : List RsmMove) (j : ℕ) (fault : MoveFault) → AreSound s k ms
@@ -305,14 +293,12 @@ fault-refused s k ms n m out_of_range sound stands found =
 fault-refused s k ms n m (same_domain i) sound stands found = (
   SameDomain i (n + 1),
   (λ e. cc),
-  refused_at s k ms n m sound stands (SameDomain i (n + 1))
-      (ap (λ o. checked o (n + 1)) found),
+  refused_at s k ms n m sound stands (SameDomain i (n + 1)) (ap (λ o. checked o (n + 1)) found),
 )
 fault-refused s k ms n m (same_range i) sound stands found = (
   SameRange i (n + 1),
   (λ e. cc),
-  refused_at s k ms n m sound stands (SameRange i (n + 1))
-      (ap (λ o. checked o (n + 1)) found),
+  refused_at s k ms n m sound stands (SameRange i (n + 1)) (ap (λ o. checked o (n + 1)) found),
 )
 
 first-moves : (s k : ℕ) (ms : List RsmMove) (n : ℕ) → n ≤ length ms
@@ -358,8 +344,7 @@ turned-one_to_one : (ms : List RsmMove) → AreOneToOne (map move_of ms) → Are
 turned-one_to_one [] apart = tt
 turned-one_to_one (m ∷ ms) apart = (
   go_by-turned ms m.next m.out ∙ apart.1,
-  back_by-turned ms m.state m.line
-      ∙ apart.0,
+  back_by-turned ms m.state m.line ∙ apart.0,
   turned-one_to_one ms apart.2,
 )
 
@@ -371,8 +356,7 @@ turned-within s k (m ∷ ms) within = (within.2, within.3, within.0, within.1, t
 pub sound-turned : (s k : ℕ) (ms : List RsmMove) → AreSound s k ms → AreSound s k (map turned ms)
 sound-turned s k ms sound = record {
   one_to_one = turned-one_to_one ms sound.one_to_one;
-  within = turned-within s k ms
-      sound.within;
+  within = turned-within s k ms sound.within;
 }
 
 pub turned-backward : (m n : Machine) → n.moves ≡ map turned m.moves → IsBackward m n

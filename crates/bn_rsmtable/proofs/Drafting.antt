@@ -5,7 +5,7 @@ use Rattle.std.proofs.Common.{zero, suc, sym, ap, subst, ◌∙◌, arith}
 use Rattle.std.proofs.lemmas.List.Elements.{All-append, All-cons}
 use Rattle.std.proofs.lemmas.Bool.Decides.{nat_tests}
 use Rattle.bn_rsm.specs.Faults as moves
-use Rattle.bn_rsm.specs.Faults.{MoveFault, out_of_range, same_domain, same_range, clash, move_fault_of, is_within}
+use Rattle.bn_rsm.specs.Faults.{out_of_range, clash, is_within}
 use Rattle.bn_rsm.specs.declared.rsm_move.RsmMove.{RsmMove}
 use Rattle.bn_rsm.specs.declared.refusal.RsmRefusal.TheVariants as refused
 use Rattle.bn_base.specs.declared.limits.TheConstants.{MOST_COUNT}

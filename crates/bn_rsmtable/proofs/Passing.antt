@@ -51,8 +51,7 @@ no_fault n m few h =
       number_decimal m.state h.state,
       number_decimal m.line h.line,
       number_decimal m.next h.next,
-      number_decimal
-          m.out h.out,
+      number_decimal m.out h.out,
     ) refl
 
 -- two moves with one entry are one

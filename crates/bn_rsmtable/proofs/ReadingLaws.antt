@@ -99,14 +99,12 @@ clash_of : (bytes : List ℕ) (ms : List RsmMove) (said : RsmRefusal) → AreRea
 clash_of bytes ms (clash.SameDomain i j) reads some said = (
   refusal.SameDomain i j,
   (λ e. cc),
-  record
-      { found = ms; reads = reads; clash = said },
+  record { found = ms; reads = reads; clash = said },
 )
 clash_of bytes ms (clash.SameRange i j) reads some said = (
   refusal.SameRange i j,
   (λ e. cc),
-  record
-      { found = ms; reads = reads; clash = said },
+  record { found = ms; reads = reads; clash = said },
 )
 clash_of bytes ms (clash.Range j) reads some said = absurd (never_outside ms j said)
 clash_of bytes ms clash.NoMemory reads some said = absurd (some refl)
@@ -291,8 +289,7 @@ plain_step m h =
     rw (
       plain_decimal (m.state + 1) (omega arith),
       plain_decimal (m.line + 1) (omega arith),
-      plain_decimal (m.next + 1)
-          (omega arith),
+      plain_decimal (m.next + 1) (omega arith),
       plain_decimal (m.out + 1) (omega arith),
     ) refl
 

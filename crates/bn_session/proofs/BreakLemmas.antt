@@ -221,32 +221,6 @@ pub kept_values : (slab : Slab Condition) (es : List Entry) (marks : List Bool) 
 kept_values slab [] marks kept = tt
 kept_values slab (e ∷ es) marks (some, free, marked, rest) = (some, kept_values slab es marks rest)
 
--- where the first entry's condition holds, or not
-pub first_here : (slab : Slab Condition) (place : Place) (moment : Option ℕ) (e : Entry) (es : List Entry)
-    (x : Condition) → get slab e.1 ≡ Some x → holds place moment x ≡ true
-    → first_label place moment (kept_breaks slab (e ∷ es)) ≡ Some e.0.items
-first_here slab place moment e es x there met =
-    let condition : condition_at slab e.1 ≡ x = ap (λ o. unwrap_or o (AtElement 0)) there in
-    let test : holds place moment (condition_at slab e.1) ≡ true = ap (holds place moment) condition ∙ met in
-    rw test refl
-
-pub first_later : (slab : Slab Condition) (place : Place) (moment : Option ℕ) (e : Entry) (es : List Entry)
-    (x : Condition) → get slab e.1 ≡ Some x → holds place moment x ≡ false
-    → first_label place moment (kept_breaks slab (e ∷ es)) ≡ first_label place moment (kept_breaks slab es)
-first_later slab place moment e es x there unmet =
-    let condition : condition_at slab e.1 ≡ x = ap (λ o. unwrap_or o (AtElement 0)) there in
-    let test : holds place moment (condition_at slab e.1) ≡ false = ap (holds place moment) condition ∙ unmet in
-    rw test refl
-
--- a key with a value has one
-pub no_value : (slab : Slab Condition) (e : Entry) (es : List Entry) → HaveValues slab (e ∷ es) → get slab e.1 ≡ None
-    → ⊥
-no_value slab e es values none = let there : is_some (get slab e.1) ≡ true =
-    values.0 in clash (sym there ∙ ap is_some none)
-  where
-    clash : true ≡ false → ⊥
-    clash e = cc
-
 -- ---- what is done to the slab
 
 -- where all keys have what they had
@@ -258,8 +232,7 @@ kept_same slab other (e ∷ es) marks same (some, free, marked, rest) =
       subst IsSome (sym (same e.1)) some,
       free,
       subst (IsMarked marks) (sym condition) marked,
-      kept_same slab other es
-          marks same rest,
+      kept_same slab other es marks same rest,
     )
 
 -- a value that is taken out again

@@ -258,8 +258,7 @@ shorter_fault names bytes line number fault other apart a b short =
     let here = subst (λ l. BeginsWithFaultyLine names (standing_by a.commands) l other) left_is
     (subst (λ zs. BeginsWithFaultyLine names (standing_by zs) b.left other) commands_are b.here) in (
       a.counted ∙ ap (λ ss. length ss + 1) (sym sentences) ∙ sym b.counted,
-      one_fault names (standing_by a.commands)
-          a.left fault other a.here here,
+      one_fault names (standing_by a.commands) a.left fault other a.here here,
     )
 
 pub faults-one : FirstFaultsAreOne

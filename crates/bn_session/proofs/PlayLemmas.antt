@@ -12,8 +12,7 @@ use Rattle.bn_board_spec.specs.Layouts.{moment_at}
 use Rattle.bn_board.specs.Flattened.{Flattened, IsSameBoard}
 use Rattle.bn_session.specs.Labels.{without, standing_after, IsOrderly, AreOrderly}
 use Rattle.bn_session.specs.Breakpoints.{Breakpoint, labels_of, without_break}
-use Rattle.bn_session.specs.Sentences.{ScriptSentence}
-use Rattle.bn_session.specs.Sentences.{Step, Back, Go, Rev, BreakState, BreakElement, Drop, View}
+use Rattle.bn_session.specs.Sentences.{ScriptSentence, Step, Back, Go, Rev, BreakState, BreakElement, Drop, View}
 use Rattle.bn_session.specs.Scripts.{Asks, AskFor}
 use Rattle.bn_session.specs.Plays.{Session, session, label_that_holds, place_line, PlaysOne, Plays}
 use Rattle.bn_session.specs.Boards.{board_at, shown_on, PlaysOneOn, IsPlayed, IsStopped, IsOnePlayed, IsOneLeft}
@@ -36,8 +35,7 @@ left_unwritten shows b breaks x y end text c old new is plays config kept =
       rest = text;
       plays = plays;
       config = config;
-      written = kept
-          ∙ sym (append-nil old);
+      written = kept ∙ sym (append-nil old);
     })
 
 -- a front of a view was written
@@ -82,8 +80,7 @@ place_written shows b breaks x y end label other old new is plays same written =
     (record {
       text = place_line end.config other;
       plays = plays;
-      written = written
-          ∙ ap (λ l. old ++ place_line end.config l) same;
+      written = written ∙ ap (λ l. old ++ place_line end.config l) same;
     })
 
 -- ---- labels
@@ -133,8 +130,7 @@ asked_orderly names standing [] xs none = subst (AreOrderly standing) (sym none)
 asked_orderly names standing (s ∷ ss) xs (x, more, is, sayable, asks, rest) =
     subst (AreOrderly standing) (sym is) (
       asks_orderly names standing s x asks,
-      asked_orderly names
-          (standing_after standing x) ss more rest,
+      asked_orderly names (standing_after standing x) ss more rest,
     )
 
 -- ---- a script
@@ -151,8 +147,7 @@ plays-more k moment shows (y ∷ xs) x s u t text line (v, first, rest, plays, m
   rest ++ line,
   plays,
   plays-more k moment shows xs x v u t rest line more one,
-  ap (λ r. r ++ line) is
-      ∙ append_assoc first rest line,
+  ap (λ r. r ++ line) is ∙ append_assoc first rest line,
 )
 
 -- a board that is the same but for its configuration
@@ -203,10 +198,6 @@ module _ (shows : Flattened → List ℕ → Type 0) (a b : Flattened) (same : I
         };
         written = one.written ∙ ap (λ r. r ++ one.front) before.written ∙ append_assoc old before.text one.front;
       }
-
-pub none_played : (shows : Flattened → List ℕ → Type 0) (b : Flattened) (old : List ℕ)
-    → IsPlayedTo shows b [] (session b.config []) old old
-none_played shows b old = record { text = []; plays = (refl, refl); written = sym (append-nil old) }
 
 pub all_played : (shows : Flattened → List ℕ → Type 0) (b : Flattened) (xs : List Command) (end : Session)
     (old new : List ℕ) → IsPlayedTo shows b xs end old new → IsPlayed shows b xs end.config old new

@@ -24,7 +24,7 @@ use Rattle.bn_session.specs.declared.condition.Condition.TheVariants.{AtState, A
 
 -- ---- where a way stops
 
-both_ways : (x : Bool) → x ≡ true → x ≡ false → ⊥
+pub both_ways : (x : Bool) → x ≡ true → x ≡ false → ⊥
 both_ways x met unmet = false≢true (sym unmet ∙ met)
 
 module _ (test : Config → Bool) (far : ℕ → Config) where
@@ -50,8 +50,7 @@ module _ (test : Config → Bool) (far : ℕ → Config) where
       by : (test (far (suc e)) ≡ true) ⊎ (test (far (suc e)) ≡ false) → (d : Config) × IsStop test far (suc e) d
       by (inl met) = (
         far (suc e),
-        at_hit (suc e) (omega arith) (omega arith) met
-            (λ i some less. none i some (omega arith)) refl,
+        at_hit (suc e) (omega arith) (omega arith) met (λ i some less. none i some (omega arith)) refl,
       )
       by (inr unmet) = (far (suc e), at_last (λ i some less. last i some less (cases_lt e i)) refl)
         where
@@ -80,14 +79,12 @@ module _ (k : Circuit) (moment : Config → Option ℕ) (shows : Config → List
     one-by (Go e) s t u text other p q =
         let at = stop-one (stops moment s.breaks) (run k s.config) e t.config u.config p.0 q.0 in (
           same_session t u at (p.1 ∙ sym q.1),
-          p.2 ∙ ap (λ (z : Config). place_line z
-              (label_that_holds moment s.breaks s.config z)) at ∙ sym q.2,
+          p.2 ∙ ap (λ (z : Config). place_line z (label_that_holds moment s.breaks s.config z)) at ∙ sym q.2,
         )
     one-by (Rev e) s t u text other p q =
         let at = stop-one (stops moment s.breaks) (back k s.config) e t.config u.config p.0 q.0 in (
           same_session t u at (p.1 ∙ sym q.1),
-          p.2 ∙ ap (λ (z : Config). place_line z
-              (label_that_holds moment s.breaks s.config z)) at ∙ sym q.2,
+          p.2 ∙ ap (λ (z : Config). place_line z (label_that_holds moment s.breaks s.config z)) at ∙ sym q.2,
         )
     one-by (BreakState label a) s t u text other p q = (p.0 ∙ sym q.0, p.1 ∙ sym q.1)
     one-by (BreakElement label e) s t u text other p q = (p.0 ∙ sym q.0, p.1 ∙ sym q.1)
@@ -126,8 +123,7 @@ module _ (k : Circuit) (moment : Config → Option ℕ) (shows : Config → List
         )
     there-by (BreakState label a) s fits = (
       session s.config (s.breaks ++ breakpoint label (AtState a) ∷ []),
-      label_line
-          (codes "break ") label,
+      label_line (codes "break ") label,
       (refl, refl),
     )
     there-by (BreakElement label e) s fits = (
@@ -244,8 +240,7 @@ module _ (k : Circuit) (moment : Config → Option ℕ) (shows : Config → List
           p.1,
           p.2,
           follow-by x s p.0 p.1 on p.3,
-          follow-all xs p.0 t p.2
-              (on-by x s p.0 p.1 on p.3) p.4,
+          follow-all xs p.0 t p.2 (on-by x s p.0 p.1 on p.3) p.4,
           p.5,
         )
 

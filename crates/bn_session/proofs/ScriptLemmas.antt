@@ -6,7 +6,7 @@ use Rattle.std.proofs.lemmas.List.{append-nil, length-append}
 use Rattle.std.proofs.lemmas.List.Sums.{fold-append}
 use Rattle.bn_base.specs.Line.{IsInLine, IsNextLine}
 use Rattle.bn_base.specs.declared.lines.NextLine.{NextLine}
-use Rattle.bn_base.specs.declared.lines.NextLine.TheVariants.{Whole, Cut, End}
+use Rattle.bn_base.specs.declared.lines.NextLine.TheVariants.{Whole, Cut}
 use Rattle.std.specs.Borrow.{Bor}
 use Rattle.bn_session.specs.declared.sentence.Sentence.{Sentence as Kept}
 use Rattle.bn_base.proofs.LineLemmas.{lines-agree, cut-lines-differ}
@@ -37,8 +37,7 @@ refusal_weaker P Q number NoMemory then h = tt
 pub cut_is_malformed : (left : List ℕ) → IsInLine left → left ≢ [] → IsMalformedLine left
 cut_is_malformed left cut some = record {
   some = some;
-  unsaid = λ s behind sayable. cut-lines-differ left
-      (script_sentence_text s) behind cut;
+  unsaid = λ s behind sayable. cut-lines-differ left (script_sentence_text s) behind cut;
 }
 
 -- a line that says nothing
@@ -107,9 +106,6 @@ cut_line bytes rest o line e h =
     let cut = subst (λ x. IsNextLine bytes x rest) e h in
     cut_is_malformed bytes (subst IsInLine (sym cut.1) cut.0) cut.2
 
-pub no_line : (bytes rest : List ℕ) (o : NextLine) → o ≡ End → IsNextLine bytes o rest → bytes ≡ []
-no_line bytes rest o e h = (subst (λ x. IsNextLine bytes x rest) e h).0
-
 -- of a sentence
 pub said_some : (line : List ℕ) (o : Option Kept) (s : Kept) → o ≡ Some s → option_map said o ≡ sentence_in line
     → IsSaid line (said s)
@@ -169,8 +165,7 @@ asked_more names standing (t ∷ ss) xs s x (y, more, is, first, asks, rest) say
       ap (λ ys. ys ++ x ∷ []) is,
       first,
       asks,
-      asked_more names (standing_after standing y) ss more s
-          x rest sayable (subst Q is asked),
+      asked_more names (standing_after standing y) ss more s x rest sayable (subst Q is asked),
     )
 
 lines_text-append : (ss ts : List ScriptSentence) → script_text (ss ++ ts) ≡ script_text ss ++ script_text ts
@@ -215,8 +210,7 @@ pub all_read : (names : List (List ℕ)) (bytes left : List ℕ) (xs : List Comm
     → left ≡ [] → IsScript names bytes xs
 all_read names bytes left xs has none = record {
   sentences = has.sentences;
-  spelled = has.begins
-      ∙ ap (λ r. script_text has.sentences ++ r) none ∙ append-nil (script_text has.sentences);
+  spelled = has.begins ∙ ap (λ r. script_text has.sentences ++ r) none ∙ append-nil (script_text has.sentences);
   asked = has.asked;
 }
 
@@ -230,23 +224,7 @@ first_fault names standing bytes left xs has stand line fault h =
       commands = xs;
       left = left;
       begins = has.begins;
-      counted = h.0
-          ∙ ap (λ n. n + 1) (sym has.counted);
+      counted = h.0 ∙ ap (λ n. n + 1) (sym has.counted);
       asked = has.asked;
-      here = subst
-          (λ t. BeginsWithFaultyLine names t left fault) stand h.1;
+      here = subst (λ t. BeginsWithFaultyLine names t left fault) stand h.1;
     }
-
-pub refused_at : (names standing : List (List ℕ)) (bytes left : List ℕ) (xs : List Command) (r : ScriptRefusal)
-    → HasRead names bytes left xs → standing ≡ standing_by xs → IsRefusalOf
-    (AtLine (length xs + 1) (BeginsWithFaultyLine names standing left)) r
-    → IsRefusalOf (IsFirstScriptFault names bytes) r
-refused_at names standing bytes left xs (Form n) has stand h =
-    first_fault names standing bytes left xs has stand n malformed h
-refused_at names standing bytes left xs (NoState n) has stand h =
-    first_fault names standing bytes left xs has stand n no_state h
-refused_at names standing bytes left xs (SameBreak n) has stand h =
-    first_fault names standing bytes left xs has stand n same_break h
-refused_at names standing bytes left xs (NoBreak n) has stand h =
-    first_fault names standing bytes left xs has stand n no_break h
-refused_at names standing bytes left xs NoMemory has stand h = tt

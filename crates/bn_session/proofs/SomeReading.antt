@@ -40,8 +40,7 @@ cut (x ∷ xs) = elim (eqb_tells x 10) [
       x ∷ line,
       rest,
       All-cons (λ byte. byte ≢ 10) x line here all,
-      ap
-          (λ ys. x ∷ ys) is,
+      ap (λ ys. x ∷ ys) is,
     )
 
 not_among : (names : List (List ℕ)) (name : List ℕ) → list_any (bytes_eq name) names ≡ false → ¬ Contains names name
@@ -96,8 +95,7 @@ module _ (names standing : List (List ℕ)) where
       elim (asks_or_fails s) [
         | inl a ↦ asks a.0 rest (record {
           says = s;
-          begins = begins
-              ∙ ap (λ l. l ++ 10 ∷ rest) said.spelled;
+          begins = begins ∙ ap (λ l. l ++ 10 ∷ rest) said.spelled;
           sayable = said.sayable;
           asked = (a.1, refl);
         })
@@ -135,7 +133,6 @@ read_or_fault names bytes = from (suc (length bytes)) bytes [] (omega arith) (no
       | fails fault h ↦ inr (
         length xs + 1,
         fault,
-        first_fault names (standing_by xs) bytes left xs has refl
-            (length xs + 1) fault (refl, h),
+        first_fault names (standing_by xs) bytes left xs has refl (length xs + 1) fault (refl, h),
       )
     ]

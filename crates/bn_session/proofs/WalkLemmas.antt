@@ -5,11 +5,11 @@ use Rattle.std.proofs.lemmas.Bool.{cases_Bool}
 use Rattle.bn_circuits.specs.Circuits.{Circuit, IsCircuit, IsConfig, Goes, IsStuck, IsFirst}
 use Rattle.bn_circuits.specs.Stepping.{run, back, advance, retreat}
 use Rattle.bn_circuits.proofs.RunLemmas.{run-zero, back-zero, run_composes, back_composes, next-stuck, previous-first}
-use Rattle.bn_circuits.proofs.StepLemmas.{Goes-next, Goes-previous, next-IsConfig, previous-IsConfig}
+use Rattle.bn_circuits.proofs.StepLemmas.{Goes-next, Goes-previous}
 use Rattle.bn_circuits.specs.declared.config.Config.{Config}
 use Rattle.bn_net.specs.RotaryNets.{rotary_circuit}
 use Rattle.bn_board_spec.specs.Layouts.{moment_at}
-use Rattle.bn_board.specs.Flattened.{Flattened, IsSameBoard}
+use Rattle.bn_board.specs.Flattened.{Flattened, IsBoardKept, IsSameBoard}
 use Rattle.bn_packed.specs.Running.{GoesTo, IsAtEnd, run_along}
 use Rattle.bn_packed.specs.declared.direction.Direction.{Direction}
 use Rattle.bn_packed.specs.declared.direction.Direction.TheVariants.{Forward, Backward}
@@ -127,6 +127,13 @@ module _ (a b : Flattened) (same : IsSameBoard a b) where
       → stops (moment_at a.layout) breaks c ≡ x
   tested_on breaks c x is = ap (λ l. stops (moment_at l) breaks c) (sym same.layout) ∙ sym is
 
+  module _ (kept : IsBoardKept b) where
+    pub circuit_of : IsCircuit (rotary_circuit a.net)
+    circuit_of = subst (λ n. IsCircuit (rotary_circuit n)) same.net kept.circuit
+
+    pub config_of : IsConfig (rotary_circuit a.net) b.config
+    config_of = subst (λ n. IsConfig (rotary_circuit n) b.config) same.net kept.reached.good
+
   module _ (circuit : IsCircuit (rotary_circuit a.net)) where
     -- a step in this direction
     pub goes_once : (way : Direction) (c d : Config) → GoesTo way (rotary_circuit b.net) c d
@@ -135,13 +142,6 @@ module _ (a b : Flattened) (same : IsSameBoard a b) where
         (subst (λ n. Goes (rotary_circuit n) c d) same.net goes)) refl
     goes_once Backward c d goes = rw (Goes-previous (rotary_circuit a.net) circuit d c
         (subst (λ n. Goes (rotary_circuit n) d c) same.net goes)) refl
-
-    pub goes_once-good : (way : Direction) (c d : Config) → IsConfig (rotary_circuit a.net) c
-        → GoesTo way (rotary_circuit b.net) c d → IsConfig (rotary_circuit a.net) d
-    goes_once-good Forward c d good goes = next-IsConfig (rotary_circuit a.net) circuit c d good
-        (subst (λ n. Goes (rotary_circuit n) c d) same.net goes)
-    goes_once-good Backward c d good goes = previous-IsConfig (rotary_circuit a.net) circuit d c good
-        (subst (λ n. Goes (rotary_circuit n) d c) same.net goes)
 
     -- where there is none
     pub stays_once : (way : Direction) (c : Config) → IsConfig (rotary_circuit a.net) c

@@ -3,8 +3,7 @@
 use Rattle.std.specs.Prelude.{◌≡◌, ◌≢◌, ℕ, ◌+◌, true, false, List, [], ◌∷◌, ◌++◌, length, slice_get, Some, Contains}
 use Rattle.bn_session.specs.Labels.{stands, standing_after, standing_by}
 use Rattle.bn_session.specs.Sentences.{ScriptSentence, Step, Back, Go, Rev, BreakState, BreakElement, Drop, View}
-use Rattle.bn_session.specs.Sentences.{IsSayableInScript}
-use Rattle.bn_session.specs.Sentences.{script_sentence_text, script_text}
+use Rattle.bn_session.specs.Sentences.{IsSayableInScript, script_sentence_text, script_text}
 use Rattle.bn_session.specs.declared.command.Command.{Command}
 use Rattle.bn_session.specs.declared.command.Command.TheVariants as commands
 use Rattle.bn_session.specs.declared.refusal.ScriptRefusal.{ScriptRefusal}

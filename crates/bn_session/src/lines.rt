@@ -45,8 +45,6 @@ pub(crate) fn write_label(
 fn place_line(alloc: Global, board: &Board, named: Option<&[u8]>) -> Result<Vec<u8>, NoMemory>
     ensures { IfOk result (λ line. line.items ≡ place_line board.now.config (option_copied named.entry)) }
 {
-    // What every board keeps.
-    let _elements = board.len();
     let mut line = Vec::new(alloc);
     push_place(&mut line, board.place())?;
     push(&mut line, b" steps ")?;

@@ -1,7 +1,7 @@
 //! How a script is played.
 
 ghost use Rattle.std.specs.Prelude.{◌≡◌, ◌⊎◌, ◌++◌, ◌∷◌, [], false, codes, OnOk, OnErr};
-ghost use Rattle.bn_board.specs.Flattened.{IsSameBoard};
+ghost use Rattle.bn_board.specs.Flattened.{IsBoardKept, IsSameBoard};
 ghost use Rattle.bn_session.specs.Labels.{stands, IsOrderly};
 ghost use Rattle.bn_session.specs.Breakpoints.{breakpoint, labels_of};
 ghost use Rattle.bn_session.specs.Plays.{session, label_line};
@@ -22,7 +22,7 @@ use std::alloc::Global;
 /// Plays a script on a board, from no breakpoint, and appends its answer: a line for each command but the views, for
 /// which `shows` appends a text. After `NoMemory` either nothing has changed, or the script was left within a command:
 /// the board is at the configuration after this command, and `out` has grown by the answers to the commands before it
-/// and a front of its own. (This project's own profile.)
+/// and a front of its own. Its contract also tells what every board keeps. (This project's own profile.)
 pub fn play<W: Shows>(
     alloc: Global,
     board: &mut Board,
@@ -36,6 +36,7 @@ pub fn play<W: Shows>(
     ensures stopped { OnErr result (((board.new ≡ board.old) × (out.new.items ≡ out.old.items))
         ⊎ IsStopped (W.text shows.now) board.old script.now board.new.config out.old.items out.new.items) }
     ensures same { IsSameBoard board.old board.new }
+    ensures kept { IsBoardKept board.old }
 {
     let mut breaks = Breaks::new(alloc, board.len())?;
     for command in script.commands() {

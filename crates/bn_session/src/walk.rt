@@ -28,8 +28,6 @@ fn walk_on(board: &mut Board, breaks: &Breaks, direction: Direction, count: u64)
         (once_along direction (rotary_circuit board.old.net)) count board.old.config }
     ensures same { IsSameBoard board.old board.new }
 {
-    // What every board keeps.
-    let _elements = board.len();
     for _made in 0..count {
         if !board.step_along(direction) || breaks_at(board, breaks) {
             return;

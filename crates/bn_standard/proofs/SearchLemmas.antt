@@ -42,31 +42,27 @@ none_at_all P qs n m q past before e holds = let known : m ≤ length qs =
 pub lone_start : (qs : List Quint) (n : ℕ) → length qs < n → NoneBefore (NamesStart (start_of qs)) qs n
     → HasLoneStart qs
 lone_start qs n past before = record {
-  none = λ i u. none_at_all (NamesStart (start_of qs)) qs n i u.quint past before
-      u.stands u.names;
+  none = λ i u. none_at_all (NamesStart (start_of qs)) qs n i u.quint past before u.stands u.names;
 }
 
 pub least_start : (qs : List Quint) (n : ℕ) (q : Quint) → NoneBefore (NamesStart (start_of qs)) qs n → nth qs n ≡ Some q
     → NamesStart (start_of qs) n q → IsLeastStart qs n
 least_start qs n q before here names = record {
   holds = record { quint = q; stands = here; names = names };
-  least = λ m
-      h u. before.none m u.quint h u.stands u.names;
+  least = λ m h u. before.none m u.quint h u.stands u.names;
 }
 
 pub lone_final : (qs : List Quint) (n : ℕ) → length qs < n → NoneBefore (NamesFinal (final_of qs) (length qs)) qs n
     → HasLoneFinal qs
 lone_final qs n past before = record {
-  none = λ i u. none_at_all (NamesFinal (final_of qs) (length qs)) qs n i u.quint
-      past before u.stands u.names;
+  none = λ i u. none_at_all (NamesFinal (final_of qs) (length qs)) qs n i u.quint past before u.stands u.names;
 }
 
 pub least_final : (qs : List Quint) (n : ℕ) (q : Quint) → NoneBefore (NamesFinal (final_of qs) (length qs)) qs n
     → nth qs n ≡ Some q → NamesFinal (final_of qs) (length qs) n q → IsLeastFinal qs n
 least_final qs n q before here names = record {
   holds = record { quint = q; stands = here; names = names };
-  least = λ m
-      h u. before.none m u.quint h u.stands u.names;
+  least = λ m h u. before.none m u.quint h u.stands u.names;
 }
 
 pub begins_well : (qs : List Quint) (q : Quint) → nth qs 1 ≡ Some q → IsBeginning q → BeginsWell qs
@@ -116,8 +112,7 @@ none_repeated_more qs n before here = record { none = λ m j h r. by_order m j r
 
 pub unambiguous : (qs : List Quint) (n : ℕ) → length qs < n → NoneRepeated qs n → IsUnambiguous qs
 unambiguous qs n past before = record {
-  none = λ i j r. let known : i
-      ≤ length qs = nth_within qs i r.first r.first_stands in before.none i j (omega arith) r;
+  none = λ i j r. let known : i ≤ length qs = nth_within qs i r.first r.first_stands in before.none i j (omega arith) r;
 }
 
 pub least_repeat : (qs : List Quint) (i j : ℕ) → NoneRepeated qs i → IsLeastSecond qs i j → IsLeastRepeat qs i j

@@ -83,8 +83,7 @@ is_standard number p loose tells = record {
   begins = record {
     quint = numbered number (entering (start_of p.quints));
     stands = refl;
-    begins = record
-        { reads = refl; writes = refl; shifts = refl };
+    begins = record { reads = refl; writes = refl; shifts = refl };
   };
   lone_start = record { none = λ i u. start_alone number p loose tells i u.quint u.stands u.names };
   ends = record {
@@ -94,8 +93,7 @@ is_standard number p loose tells = record {
       reads = refl;
       writes = refl;
       shifts = refl;
-      apart = tells.first (final_of p.quints)
-          (final_occurs p.quints loose.machine.some);
+      apart = tells.first (final_of p.quints) (final_occurs p.quints loose.machine.some);
     };
   };
   lone_final = record {

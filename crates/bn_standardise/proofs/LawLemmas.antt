@@ -57,10 +57,8 @@ halts_together = λ p loose word w. (
       let tail = tail_exists h.1.tape in (
         h.0 + 2 + tail.0,
         ended (numbering_of p) p loose (tells_apart p) (behind tail.0 h.1.tape),
-        halts_behind
-            (numbering_of p) p loose (tells_apart p) word w h.0 tail.0 h.1 h.2 h.3 tail.1,
-        sym
-            (final_state (numbering_of p) p),
+        halts_behind (numbering_of p) p loose (tells_apart p) word w h.0 tail.0 h.1 h.2 h.3 tail.1,
+        sym (final_state (numbering_of p) p),
       ),
 )
 

@@ -126,8 +126,7 @@ pairwise_unambiguous (q ∷ qs) a = let rest = pairwise_unambiguous qs a.1 in re
           second = s;
           first_stands = e;
           second_stands = f;
-          clashes = record
-              { before = omega (arith, before); state = state; read = read };
+          clashes = record { before = omega (arith, before); state = state; read = read };
         })
 
 -- two that share both are one

@@ -107,8 +107,7 @@ pub numbers_inside : (rs : List Rule) (r : Rule) → Has rs r → (number_of rs 
 numbers_inside rs r h =
     let names = names_in rs r h in (
       place_inside (distinct_names rs) r.state (first_appears (names_of rs) r.state names.0),
-      place_inside
-          (distinct_names rs) r.next (first_appears (names_of rs) r.next names.1),
+      place_inside (distinct_names rs) r.next (first_appears (names_of rs) r.next names.1),
     )
 
 -- names with one number are one
@@ -189,7 +188,6 @@ fits_table p machine few letters =
     record {
       numbered = numbered_by_first p;
       quints = omega (arith, count, few);
-      states = omega
-          (arith, count, few, rules, names, most);
+      states = omega (arith, count, few, rules, names, most);
       symbols = letters;
     }

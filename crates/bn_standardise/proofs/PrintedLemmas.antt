@@ -72,8 +72,7 @@ writable t r machine few h =
       state = state_small t.machine r machine few h;
       read = knows.read;
       write = knows.write;
-      next = next_small
-          t.machine r machine few h;
+      next = next_small t.machine r machine few h;
     }
 
 pub all_writable : (t : Named) → IsMachine t.machine → t.machine.states ≤ 8000 → All (IsWritable t) (rules_of t.machine)

@@ -47,8 +47,7 @@ goes_by_quint p q c apart h m going =
         going = going;
         quint = q;
         match = found.1;
-        applies = record
-            { from = m.from; reads = m.reads; writes = refl; to = refl };
+        applies = record { from = m.from; reads = m.reads; writes = refl; to = refl };
         stays = tt;
       },
     )
@@ -58,8 +57,7 @@ goes_occurs : (p : Program) (c d : Moment) → MachineRunsTo anywhere p c d → 
 goes_occurs p c d g = record {
   quint = g.1.quint;
   stands = nth_in p.quints g.0 g.1.quint g.1.match.stands;
-  names = inr
-      (sym g.1.applies.to);
+  names = inr (sym g.1.applies.to);
 }
 
 -- so do the states at the end of a run
@@ -177,8 +175,7 @@ module _ (number : Name → ℕ) (p : Program) (loose : IsLoose p) (tells : Tell
       → IsMachineStuck (standardised_by number p) (stand_in number c)
   sticks c occurs stuck = record {
     going = λ e. tells.last c.state occurs (e ∙ final_state number p);
-    none = record
-        { none = λ n q stands m. none q (nth_in (standardised_by number p).quints n q stands) m };
+    none = record { none = λ n q stands m. none q (nth_in (standardised_by number p).quints n q stands) m };
   }
     where
       -- a rule that leaves the halting state doesn't match
@@ -193,8 +190,7 @@ module _ (number : Name → ℕ) (p : Program) (loose : IsLoose p) (tells : Tell
           let there = in_nth p.quints r h in
           let also : Occurs p.quints r.state = record { quint = r; stands = h; names = inl refl } in
           stuck.none.none there.0 r there.1 (record {
-            from = tells.states c.state r.state occurs also
-                (m.from ∙ ap (λ (v : Quint). v.state) e);
+            from = tells.states c.state r.state occurs also (m.from ∙ ap (λ (v : Quint). v.state) e);
             reads = m.reads ∙ ap (λ (v : Quint). v.read) e;
           })
 
@@ -259,8 +255,7 @@ module _ (number : Name → ℕ) (p : Program) (loose : IsLoose p) (tells : Tell
   steps_back_all zero t known h = let heads : t.head ≡ t.head -ℤ pos 0 =
       omega (arith, ints) in λ i. record {
         state = number (Own (final_of p.quints));
-        tape = record
-            { cells = t.cells; head = heads i };
+        tape = record { cells = t.cells; head = heads i };
       }
   steps_back_all (suc d) t known h =
       let here : t.head -ℤ pos 0 ≡ t.head = omega (arith, ints) in
@@ -322,8 +317,7 @@ module _ (number : Name → ℕ) (p : Program) (loose : IsLoose p) (tells : Tell
       × IsMachineStuck (standardised_by number p) (stand_in number c)
   sticks_alike word v c run stuck = (
     runs_in word v c run,
-    sticks c
-        (reached_occurs p v (loose_start p word) c (start_occurs p.quints loose.machine.some) run) stuck,
+    sticks c (reached_occurs p v (loose_start p word) c (start_occurs p.quints loose.machine.some) run) stuck,
   )
 
   -- where the new machine halts, the loose run does

@@ -65,8 +65,7 @@ one_more t d letter rest = record {
 no_letter : (t : Tape) → cell t t.head ≡ 0 → HasTail t 0
 no_letter t blank = record {
   letters = λ k h. absurd (omega arith);
-  ended = let here : t.head -ℤ pos 0
-      ≡ t.head = omega (arith, ints) in ap (cell t) here ∙ blank;
+  ended = let here : t.head -ℤ pos 0 ≡ t.head = omega (arith, ints) in ap (cell t) here ∙ blank;
 }
 
 -- a search to the left that comes to the blanks

@@ -101,8 +101,7 @@ SticksTogether =
 
 -- the machine that turns 0, which is symbol 1, into 1, which is symbol 2, and 1 into 0, letter by letter
 abbrev turns : ℕ → ℕ → ℕ → Shift → ℕ → Quint
-turns state read write shift next =
-    record { state = state; read = read; write = write; shift = shift; next = next }
+turns state read write shift next = record { state = state; read = read; write = write; shift = shift; next = next }
 
 -- its three quintuples
 abbrev pub inverts : Program

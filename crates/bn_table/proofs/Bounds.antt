@@ -86,8 +86,7 @@ pub few-different : (letters : List ℕ) → AreApart nat_eq Decides-eqb letters
     → length letters ≤ 91
 few-different letters apart form = omega (
   arith,
-  no_more_than nat_eq Decides-eqb symbol_bytes letters apart
-      (all-symbol-bytes letters form),
+  no_more_than nat_eq Decides-eqb symbol_bytes letters apart (all-symbol-bytes letters form),
   symbol_bytes-count,
 )
 
@@ -108,8 +107,7 @@ numbers-of-rows names letters (q ∷ qs) h =
       slice_get-get_or names q.state [] here.state,
       (
         slice_get-get_or names q.next [] here.next,
-        numbers-of-rows names
-            letters qs (All-tail (IsInRange (length names) (length letters)) q qs h),
+        numbers-of-rows names letters qs (All-tail (IsInRange (length names) (length letters)) q qs h),
       ),
     )
 

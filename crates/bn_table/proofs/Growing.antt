@@ -29,8 +29,7 @@ rows-stay names more letters extra (q ∷ qs) h =
     rw (
       front names more [] q.state here.state,
       front letters extra 0 q.read here.read,
-      front letters extra 0 q.write
-          here.write,
+      front letters extra 0 q.write here.write,
       front names more [] q.next here.next,
     )
     (ap (λ (t : List (List (List ℕ))). entry_of (said_of names letters q) ∷ t)
@@ -40,8 +39,7 @@ wider : (states symbols f z : ℕ) → states ≤ f → symbols ≤ z → (q : Q
 wider states symbols f z a b q h = record {
   state = omega (arith, h.state);
   read = omega (arith, h.read);
-  write = omega
-      (arith, h.write);
+  write = omega (arith, h.write);
   next = omega (arith, h.next);
 }
 

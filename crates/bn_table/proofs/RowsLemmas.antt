@@ -1,11 +1,9 @@
 -- Laws of tables that callers of `Table` may cite.
-use Rattle.std.proofs.Common.{◌≡◌, ℕ, List, Some, slice_get, nat_eq, refl, ◌∷◌}
-use Rattle.std.specs.Prelude.{bytes_eq}
+use Rattle.std.proofs.Common.{◌≡◌, ℕ, Some, slice_get, nat_eq, refl, ◌∷◌}
 use Rattle.std.proofs.lemmas.Bool.Decides.{Decides-eqb}
-use Rattle.std.proofs.lemmas.Slice.Eq.{bytes_eq-Decides}
 use Rattle.bn_csv.specs.Numbering.{firsts_by}
 use Rattle.bn_csv.proofs.NumberingLemmas.{apart-firsts, one_number}
-use Rattle.bn_table.specs.Rows.{IsTable, Named, blank, letters_in, names_in, rows_of}
+use Rattle.bn_table.specs.Rows.{IsTable, Named, blank, letters_in, rows_of}
 
 -- symbol 0 has the blank's letter
 pub blank_first : (t : Named) → IsTable t → slice_get t.letters 0 ≡ Some blank
@@ -18,10 +16,3 @@ pub one_symbol : (t : Named) → IsTable t → (m n b : ℕ) → slice_get t.let
 one_symbol t h m n b at also =
     one_number nat_eq Decides-eqb t.letters m n b (rw (← h.spelled.letters_by_first) at
     (apart-firsts nat_eq Decides-eqb (blank ∷ letters_in (rows_of t)))) at also
-
--- no two states have one name
-pub one_state : (t : Named) → IsTable t → (m n : ℕ) (name : List ℕ) → slice_get t.names m ≡ Some name
-    → slice_get t.names n ≡ Some name → m ≡ n
-one_state t h m n name at also =
-    one_number bytes_eq bytes_eq-Decides t.names m n name (rw (← h.spelled.names_by_first) at
-    (apart-firsts bytes_eq bytes_eq-Decides (names_in (rows_of t)))) at also

@@ -83,10 +83,12 @@ impl Table {
         self.letters[symbol as usize]
     }
 
-    /// The symbol of a letter, counted from 0. `None` comes exactly where the table has no such letter.
+    /// The symbol of a letter, counted from 0. `None` comes exactly where the table has no such letter. Its contract
+    /// also tells what every table keeps.
     pub fn symbol_of(&self, letter: u8) -> Option<u32>
         ensures found { IfSome result (λ symbol. slice_get self.now.letters symbol ≡ Some letter) }
         ensures none { IfNone result (¬ Contains self.now.letters letter) }
+        ensures valid { IsTable self.now }
     {
         place_of(self.letters.as_slice(), letter)
     }

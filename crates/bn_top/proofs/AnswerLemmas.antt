@@ -20,8 +20,7 @@ by_length words request bytes form reads (inl long) = (
   Size,
   size_text,
   [],
-  too_long request form reads long refl refl
-      refl,
+  too_long request form reads long refl refl refl,
 )
 by_length words request bytes form reads (inr short) = let h =
     (settled words request form bytes).some in (h.0, h.1, h.2, replied request form reads short h.3)

@@ -73,8 +73,7 @@ module _ (words : List (List ℕ)) (none : HasNoForm words) (result : Status) (l
 
   usage_clauses : ClausesApart words result (outside left taken told reads before) (outside left took told reads now)
   usage_clauses = record {
-    answered = λ answer.
-        usage_answered words none result taken took told before now usage_text refl ends answer left;
+    answered = λ answer. usage_answered words none result taken took told before now usage_text refl ends answer left;
     complete = λ _ sound. line_complete ends sound;
     usage_only = λ _. none;
     usage = λ _. line_ends ends;

@@ -79,13 +79,6 @@ module _ (words : List (List ℕ)) (b a : Outside) where
     ends_whole NoMemory is h = absurd is
     ends_whole status is h = h
 
-    whole_ends : (status : Status) → IsAnswer status → told (λ bytes. IsAnswered words bytes status b a)
-        → EndsOn told words status b a
-    whole_ends ReadFault is h = absurd is
-    whole_ends WriteFault is h = absurd is
-    whole_ends NoMemory is h = absurd is
-    whole_ends status is h = h
-
   told_no_answer : (status : Status) → IsAnswer status → ToldReadFault status b a → ⊥
   told_no_answer ReadFault is h = is
   told_no_answer WriteFault is h = is
@@ -117,8 +110,7 @@ module _ (words : List (List ℕ)) (b a : Outside) where
   usage_begun none h =
       let is = usage_is none [] h.status (h.text ++ h.rest) (h.places ++ h.more) h.answers in (
         (h.text, h.rest, sym is.0, h.gave.grows),
-        subst (λ ps. Hears b.told ps a.told) (none_left h.places h.more is.1)
-            h.gave.hears,
+        subst (λ ps. Hears b.told ps a.told) (none_left h.places h.more is.1) h.gave.hears,
       )
 
   abbrev only : (List ℕ → Type 0) → Type 0
@@ -250,8 +242,7 @@ module _ (words : List (List ℕ)) (b a : Outside) where
           read = h.read_cause refl;
           told = record {
             grows = h.read_fault refl;
-            hears = h.read_fault_told
-                refl;
+            hears = h.read_fault_told refl;
           };
         })
     of_ends WriteFault h = of_write (h.write_cause refl) (h.write_fault refl)
@@ -275,8 +266,7 @@ module _ (words : List (List ℕ)) (b a : Outside) where
           text = usage_text;
           places = [];
           answers = no_form none refl refl refl;
-          gave = record
-              { grows = h; hears = hears };
+          gave = record { grows = h; hears = hears };
         }
     of_usage_ends WriteFault none rose h hears = (
       rose refl,

@@ -13,8 +13,7 @@ use Rattle.bn_erase_laws.proofs.InverseLemmas.{inverses-follow, inverses-uniform
 use Rattle.bn_named_laws.proofs.TableLemmas.{inverses-tables}
 use Rattle.bn_reply_tables.proofs.InverseLemmas.{inverse_settled}
 use Rattle.bn_reply_tables.specs.InverseReply.{InverseReplies, inverse_text, inverted}
-use Rattle.bn_words.specs.Requests.{Back, Bennett, Build, Drive, HasForm, Inverse, Machine, Request, Step}
-use Rattle.bn_words.specs.Requests.{reads_input}
+use Rattle.bn_words.specs.Requests.{Back, Bennett, Build, Drive, HasForm, Inverse, Machine, Request, Step, reads_input}
 use Rattle.bn_words.proofs.FormLemmas.{one_form}
 use Rattle.bn_headline.proofs.CommandLemmas.{back-tells, bennett-tells, machine-tells, step-tells}
 use Rattle.bn_headline.specs.CommandHeadlines.{BackCommand, BennettCommand, MachineCommand, StepCommand}

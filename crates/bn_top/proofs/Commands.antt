@@ -3,12 +3,10 @@
 use Rattle.std.specs.Prelude.{◌≡◌, ℕ, true, List, [], Option, Result, IfOk, OnErr, refl}
 use Rattle.std.proofs.Common.{sym, subst}
 use Rattle.bn_circuits.specs.declared.place.Place.{Place}
-use Rattle.bn_words.specs.Requests.{HasForm, IsAllowed, Request, of_configuration, of_whole, reads_input}
-use Rattle.bn_words.specs.Requests.{Step, Back, Check, Machine, Trace, Moments, ThreeMoments, Reversible, Inverse}
-use Rattle.bn_words.specs.Requests.{Bennett, Realise, Standard}
-use Rattle.bn_words.specs.Requests.{Build, Compile, Drive, Layout, Run, RunAuto, View, Session, Look, Play, Plan}
-use Rattle.bn_words.specs.Requests.{Migrate, Mirror, Farm}
-use Rattle.bn_words.specs.Requests.{Generate, Erase, EraseRun}
+use Rattle.bn_words.specs.Requests.{HasForm, IsAllowed, Request, of_configuration, of_whole, reads_input, Step, Back}
+use Rattle.bn_words.specs.Requests.{Check, Machine, Trace, Moments, ThreeMoments, Reversible, Inverse, Bennett, Realise}
+use Rattle.bn_words.specs.Requests.{Standard, Build, Compile, Drive, Layout, Run, RunAuto, View, Session, Look, Play}
+use Rattle.bn_words.specs.Requests.{Plan, Migrate, Mirror, Farm, Generate, Erase, EraseRun}
 use Rattle.bn_words.specs.declared.request.ConfigurationRequest as configuration
 use Rattle.bn_words.specs.declared.request.ConfigurationRequest.TheVariants as configuration_variants
 use Rattle.bn_words.specs.declared.request.WholeRequest as whole

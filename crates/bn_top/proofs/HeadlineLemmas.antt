@@ -54,8 +54,7 @@ answered_headline words bytes status taken took told heard h =
     (λ letters l given asks small short. (
       h.text,
       h.places,
-      asked_reply words bytes status h.text h.places h.answers
-          letters l given asks small short,
+      asked_reply words bytes status h.text h.places h.answers letters l given asks small short,
       h.grows,
     ))
 

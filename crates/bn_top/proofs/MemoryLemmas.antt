@@ -92,6 +92,3 @@ module _ (words : List (List ℕ)) (input : List ℕ) (left took : Option (List 
       IsUnfinished (Answers words input) told heard
   unfinished_at status ends (inl is) = cut_told ((ends-give_clauses words start end status ends).write_fault is)
   unfinished_at status ends (inr is) = none_or_some ((ends-give_clauses words start end status ends).no_memory is)
-
-  pub never_read_fault : (status : Status) → CallEnds words status start end → status ≡ ReadFault → ⊥
-  never_read_fault status ends is = never_rose ((ends-give_clauses words start end status ends).read_cause is)

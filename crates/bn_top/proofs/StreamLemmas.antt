@@ -211,8 +211,7 @@ module _ (words : List (List ℕ)) (request : Request) (form : HasForm words req
       (λ bytes longer. record {
         text = size_text;
         places = [];
-        answers = too_long request form reads longer is refl
-            refl;
+        answers = too_long request form reads longer is refl refl;
         grows = grows;
         hears = hears;
       }))

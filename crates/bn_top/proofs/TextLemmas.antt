@@ -13,8 +13,7 @@ use Rattle.bn_reply.specs.declared.status.Status.TheVariants.{Done}
 use Rattle.bn_reply_laws.proofs.CompileLemmas.{compiled, steps_back}
 use Rattle.bn_reply_circuits.specs.MirrorLaws.{IsUncounted}
 use Rattle.bn_reply_circuits.specs.MirrorReply.{MirrorReplies, mirrored, misspelled}
-use Rattle.bn_reply_circuits.specs.RealiseReply.{RealiseReplies, bank, clashing, faulty, lacking}
-use Rattle.bn_reply_circuits.specs.RealiseReply.{large, reading}
+use Rattle.bn_reply_circuits.specs.RealiseReply.{RealiseReplies, bank, clashing, faulty, lacking, large, reading}
 use Rattle.bn_reply_circuits.proofs.ComeBackLemmas.{farms-come_back}
 use Rattle.bn_reply_circuits.proofs.MirrorLemmas.{image_spelled, mirrored_texts-come_back}
 use Rattle.bn_reply_laws.proofs.SettledLemmas.{circuits_settled}

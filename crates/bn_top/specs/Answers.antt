@@ -2,11 +2,10 @@
 -- own profile). It rests on the definitions of texts, tables and circuits alone.
 use Rattle.std.specs.Prelude.{◌≡◌, ℕ, ◌<◌, ◌≤◌, List, [], ◌∷◌, ◌++◌, length, true, false, codes}
 use Rattle.bn_circuits.specs.declared.place.Place.{Place}
-use Rattle.bn_words.specs.Requests.{Request, HasForm, HasNoForm, reads_input}
-use Rattle.bn_words.specs.Requests.{Step, Back, Check, Machine, Trace, Moments, ThreeMoments, Reversible, Inverse}
-use Rattle.bn_words.specs.Requests.{Bennett, Realise, Standard}
-use Rattle.bn_words.specs.Requests.{Build, Compile, Drive, Layout, Run, RunAuto, View, Session, Look, Play, Plan}
-use Rattle.bn_words.specs.Requests.{Migrate, Mirror, Farm, Generate, Erase, EraseRun}
+use Rattle.bn_words.specs.Requests.{Request, HasForm, HasNoForm, reads_input, Step, Back, Check, Machine, Trace}
+use Rattle.bn_words.specs.Requests.{Moments, ThreeMoments, Reversible, Inverse, Bennett, Realise, Standard, Build}
+use Rattle.bn_words.specs.Requests.{Compile, Drive, Layout, Run, RunAuto, View, Session, Look, Play, Plan, Migrate}
+use Rattle.bn_words.specs.Requests.{Mirror, Farm, Generate, Erase, EraseRun}
 use Rattle.bn_reply_laws.specs.CompileReply.{CompileReplies}
 use Rattle.bn_reply.specs.declared.limits.TheConstants.{MOST_INPUT_BYTES}
 use Rattle.bn_reply_laws.specs.RunReply.{RunReplies}

@@ -35,8 +35,7 @@ pub record ClausesApart (words : List (List ℕ)) (status : Status) (b a : Outsi
   pub write_fault : status ≡ WriteFault
       → told.IsReadFaultCut b.read_faults a.read_faults b.taken a.taken b.told a.told
       ⊎ IfSome b.left (λ bytes. told.IsBegun words bytes b.taken a.taken b.told a.told)
-  pub no_memory : status ≡ NoMemory
-      → IfSome b.left (λ bytes. told.IsBroken words bytes b.taken a.taken b.told a.told)
+  pub no_memory : status ≡ NoMemory → IfSome b.left (λ bytes. told.IsBroken words bytes b.taken a.taken b.told a.told)
   pub later_source : CountsUnless (FailsReading status b a) b.read_faults a.read_faults
   pub later_sink : CountsUnless (status ≡ WriteFault) b.write_faults a.write_faults
 

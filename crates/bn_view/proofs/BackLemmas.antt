@@ -49,13 +49,6 @@ no_moment a b gone kept none u low high = by (cases_lt b.config.steps u)
         let both : None ≡ Some e = sym (found_here a b gone.same kept None none) ∙ here in
         cc
 
-pub gone_none : (a : Flattened) → HasGoneBack a a
-gone_none a = record {
-  same = record { net = refl; start = refl; end = refl; layout = refl; origin_is = refl };
-  low = omega arith;
-  quiet = λ u more few. absurd (omega arith);
-}
-
 -- one step further back, where there is no moment
 pub gone_more : (a b c : Flattened) → HasGoneBack a b → IsBoardKept b → None ≡ moment_at b.layout b.config
     → IsSameBoard b c → Goes (rotary_circuit b.net) c.config b.config

@@ -51,18 +51,15 @@ input_line_there first lines e l low = by (is_west l) (cases_lt (e - first) line
     by (inl same) (inl within) = (
       Some (e - first),
       λ i. (
-        λ is.
-            (let count = same_some (e - first) i is in (omega arith, omega arith, same)),
-        λ h. ap Some
-            (let is = h.1 in omega arith),
+        λ is. (let count = same_some (e - first) i is in (omega arith, omega arith, same)),
+        λ h. ap Some (let is = h.1 in omega arith),
       ),
     )
     by (inl same) (inr beyond) = (
       None,
       λ i. (
         λ is. absurd (none_some i is),
-        λ h. absurd
-            (let few = h.0 in let is = h.1 in omega arith),
+        λ h. absurd (let few = h.0 in let is = h.1 in omega arith),
       ),
     )
     by (inr other) within = (None, λ i. (λ is. absurd (none_some i is), λ h. absurd (other h.2)))
@@ -90,8 +87,7 @@ module _ (b : Layout) where
       let line = input_line_there (cell_element b (suc t) c.0) (cell_line_count (symbol_count_at b (suc t))) e l c.2
       in (
         located.Cell (suc t) (pos c.0 -ℤ pos (left_of b.limits (suc t))) line.0,
-        in_cell e l refl (suc t) c.0 tape c.1
-            c.2 c.3 line.0 line.1 refl,
+        in_cell e l refl (suc t) c.0 tape c.1 c.2 c.3 line.0 line.1 refl,
       )
 
   entered : (e l : ℕ) → e < first_element b 4 → (x : Located) × IsLocated b (Enter e l) x

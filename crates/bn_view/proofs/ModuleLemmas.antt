@@ -4,16 +4,13 @@ use Rattle.std.proofs.Common.{zero, suc, arith, sym, ap, subst, ◌∙◌}
 use Rattle.std.proofs.lemmas.Nat.{mul-le}
 use Rattle.bn_circuits.specs.declared.place.Place.{Place}
 use Rattle.bn_circuits.specs.declared.place.Place.TheVariants.{Enter, Left}
-use Rattle.bn_cell.specs.Sizes.{IsCellSize}
 use Rattle.bn_network.specs.Cells.{cell_line, cell_line_count}
 use Rattle.bn_network.specs.Networks.{IsTape, cells_in, left_of, cell_size}
 use Rattle.bn_board_spec.specs.Layouts.{Layout, symbol_count_at, lines_at, first_element, cell_element}
-use Rattle.bn_board.specs.Flattened.{IsLayoutKept}
 use Rattle.bn_board.specs.Locations.{IsLocated, IsInputLine, in_control, in_cell, left}
 use Rattle.bn_board.specs.declared.located.Located.{Located}
 use Rattle.bn_board.specs.declared.located.Located.TheVariants.{Control, Cell, Outside}
-use Rattle.bn_view.specs.Modules.{module_by}
-use Rattle.bn_view.specs.Modules.{in_cell as in_cell_at}
+use Rattle.bn_view.specs.Modules.{module_by, in_cell as in_cell_at}
 use Rattle.bn_view.specs.declared.layers.ModuleAt.TheVariants.{CellLine as AtLine, CellInside as AtInside}
 use Rattle.bn_network.specs.Controls.{symbol_count}
 use Rattle.bn_network.specs.declared.cell_line.CellLine.{CellLine}
@@ -185,14 +182,6 @@ cell_of b p t z line at there (in_cell e l is u q tape inside first last other e
       tape = subst IsTape tapes tape;
       low = λ i some. subst (λ v. i < cell_line_count (symbol_count_at b v)) tapes ((enters i).0 (sym lines ∙ some)).0;
     }
-
--- a kept layout's tapes have as many symbols as a cell may have
-pub cell_size_of : (b : Layout) → IsLayoutKept b → (t : ℕ) → IsTape t → IsCellSize (symbol_count_at b t)
-cell_size_of b kept zero tape = absurd (let h = tape.low in omega arith)
-cell_size_of b kept (suc t) tape =
-    let high = tape.high in
-    let three = kept.tapes in
-    record { some = kept.some_symbols t 0 (omega arith); few = kept.few_symbols t 0 (omega arith) }
 
 -- ---- the module of a cell
 

@@ -54,8 +54,7 @@ shown_there at each initial zero = by (each zero)
     by (inr none) = (
       zero,
       initial,
-      start refl refl (λ u few. let last : zero
-          ≡ u = omega arith in subst (IsQuiet at) last none),
+      start refl refl (λ u few. let last : zero ≡ u = omega arith in subst (IsQuiet at) last none),
     )
 shown_there at each initial (suc t) = by (each (suc t)) (shown_there at each initial t)
   where

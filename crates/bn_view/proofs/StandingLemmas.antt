@@ -132,8 +132,7 @@ module _ (boards : BoardsRunToTheirExit) (have : BoardsHaveMoments) (p : Program
   the_run = let some = outcome_exists p word l in record {
     steps = some.0;
     outcome = some.1;
-    runs = boards p word l f
-        flat accepted some.0 some.1 some.2;
+    runs = boards p word l f flat accepted some.0 some.1 some.2;
   }
 
   in_run : (t : ℕ) (d : Config) → Reaches (Goes f.circuit) t (flat_start f) d → t ≤ the_run.runs.cost

@@ -1,6 +1,6 @@
 -- What a view of a board says, in the words of the machine's board.
-use Rattle.std.specs.Prelude.{◌≡◌, ℕ, ◌<◌, pos, List, [], ◌∷◌, length, slice_index_or, Option, Some, refl}
-use Rattle.std.proofs.Common.{zero, suc, arith, sym, ap, subst, ◌∙◌}
+use Rattle.std.specs.Prelude.{◌≡◌, ℕ, ◌<◌, pos, List, [], ◌∷◌, length, Option, Some, refl}
+use Rattle.std.proofs.Common.{arith, sym, ap, subst, ◌∙◌}
 use Rattle.std.proofs.lemmas.Option.{slice_get_within}
 use Rattle.bn_lists.specs.Runs.{Reaches}
 use Rattle.bn_circuits.specs.Circuits.{Goes}
@@ -15,9 +15,8 @@ use Rattle.bn_bennett_laws.specs.Renamed.{in_state}
 use Rattle.bn_bennett_laws.specs.Stages.{Stands}
 use Rattle.bn_bennett.specs.Translation.{Translation, name_of}
 use Rattle.bn_bennett.specs.Meaning.{machine_state_by, stage_by}
-use Rattle.bn_network.specs.Controls.{symbol_count}
 use Rattle.bn_network_laws.proofs.RangeLemmas.{rule_range}
-use Rattle.bn_board_spec.specs.Layouts.{IsExit, IsLayout, is_sent, symbol_count_at, spelled_by, spelled_config}
+use Rattle.bn_board_spec.specs.Layouts.{IsExit, IsLayout, is_sent, spelled_by, spelled_config}
 use Rattle.bn_board_spec.specs.Flats.{Flat, flat_start, machine_of}
 use Rattle.bn_board_spec.specs.declared.spelled.Spelled.{Spelled}
 use Rattle.bn_board_spec.proofs.FirstLemmas.{position_holds}
@@ -156,11 +155,6 @@ last_moment b copy last initial a s is same kept shown spelled = record {
 -- ---- the board of any machine
 
 module _ (m : Quadruples) (b : Flattened) (laid : IsLaidOut m b.layout) where
-  -- the tapes have the machine's symbols
-  pub laid_letters : (tape : ℕ) → symbol_count_at b.layout tape ≡ symbol_count m tape
-  laid_letters zero = refl
-  laid_letters (suc tape) = ap (λ zs. slice_index_or zs tape 0) laid.layout.symbols
-
   -- the state that is shown is one of the machine's
   pub laid_state : (s a : ℕ) → IsShown (FindsOn b) (initial_of m.rules) b.config.steps s a → a < m.states
   laid_state s a (moment few here later) =

@@ -91,8 +91,7 @@ board_layers v = record { place = v.place; steps = v.steps; «module» = v.modul
 -- the cells show then; by which exit it has left; and what the state says of the one-tape machine. The machine's step
 -- is where the head of the history stands then.
 pub record IsViewOf (f : Flat) (d : Config) (v : Layers) : Type 0 where
-  pub board : IsViewBy f.layout f.circuit (flat_start f) (Comes f) (initial_of (machine_of f).rules) d
-      (board_layers v)
+  pub board : IsViewBy f.layout f.circuit (flat_start f) (Comes f) (initial_of (machine_of f).rules) d (board_layers v)
   pub exit : IsExit f.layout d.place v.exit
   pub stage : v.stage ≡ stage_by (name_of f.translation v.state)
   pub machine : v.machine ≡ machine_state_by f.translation.final_state (name_of f.translation v.state)

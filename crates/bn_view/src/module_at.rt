@@ -16,8 +16,6 @@ pub(crate) fn module_at(board: &Board, machine: &QuadMachine) -> ModuleAt
     requires { (t : ℕ) → IsTape t → symbol_count_at board.now.layout t ≡ symbol_count machine.now t }
     ensures { IsModuleAt board.now.layout board.now.config.place result }
 {
-    // What every board keeps.
-    let _elements = board.len();
     match board.located() {
         Located::Control { line: Some(line) } => ModuleAt::ControlLine(line),
         Located::Control { line: None } => ModuleAt::ControlInside,

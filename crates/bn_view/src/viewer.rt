@@ -115,8 +115,6 @@ fn go_back(board: &mut Board, initial: u32) -> u32
         board.old.config.steps board.new.config.steps result }
 {
     'steps: loop {
-        // What every board keeps.
-        let _elements = board.len();
         if let Some(state) = board.moment() {
             return state;
         }

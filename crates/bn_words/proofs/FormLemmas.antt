@@ -9,11 +9,10 @@ use Rattle.bn_base.specs.declared.numbers.Digits.{Digits}
 use Rattle.bn_machine.specs.Outcome.{Limits}
 use Rattle.bn_network.specs.Limits.{AreSmall}
 use Rattle.bn_qtable.specs.TapeWords.{TapeWord, Letters, Names, TapeWords, One, Three}
-use Rattle.bn_words.specs.Requests.{HasForm, IsAllowed, Request, word_argument, words_of}
-use Rattle.bn_words.specs.Requests.{Step, Back, Check, Machine, Trace, Moments, ThreeMoments, Reversible, Inverse}
-use Rattle.bn_words.specs.Requests.{Bennett, Realise, Standard}
-use Rattle.bn_words.specs.Requests.{Build, Compile, Drive, Layout, Run, RunAuto}
-use Rattle.bn_words.specs.Requests.{View, Session, Look, Play, Plan, Migrate, Mirror, Farm, Generate, Erase, EraseRun}
+use Rattle.bn_words.specs.Requests.{HasForm, IsAllowed, Request, word_argument, words_of, Step, Back, Check, Machine}
+use Rattle.bn_words.specs.Requests.{Trace, Moments, ThreeMoments, Reversible, Inverse, Bennett, Realise, Standard}
+use Rattle.bn_words.specs.Requests.{Build, Compile, Drive, Layout, Run, RunAuto, View, Session, Look, Play, Plan}
+use Rattle.bn_words.specs.Requests.{Migrate, Mirror, Farm, Generate, Erase, EraseRun}
 use Rattle.bn_words.proofs.Numbers.{read-whole}
 
 -- ---- what one word would say

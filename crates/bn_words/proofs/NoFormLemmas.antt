@@ -7,10 +7,9 @@ use Rattle.bn_base.specs.declared.limits.TheConstants.{MOST_COUNT}
 use Rattle.bn_base.proofs.NumberLemmas.{decimal-once}
 use Rattle.bn_gen.specs.declared.machine.TheConstants.{MOST_INCREMENTS}
 use Rattle.bn_qtable.specs.TapeWords.{One, Three}
-use Rattle.bn_words.specs.Requests.{HasForm, HasNoForm}
-use Rattle.bn_words.specs.Requests.{Step, Back, Machine, Trace, Moments, ThreeMoments, Realise, Build, Compile, Drive}
-use Rattle.bn_words.specs.Requests.{Layout, Run, RunAuto, View, Session, Look, Play}
-use Rattle.bn_words.specs.Requests.{Generate, EraseRun}
+use Rattle.bn_words.specs.Requests.{HasForm, HasNoForm, Step, Back, Machine, Trace, Moments, ThreeMoments, Realise}
+use Rattle.bn_words.specs.Requests.{Build, Compile, Drive, Layout, Run, RunAuto, View, Session, Look, Play, Generate}
+use Rattle.bn_words.specs.Requests.{EraseRun}
 use Rattle.bn_words.specs.Words.{AreNoDriveSteps, IsCount, IsNoCount, IsNumber}
 use Rattle.bn_words.specs.declared.request.TheConstants.{MOST_DRIVE_STEPS}
 use Rattle.bn_words.proofs.FormLemmas.{only_form, value}

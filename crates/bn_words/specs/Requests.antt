@@ -66,8 +66,7 @@ word_argument (Names bytes) = 58 ∷ bytes
 -- the word on tape 1, or those on all tapes, and what stands behind them
 abbrev pub tape_arguments : TapeWords → List (List ℕ) → List (List ℕ)
 tape_arguments (One word) rest = word_argument word ∷ rest
-tape_arguments (Three first second third) rest =
-    word_argument first ∷ word_argument second ∷ word_argument third ∷ rest
+tape_arguments (Three first second third) rest = word_argument first ∷ word_argument second ∷ word_argument third ∷ rest
 
 -- the word of a greatest number of steps, or no word
 abbrev pub steps_words : Option ℕ → List (List ℕ)

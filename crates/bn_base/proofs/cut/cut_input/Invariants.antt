@@ -6,8 +6,7 @@ use Rattle.bn_base.proofs.cut.cut_input.Given as goal
 abbrev pub invariant-loop-begin : goal.invariant-loop-begin
 invariant-loop-begin l = record {
   within : l.begin ≤ length l.bytes;
-  looked : IsLooked l.bytes (take l.begin l.bytes)
-      (drop l.begin l.bytes);
+  looked : IsLooked l.bytes (take l.begin l.bytes) (drop l.begin l.bytes);
 }
 
 abbrev pub decreases-loop-begin : goal.decreases-loop-begin

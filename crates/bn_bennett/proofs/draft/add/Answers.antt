@@ -20,8 +20,7 @@ number_of-requires-2 c =
     rw after (omega (
       arith,
       few_names d.names.keys d.quads.items c.requires.draft,
-      length-with_name d.names.keys
-          (made c.args.quad.now).from,
+      length-with_name d.names.keys (made c.args.quad.now).from,
     ))
 
 pub returns : goal.returns

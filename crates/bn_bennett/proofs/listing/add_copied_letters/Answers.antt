@@ -9,8 +9,7 @@ use Rattle.bn_bennett.proofs.listing.add_copied_letters.Goals as goal
 pub add-requires-clause-room : goal.add-requires-clause-room
 add-requires-clause-room c = omega (
   arith,
-  room_letters (copies_letter c.args.n) c.args.draft.now c.loop-x.draft
-      c.loop-x.x c.loop-x.invariant,
+  room_letters (copies_letter c.args.n) c.args.draft.now c.loop-x.draft c.loop-x.x c.loop-x.invariant,
 )
 
 pub loop-x-preserved : goal.loop-x-preserved

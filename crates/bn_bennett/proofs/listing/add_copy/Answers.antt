@@ -28,8 +28,7 @@ add_passed_letters-requires-clause-room c =
       length-grown _ _ _ c.in_ok-add_two.ensures,
       length-grown _ _ _ c.in_ok-add_copied_letters.ensures,
       length-map-range_with_len (copies_letter c.args.n) 1 (c.args.z - 1),
-      length-grown _ _ _
-          c.in_ok-add_two-2.ensures,
+      length-grown _ _ _ c.in_ok-add_two-2.ensures,
     )
 
 pub add-requires-clause-room : goal.add-requires-clause-room
@@ -39,11 +38,9 @@ add-requires-clause-room c =
       length-grown _ _ _ c.in_ok-add_two.ensures,
       length-grown _ _ _ c.in_ok-add_copied_letters.ensures,
       length-map-range_with_len (copies_letter c.args.n) 1 (c.args.z - 1),
-      length-grown _ _ _
-          c.in_ok-add_two-2.ensures,
+      length-grown _ _ _ c.in_ok-add_two-2.ensures,
       length-grown _ _ _ c.in_ok-add_passed_letters.ensures,
-      length-map-range_with_len
-          (passes_letter c.args.n) 1 (c.args.z - 1),
+      length-map-range_with_len (passes_letter c.args.n) 1 (c.args.z - 1),
     )
 
 pub returns : goal.returns

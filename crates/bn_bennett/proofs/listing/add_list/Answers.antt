@@ -32,10 +32,8 @@ add_retrace-requires-clause-room c =
       length-grown _ _ _ one,
       length-compute p.quints,
       length-grown _ _ _ two,
-      length-copy
-          (final_of p.quints) (length p.quints) p.symbols (some_symbols p c.quints-quints.ensures.valid),
-      ap length
-          c.quints-quints.ensures.value,
+      length-copy (final_of p.quints) (length p.quints) p.symbols (some_symbols p c.quints-quints.ensures.valid),
+      ap length c.quints-quints.ensures.value,
     )
 
 pub returns : goal.returns

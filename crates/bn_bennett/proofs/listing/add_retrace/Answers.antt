@@ -22,8 +22,7 @@ pub loop-index-preserved : goal.loop-index-preserved
 loop-index-preserved c =
     let q : Quint = record { state = 0; read = 0; write = 0; shift = Left; next = 0 } in
     let two : Grows c.loop-index.draft (retrace_pair (
-      c.loop-index.index - 1
-          + 1,
+      c.loop-index.index - 1 + 1,
       get_or c.args.quints.now (c.loop-index.index - 1) q,
     )) c.add_two.new.draft = rw
     (← c.shifts_back.ensures, ← c.writes_back.ensures) c.in_ok-add_two.ensures in

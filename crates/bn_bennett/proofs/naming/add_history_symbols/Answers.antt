@@ -8,8 +8,7 @@ use Rattle.bn_bennett.proofs.Texts.{symbols_more}
 use Rattle.bn_bennett.proofs.InPartLemmas.{if_refused, numbers_in_part}
 use Rattle.bn_bennett.proofs.naming.add_history_symbols.Goals as goal
 
-pub add_symbol-requires-in-loop-index-clause-new :
-    goal.add_symbol-requires-in-loop-index-clause-new
+pub add_symbol-requires-in-loop-index-clause-new : goal.add_symbol-requires-in-loop-index-clause-new
 add_symbol-requires-in-loop-index-clause-new c =
     let i = c.loop-index.index in
     let text : c.as_slice.result.now ≡ decimal (i + 1) = c.as_slice.ensures.value ∙ c.in_ok-text.ensures in
@@ -17,8 +16,7 @@ add_symbol-requires-in-loop-index-clause-new c =
     symbol_new c.args.names.now 2 (omega arith) c.loop-index.names c.loop-index.names (number_names i)
     c.as_slice.result.now c.loop-index.invariant (λ there. number_new i (omega arith) (subst P text there))
 
-pub add_symbol-requires-in-loop-index-clause-room :
-    goal.add_symbol-requires-in-loop-index-clause-room
+pub add_symbol-requires-in-loop-index-clause-room : goal.add_symbol-requires-in-loop-index-clause-room
 add_symbol-requires-in-loop-index-clause-room c =
     let i = c.loop-index.index in
     let long : length (symbols_on c.loop-index.names 2) ≡ i + 1 =

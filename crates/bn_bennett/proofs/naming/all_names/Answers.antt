@@ -5,8 +5,7 @@ use Rattle.bn_bennett_laws.specs.declared.name.Name.{Name}
 use Rattle.bn_bennett.specs.Printed.{ArePrintable}
 use Rattle.bn_bennett.proofs.Printable.{printable}
 use Rattle.bn_bennett.proofs.Texts.{table_letters}
-use Rattle.bn_bennett_laws.proofs.Counts.{list_has_names}
-use Rattle.bn_bennett_laws.proofs.Counts.{list_counts_names}
+use Rattle.bn_bennett_laws.proofs.Counts.{list_has_names, list_counts_names}
 use Rattle.bn_bennett.proofs.naming.all_names.Goals as goal
 
 pub add_states-requires-clause-printable : goal.add_states-requires-clause-printable

@@ -7,9 +7,7 @@ use Rattle.bn_bennett_laws.specs.List.{symbols_of}
 use Rattle.bn_quad.proofs.SoundLemmas.{no_quad_refusal}
 use Rattle.bn_bennett.proofs.Machines.{count_names, count_quads, count_rules, made_translation, own_counts, own_made}
 use Rattle.bn_bennett.proofs.Machines.{own_symbols, own_translation, passes, sound}
-use Rattle.bn_bennett_laws.proofs.Counts.{list_is_in_range}
-use Rattle.bn_bennett_laws.proofs.Counts.{list_has_length}
-use Rattle.bn_bennett_laws.proofs.Counts.{list_counts_names}
+use Rattle.bn_bennett_laws.proofs.Counts.{list_is_in_range, list_has_length, list_counts_names}
 use Rattle.bn_bennett_laws.proofs.Numbering.{numbers_pass_tests}
 use Rattle.bn_bennett.proofs.translated.uniform_of.Goals as goal
 

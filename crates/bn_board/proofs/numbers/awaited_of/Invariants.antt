@@ -5,6 +5,5 @@ use Rattle.bn_board.proofs.numbers.awaited_of.Given as goal
 abbrev pub invariant-loop-state : goal.invariant-loop-state
 invariant-loop-state l = record {
   so_far : l.awaited.items ≡ take l.state l.control.awaited;
-  tapes : All IsTapeAwaited
-      l.awaited.items;
+  tapes : All IsTapeAwaited l.awaited.items;
 }

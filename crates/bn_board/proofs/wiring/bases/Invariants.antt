@@ -7,6 +7,5 @@ use Rattle.bn_board.proofs.wiring.bases.Given as goal
 abbrev pub invariant-loop-number : goal.invariant-loop-number
 invariant-loop-number l = record {
   next_is : l.next ≡ base (module_circuit l.net).tables l.number;
-  so_far : AreBasesUpTo (module_circuit l.net).tables
-      l.number l.bases.items;
+  so_far : AreBasesUpTo (module_circuit l.net).tables l.number l.bases.items;
 }

@@ -10,16 +10,14 @@ output_line-requires-clause-fits c = output_fits c.args.net.now c.args.bases.now
 pub bounds-bases-to : goal.bounds-bases-to
 bounds-bases-to c = entered_within c.args.net.now c.args.bases.now MOST_ELEMENTS c.requires.modules c.requires.few
     c.requires.bases (record {
-      element =
-          c.args.number;
+      element = c.args.number;
       line = c.args.line;
     }) c.args.to c.requires.leads
 
 pub input_line-requires : goal.input_line-requires
 input_line-requires c = entered_fits c.args.net.now c.args.bases.now MOST_ELEMENTS c.requires.modules c.requires.few
     c.requires.bases (record {
-      element =
-          c.args.number;
+      element = c.args.number;
       line = c.args.line;
     }) c.args.to c.requires.leads
 

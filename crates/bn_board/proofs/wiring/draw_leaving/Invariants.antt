@@ -4,6 +4,5 @@ use Rattle.bn_board.proofs.wiring.draw_leaving.Given as goal
 
 abbrev pub invariant-loop-line : goal.invariant-loop-line
 invariant-loop-line l = record {
-  drawn : IsDrawn (IsWireBefore (module_circuit l.net) l.fn.number l.line)
-      (size (module_circuit l.net).tables) l.draft;
+  drawn : IsDrawn (IsWireBefore (module_circuit l.net) l.fn.number l.line) (size (module_circuit l.net).tables) l.draft;
 }

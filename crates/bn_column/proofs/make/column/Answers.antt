@@ -11,4 +11,4 @@ rotary_net-requires-clause-fitting c = subst (AreFitting (c.args.rows + 1)) (sym
 pub of-requires-clause-column : goal.of-requires-clause-column
 of-requires-clause-column c = net-IsColumnNet c.in_ok-net.net c.args.rows c.in_ok-wires.wires.items
     c.in_ok-wires.ensures.wires (subst (IsNetOf c.in_ok-net.net (c.args.rows + 1)) c.as_slice.ensures.value
-    c.in_ok-net.ensures)
+    c.in_ok-net.ensures.net)

@@ -4,8 +4,7 @@ use Rattle.bn_erase.proofs.MachineLemmas.{few_quadruples}
 use Rattle.bn_erase_laws.proofs.ErasingLemmas.{erasing_has_length}
 use Rattle.bn_erase.proofs.erasing.erase.Goals as goal
 
-pub returns-then-count-gt-MOST_QUADRUPLES-clause-refused :
-    goal.returns-then-count-gt-MOST_QUADRUPLES-clause-refused
+pub returns-then-count-gt-MOST_QUADRUPLES-clause-refused : goal.returns-then-count-gt-MOST_QUADRUPLES-clause-refused
 returns-then-count-gt-MOST_QUADRUPLES-clause-refused c =
     let long = few_quadruples c.args.first.now c.args.second.now c.quadruples_of.ensures.valid
     c.quadruples_of-2.ensures.valid erasing_has_length in (

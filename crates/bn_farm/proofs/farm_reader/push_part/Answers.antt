@@ -1,5 +1,5 @@
 -- The part is misspelled.
-use Rattle.std.proofs.Common.{◌≡◌, ◌+◌, length, arith, sym, subst}
+use Rattle.std.proofs.Common.{◌≡◌, ◌+◌, length, arith, subst}
 use Rattle.bn_farm.specs.FarmRead.{IsPartRefusal}
 use Rattle.bn_farm.proofs.farm_reader.push_part.Goals as goal
 

@@ -37,8 +37,7 @@ loop-cursor-preserved c =
     let some : 0 < c.in-Some.order.number = omega (arith, c.if-order-eq0.false) in
     let e : Event = record {
       forward = c.in-Some.order.forward;
-      board = c.in-Some.order.number
-          - 1;
+      board = c.in-Some.order.number - 1;
       count = c.in-Some.order.count;
     } in
     let low : c.in-Some.order.number - 1 < c.args.boards = omega (arith, some, c.if-order-from.false, c.from.ensures) in

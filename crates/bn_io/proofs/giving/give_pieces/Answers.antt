@@ -25,7 +25,6 @@ returns-in_err-give_piece-clause-front g c =
     rw p.1 (
       i.0 ++ f.0,
       f.1,
-      i.1 ∙ ap (λ (z : List ℕ). i.0 ++ z) f.2
-          ∙ sym (append_assoc i.0 f.0 f.1),
+      i.1 ∙ ap (λ (z : List ℕ). i.0 ++ z) f.2 ∙ sym (append_assoc i.0 f.0 f.1),
       Grows-joins _ _ _ _ _ i.2 f.3,
     )

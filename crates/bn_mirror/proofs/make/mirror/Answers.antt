@@ -22,16 +22,15 @@ returns-clause-mirrored c =
     (record {
       version = c.args.config.now.version;
       net = c.in_ok-net.net;
-      config = record
-          { states = c.new.result; place = c.mirrored_place.result; steps = 0 };
+      config = record { states = c.new.result; place = c.mirrored_place.result; steps = 0 };
       start = c.mirrored_line.result;
       end = c.mirrored_line-2.result;
     })
-    c.as_slice.result.now c.len.result c.len.ensures.circuit c.len-2.ensures.circuit c.len.ensures.number
+    c.as_slice.result.now c.len.result c.len.ensures.circuit c.in_ok-net.ensures.circuit c.len.ensures.number
     (subst (λ (ws : List Wire). AreWiresOf (IsMirroredWire c.args.config.now.net.wires) ws)
     (sym c.as_slice.ensures.value) c.in_ok-wires.ensures.wires)
-    c.in_ok-net.ensures (c.new.ensures ∙ c.in_ok-states.ensures.items ∙ c.as_slice-2.ensures) c.mirrored_place.ensures
-    refl c.mirrored_line.ensures c.mirrored_line-2.ensures
+    c.in_ok-net.ensures.net (c.new.ensures ∙ c.in_ok-states.ensures.items ∙ c.as_slice-2.ensures)
+    c.mirrored_place.ensures refl c.mirrored_line.ensures c.mirrored_line-2.ensures
 
 pub returns-clause-admitted : goal.returns-clause-admitted
 returns-clause-admitted c =
@@ -39,8 +38,7 @@ returns-clause-admitted c =
     (record {
       version = c.args.config.now.version;
       net = c.in_ok-net.net;
-      config = record
-          { states = c.new.result; place = c.mirrored_place.result; steps = 0 };
+      config = record { states = c.new.result; place = c.mirrored_place.result; steps = 0 };
       start = c.mirrored_line.result;
       end = c.mirrored_line-2.result;
     })
@@ -49,13 +47,12 @@ returns-clause-admitted c =
     (record {
       version = c.args.config.now.version;
       net = c.in_ok-net.net;
-      config = record
-          { states = c.new.result; place = c.mirrored_place.result; steps = 0 };
+      config = record { states = c.new.result; place = c.mirrored_place.result; steps = 0 };
       start = c.mirrored_line.result;
       end = c.mirrored_line-2.result;
     })
-    c.as_slice.result.now c.len.result c.len.ensures.circuit c.len-2.ensures.circuit c.len.ensures.number
+    c.as_slice.result.now c.len.result c.len.ensures.circuit c.in_ok-net.ensures.circuit c.len.ensures.number
     (subst (λ (ws : List Wire). AreWiresOf (IsMirroredWire c.args.config.now.net.wires) ws)
     (sym c.as_slice.ensures.value) c.in_ok-wires.ensures.wires)
-    c.in_ok-net.ensures (c.new.ensures ∙ c.in_ok-states.ensures.items ∙ c.as_slice-2.ensures) c.mirrored_place.ensures
-    refl c.mirrored_line.ensures c.mirrored_line-2.ensures)
+    c.in_ok-net.ensures.net (c.new.ensures ∙ c.in_ok-states.ensures.items ∙ c.as_slice-2.ensures)
+    c.mirrored_place.ensures refl c.mirrored_line.ensures c.mirrored_line-2.ensures)

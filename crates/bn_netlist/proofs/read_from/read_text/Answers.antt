@@ -14,8 +14,7 @@ returns-in_err-pieces-clause-taken g c =
       t.0,
       reads_as _ _ _ _ _ _ t.1 (λ e. cc) (λ e. cc),
       tt,
-      no_text t.0 c.in_err-pieces.field-0.0
-          c.in_err-pieces.ensures.no_text,
+      no_text t.0 c.in_err-pieces.field-0.0 c.in_err-pieces.ensures.no_text,
     )
 
 pub returns-in_err-pieces-clause-refused_whole : goal.returns-in_err-pieces-clause-refused_whole

@@ -59,8 +59,7 @@ returns-in_ok-push_element-in-None g c =
     let e = c.args.place.element in
     let q = c.bar-state.result in (
       Element e q (targets_of (g.C.Spellable.spelling c.args.config.now).wires e),
-      an_element q
-          (omega (arith, c.if-place-gt0.false)) c.bar-state.ensures c.in-None.ensures refl refl refl,
+      an_element q (omega (arith, c.if-place-gt0.false)) c.bar-state.ensures c.in-None.ensures refl refl refl,
       c.in_ok-push_element-in-None.ensures,
     )
 
@@ -70,7 +69,6 @@ returns-in_ok-push_column-in-Some g c =
     let k = c.in-Some.rows in
     let q = c.bar-state-in-Some.result in (
       Column e k q,
-      a_column k q (omega (arith, c.if-place-gt0.false)) c.in-Some.ensures c.bar-state-in-Some.ensures refl
-          refl refl,
+      a_column k q (omega (arith, c.if-place-gt0.false)) c.in-Some.ensures c.bar-state-in-Some.ensures refl refl refl,
       c.in_ok-push_column-in-Some.ensures,
     )

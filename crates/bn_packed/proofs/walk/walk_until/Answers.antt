@@ -1,5 +1,4 @@
-use Rattle.std.proofs.Common.{length, map, Some, None, ◌≡◌, ◌+◌, ◌-◌, ◌∷◌, [], refl, sym, ap, subst, ◌∙◌}
-use Rattle.std.proofs.Common.{arith, not}
+use Rattle.std.proofs.Common.{length, map, Some, None, ◌≡◌, ◌+◌, ◌-◌, ◌∷◌, [], refl, sym, ap, subst, ◌∙◌, arith, not}
 use Rattle.bn_circuits.specs.Circuits.{place_at}
 use Rattle.bn_circuits.specs.declared.line.Line.{Line}
 use Rattle.bn_circuits.specs.declared.place.Place.TheVariants.{Left}

@@ -8,6 +8,5 @@ returns-in-Some-clause-plain c =
     let names = symbols_on c.args.names.now c.args.tape in
     let named = rw (c.in-Some.is, c.in-Write.is) at c.requires.named in (
       plain-at names c.in-Some.read c.symbol.result.now c.symbol.ensures.name named.0,
-      plain-at names c.in-Write.written
-          c.symbol-in-Some.result.now c.symbol-in-Some.ensures.name named.1,
+      plain-at names c.in-Write.written c.symbol-in-Some.result.now c.symbol-in-Some.ensures.name named.1,
     )

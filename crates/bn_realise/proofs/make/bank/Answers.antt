@@ -16,7 +16,7 @@ rotary_net-requires-clause-fitting c =
 pub of-requires-clause-some_bank : goal.of-requires-clause-some_bank
 of-requires-clause-some_bank c =
     let is = subst (IsNetOf c.in-Ok.net (c.from.result * (c.from-2.result + 1))) c.as_slice.ensures.value
-    c.in-Ok.ensures in
+    c.in-Ok.ensures.net in
     let made : IsBankOf (record { net = c.in-Ok.net; states = c.states-states.result; lines = c.lines_in-lines.result })
     (machine_table c.args.rsm.now) =
     record {
@@ -36,7 +36,7 @@ of-requires-clause-some_bank c =
 pub returns-clause-made : goal.returns-clause-made
 returns-clause-made c =
     let is = subst (IsNetOf c.in-Ok.net (c.from.result * (c.from-2.result + 1))) c.as_slice.ensures.value
-    c.in-Ok.ensures in
+    c.in-Ok.ensures.net in
     let made : IsBankOf (record { net = c.in-Ok.net; states = c.states-states.result; lines = c.lines_in-lines.result })
     (machine_table c.args.rsm.now) =
     record {

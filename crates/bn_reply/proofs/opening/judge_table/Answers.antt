@@ -3,8 +3,8 @@ use Rattle.bn_standard.specs.Verdict.{IsStandardRefusal}
 use Rattle.bn_reply.proofs.TableLemmas.{why_told}
 use Rattle.bn_reply.proofs.opening.judge_table.Goals as goal
 
-pub returns-in_ok-why_text-in-Err : goal.returns-in_ok-why_text-in-Err
-returns-in_ok-why_text-in-Err c =
+pub returns-in_ok-why_text-in-Err-clause-judged : goal.returns-in_ok-why_text-in-Err-clause-judged
+returns-in_ok-why_text-in-Err-clause-judged c =
     let first = subst (λ m. IsStandardRefusal m.quints c.in-Err.why) c.machine.ensures.value
     c.in-Err.ensures.refused in (
       refl,

@@ -21,14 +21,14 @@ returns-in-Refused c =
 pub returns-in-Refused-2 : goal.returns-in-Refused-2
 returns-in-Refused-2 c =
     let t = c.in-Read.table in
-    let refused = subst (IsJudged t) c.in-Refused-2.is c.in_ok-reply-2.ensures in
+    let refused = subst (IsJudged t) c.in-Refused-2.is c.in_ok-reply-2.ensures.judged in
     read t (subst (IsOpenedTable c.args.bytes.now) c.in-Read.is c.in_ok-reply.ensures) (unfit refused.1 refused.0 refl)
 
 pub translate-requires : goal.translate-requires
 translate-requires c =
     let t = c.in-Read.table in
     let reads = subst (IsOpenedTable c.args.bytes.now) c.in-Read.is c.in_ok-reply.ensures in
-    let judged = subst (IsJudged t) c.in-Standard.is c.in_ok-reply-2.ensures in
+    let judged = subst (IsJudged t) c.in-Standard.is c.in_ok-reply-2.ensures.judged in
     subst FitsTable (sym judged.0) (tables_machines t (reads_table c.args.bytes.now t reads)).1
 
 -- the word
@@ -36,7 +36,7 @@ pub returns-in-Refused-3 : goal.returns-in-Refused-3
 returns-in-Refused-3 c =
     let t = c.in-Read.table in
     let reads = subst (IsOpenedTable c.args.bytes.now) c.in-Read.is c.in_ok-reply.ensures in
-    let judged = subst (IsJudged t) c.in-Standard.is c.in_ok-reply-2.ensures in
+    let judged = subst (IsJudged t) c.in-Standard.is c.in_ok-reply-2.ensures.judged in
     let none : List ℕ → Status → List ℕ → List Place → Type 0 = λ symbols status text told. ⊥ in
     read t reads (fit judged.1 (foreign_replies none t c.args.word.now c.in-Refused-3.reply
     (subst (IsOpenedWord t c.args.word.now) c.in-Refused-3.is c.in_ok-reply-3.ensures)))
@@ -48,7 +48,7 @@ returns-in-Symbols c =
     let reads = subst (IsOpenedTable c.args.bytes.now) c.in-Read.is c.in_ok-reply.ensures in
     let table = reads_table c.args.bytes.now t reads in
     let facts = tables_machines t table in
-    let judged = subst (IsJudged t) c.in-Standard.is c.in_ok-reply-2.ensures in
+    let judged = subst (IsJudged t) c.in-Standard.is c.in_ok-reply-2.ensures.judged in
     let made = c.in_ok-translated-in-Standard.ensures in
     let is : IsTranslation t.machine m = subst (λ p. IsTranslation p m) judged.0 made.made in
     let spelled = subst (IsOpenedWord t c.args.word.now) c.in-Symbols.is c.in_ok-reply-3.ensures in

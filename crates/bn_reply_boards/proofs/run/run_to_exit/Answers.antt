@@ -11,7 +11,7 @@ returns-clause-ran g c = λ f m start.
     (g.W.Watch.told c.args.watch.now) (g.W.Watch.told c.run_counting-moments.new.watch) c.budget_of-budget.ensures
     c.run_counting-moments.ensures.same
     c.run_counting-moments.ensures.run c.run_counting-moments.ensures.moments
-    (ap (λ o. one_if (is_some o)) c.moment-first.ensures)
+    (ap (λ o. one_if (is_some o)) c.moment-first.ensures.moment)
     c.less_one-quadruple_steps.ensures c.exit_of-exit.ensures c.run_counting-moments.ensures.told
 
 pub returns-clause-exit : goal.returns-clause-exit

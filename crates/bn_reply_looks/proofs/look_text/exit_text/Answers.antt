@@ -12,7 +12,7 @@ pub returns : goal.returns
 returns c = elim c.match-place.branch [
   | in-Left+in_ok-shown+in_ok-outcome+in_ok-push_outcome w ↦ record {
     inside = λ e l at. absurd (let both : Enter e l ≡ Left w.in-Left.element w.in-Left.line = sym at
-        ∙ sym c.place.ensures ∙ w.in-Left.is in cc);
+        ∙ sym c.place.ensures.place ∙ w.in-Left.is in cc);
     left = λ f d e is same layout fits leaves.
         ap (λ (x : Vec ℕ Global). x.items) w.text-is
         ∙ exit_written (table_of c.args.machine.now c.args.names.now) (table_of w.machine.result.now c.args.names.now)
@@ -25,6 +25,6 @@ returns c = elim c.match-place.branch [
     left = λ f d e is same layout fits leaves.
         absurd (not_inside f c.args.board.now.config.place c.args.board.now.config.states d e leaves
         w.in_default.field-0
-        w.in_default.field-1 (sym c.place.ensures ∙ w.in_default.is));
+        w.in_default.field-1 (sym c.place.ensures.place ∙ w.in_default.is));
   }
 ]

@@ -18,7 +18,8 @@ returns c =
     let t = c.args.table.now in
     let s = c.in_ok-translated.translated in
     let same = c.machine-2.ensures.value ∙ c.machine.ensures.value in
-    let made : IsTranslation t.machine s = subst (λ p. IsTranslation p s) c.requires c.in_ok-translated.ensures.made in
+    let made : IsTranslation t.machine s =
+    subst (λ p. IsTranslation p s) c.requires.same c.in_ok-translated.ensures.made in
     let printed = translated_text t s made in
     let named = ap (λ n. lines_of (quadruple_rows_by n s.machine.rules)) c.in_ok-names.ensures.names in
     let quads = ap (λ m. lines_of (quadruple_rows_by c.in_ok-names.names m.rules)) same in

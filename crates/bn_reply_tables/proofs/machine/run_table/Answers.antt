@@ -7,7 +7,7 @@ use Rattle.bn_reply_tables.proofs.machine.run_table.Goals as goal
 
 pub returns-in-Standard : goal.returns-in-Standard
 returns-in-Standard c =
-    let judged = subst (IsJudged c.args.table.now) c.in-Standard.is c.in_ok-reply.ensures in
+    let judged = subst (IsJudged c.args.table.now) c.in-Standard.is c.in_ok-reply.ensures.judged in
     fit_replies (WordReplies (TellsMachineRun c.args.table.now c.args.steps) c.args.table.now c.args.word.now)
     c.args.table.now c.reply_word.result judged.1
     c.reply_word.ensures

@@ -20,7 +20,7 @@ loop-index-preserved g c = λ t s.
     let i = c.loop-index.index in
     let f = to_z-of_z w64 first (search rules) in
     let short : i < count = c.loop-index-test.true in
-    let windowed = c.head-head.ensures.valid in
+    let windowed = c.requires.windowed in
     let small : i < 2 ^ 63 = omega (
       arith,
       ints,

@@ -9,7 +9,7 @@ pub returns-in-Ok-Standard-clause-ends : goal.returns-in-Ok-Standard-clause-ends
 returns-in-Ok-Standard-clause-ends g c = λ told.
     let t = c.args.table.now in
     let tells = WordReplies (TellsTrace t c.args.most_steps) t c.args.word.now in
-    let judged = subst (IsJudged t) c.in-Ok-Standard.field-0-is c.in-Ok-Standard.ensures in
+    let judged = subst (IsJudged t) c.in-Ok-Standard.field-0-is c.in-Ok-Standard.ensures.judged in
     ends_as tells (JudgedReplies tells t) (λ status text places h. fit judged.1 h)
     (g.K.Sink.taken c.args.sink.now) (g.K.Sink.taken c.answer_word.new.sink) told told c.answer_word.result
     (g.K.Sink.faults c.args.sink.now) (g.K.Sink.faults c.answer_word.new.sink) (c.answer_word.ensures.ends told)
@@ -18,7 +18,7 @@ pub returns-in-Ok-Refused-clause-ends : goal.returns-in-Ok-Refused-clause-ends
 returns-in-Ok-Refused-clause-ends g c = λ told.
     let t = c.args.table.now in
     let tells = WordReplies (TellsTrace t c.args.most_steps) t c.args.word.now in
-    let judged = subst (IsJudged t) c.in-Ok-Refused.field-0-is c.in-Ok-Refused.ensures in
+    let judged = subst (IsJudged t) c.in-Ok-Refused.field-0-is c.in-Ok-Refused.ensures.judged in
     silent_ends (JudgedReplies tells t) (Ok c.in-Ok-Refused.reply) c.give_reply.result
     (g.K.Sink.taken c.args.sink.now) (g.K.Sink.taken c.give_reply.new.sink) (g.K.Sink.faults c.args.sink.now)
     (g.K.Sink.faults c.give_reply.new.sink) told

@@ -8,8 +8,8 @@ view_text-requires-clause-layers c =
     c.in_ok-layers.layers c.in_ok-layers.ensures.place
     c.in_ok-layers.ensures.known c.in_ok-layers.ensures.view c.in_ok-layers.ensures.machine
 
-pub returns : goal.returns
-returns c =
+pub returns-clause-shown : goal.returns-clause-shown
+returns-clause-shown c =
     IfOk-weaker c.view_text.result _ _ (λ text h word l f is.
     (c.in_ok-layers.layers, c.in_ok-layers.ensures.view c.args.table.now.machine word l f is, h f is.translation))
     c.view_text.ensures

@@ -7,7 +7,9 @@ use Rattle.bn_reply_laws.proofs.RunLemmas.{exits-named}
 use Rattle.bn_reply_boards.specs.Opened.{IsBoardAsked, IsOpenedInput}
 use Rattle.bn_reply_boards.proofs.AskedLemmas.{board_accepted, board_replies, input_refused}
 use Rattle.bn_reply_views.specs.ViewReply.{TellsView}
-use Rattle.bn_reply_views.proofs.MadeLemmas.{made_for, table_board, view_tells}
+use Rattle.bn_reply_views.specs.Kept.{may_show_same}
+use Rattle.bn_reply_views.proofs.MadeLemmas.{made_for, view_tells}
+use Rattle.bn_reply_views.proofs.ShowingLemmas.{may_show_made}
 use Rattle.bn_reply_views.proofs.view.reply_view.Goals as goal
 
 pub returns-in-Refused : goal.returns-in-Refused
@@ -25,9 +27,9 @@ layers_text-requires c =
     let b = c.in-Made.board in
     let asked : IsBoardAsked c.args.bytes.now c.args.word.now l t m b =
     subst (IsOpenedInput c.args.bytes.now c.args.word.now l) c.in-Made.is c.in_ok-reply.ensures in
-    table_board t l asked.symbols asked.flat m b c.run.new.self asked.made
-    (board_accepted c.args.bytes.now c.args.word.now l t m b asked) c.run.ensures.same c.args.steps
-    c.run.ensures.ran.ends exits-one run_to_exit
+    may_show_same t m b c.run.new.self c.run.ensures.same
+    (may_show_made t l asked.symbols asked.flat m b asked.made
+    (board_accepted c.args.bytes.now c.args.word.now l t m b asked) exits-one run_to_exit)
 
 pub returns-in_ok-layers_text-in-Made : goal.returns-in_ok-layers_text-in-Made
 returns-in_ok-layers_text-in-Made c =
@@ -42,6 +44,6 @@ returns-in_ok-layers_text-in-Made c =
     board_replies (TellsView c.args.steps) c.args.bytes.now c.args.word.now l t m b asked Done text []
     (view_tells t l asked.symbols asked.flat m b c.run.new.self asked.made may c.run.ensures.same c.args.steps
     c.run.ensures.ran.ends (exits-named run_to_exit) text
-    (c.in_ok-layers_text-in-Made.ensures asked.symbols l asked.flat
+    (c.in_ok-layers_text-in-Made.ensures.shown asked.symbols l asked.flat
     (made_for t l asked.symbols asked.flat m b c.run.new.self asked.made may c.run.ensures.same c.args.steps
     c.run.ensures.ran.ends)))

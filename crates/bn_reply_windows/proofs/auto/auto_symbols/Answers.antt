@@ -11,8 +11,7 @@ run_rounds-requires-clause-given g c =
     record {
       bytes = c.requires.0;
       letters = c.requires.1;
-      given = record
-          { reads = asked.reads; spelled = asked.spelled; few = few };
+      given = record { reads = asked.reads; spelled = asked.spelled; few = few };
     }
 
 pub run_rounds-requires-clause-ready : goal.run_rounds-requires-clause-ready

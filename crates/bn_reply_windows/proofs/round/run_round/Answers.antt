@@ -7,7 +7,8 @@ use Rattle.bn_reply_boards.proofs.RunLemmas.{made_letters, made_names, made_star
 use Rattle.bn_table.proofs.MachineLemmas.{tables_machines}
 use Rattle.bn_board_spec.proofs.ExitLemmas.{exits-one}
 use Rattle.bn_board_laws.proofs.ClosedLemmas.{run_to_exit}
-use Rattle.bn_reply_windows.proofs.ClosedLemmas.{moments, named}
+use Rattle.bn_reply_windows.proofs.ClosedLemmas.{named}
+use Rattle.bn_reply_laws.proofs.ClosedLemmas.{moments}
 use Rattle.bn_reply_windows.proofs.WindowLemmas.{asked_accepted, large_ends, run_as}
 use Rattle.bn_reply_windows.proofs.round.run_round.Given.{Over}
 use Rattle.bn_reply_windows.proofs.round.run_round.Goals as goal

@@ -11,7 +11,6 @@ abbrev pub invariant-loop-command : goal.invariant-loop-command
 invariant-loop-command g l = record {
   played : IsPlayedTo (g.W.Shows.text l.shows) l.fn.board
       (take l.command-index l.command-items) (session l.board.config l.breaks) l.fn.out.items l.out.items;
-  orderly :
-      AreOrderly (labels_of l.breaks) (drop l.command-index l.command-items);
+  orderly : AreOrderly (labels_of l.breaks) (drop l.command-index l.command-items);
   same : IsSameBoard l.fn.board l.board;
 }

@@ -21,8 +21,7 @@ loop-commands-preserved c =
     rw items (record {
       read = more.0;
       standing = more.1;
-      states = c.in_ok-command.ensures.states
-          ∙ before.invariant.states;
+      states = c.in_ok-command.ensures.states ∙ before.invariant.states;
     })
 
 pub invariant_of-result : goal.invariant_of-result

@@ -7,8 +7,7 @@ use Rattle.bn_session.proofs.script.read_script.Given as goal
 abbrev pub invariant-loop-commands : goal.invariant-loop-commands
 invariant-loop-commands l = record {
   read : HasRead l.fn.names.states l.fn.bytes l.lines l.commands.items;
-  standing :
-      l.scope.standing ≡ standing_by l.commands.items;
+  standing : l.scope.standing ≡ standing_by l.commands.items;
   states : l.scope.states ≡ l.fn.names.states;
 }
 

@@ -1,6 +1,5 @@
 -- What is left of the way ends where the way does.
 use Rattle.std.proofs.Common.{◌≡◌, ◌-◌}
-use Rattle.bn_circuits.specs.Circuits.{IsConfig}
 use Rattle.bn_net.specs.RotaryNets.{rotary_circuit}
 use Rattle.bn_board_spec.specs.Layouts.{moment_at}
 use Rattle.bn_board.specs.Flattened.{IsSameBoard}
@@ -15,6 +14,4 @@ invariant-loop-made l = record {
       ≡ walk (stops (moment_at l.fn.board.layout) l.breaks) (once_along l.direction (rotary_circuit l.fn.board.net))
       l.count l.fn.board.config;
   same : IsSameBoard l.fn.board l.board;
-  good : IsConfig (rotary_circuit l.fn.board.net)
-      l.board.config;
 }

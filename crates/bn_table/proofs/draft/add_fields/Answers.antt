@@ -25,8 +25,7 @@ number_letter-requires c =
     let d = c.args.draft.now in
     let few : length d.letters.items < 4294967295 = omega (
       arith,
-      few-letters d.names d.letters.items d.quints.items
-          (drafted d) c.requires.draft,
+      few-letters d.names d.letters.items d.quints.items (drafted d) c.requires.draft,
     ) in few
 
 pub number_letter-requires-2 : goal.number_letter-requires-2
@@ -37,8 +36,7 @@ number_letter-requires-2 c =
     rw after (omega (
       arith,
       few-letters d.names d.letters.items d.quints.items (drafted d) c.requires.draft,
-      new_length
-          nat_eq d.letters.items c.args.fields.now.read,
+      new_length nat_eq d.letters.items c.args.fields.now.read,
     ))
 
 pub number_of-requires-2 : goal.number_of-requires-2
@@ -49,8 +47,7 @@ number_of-requires-2 c =
     record {
       room = rw after (omega (
         arith,
-        few-names d.names d.letters.items d.quints.items (drafted d)
-            c.requires.draft,
+        few-names d.names d.letters.items d.quints.items (drafted d) c.requires.draft,
         new_length bytes_eq d.names c.args.fields.now.state.now,
       ));
     }

@@ -4,9 +4,6 @@ use Rattle.std.proofs.lemmas.Bool.Decides.{nat_tests}
 use Rattle.bn_words.specs.Words.{AreRead}
 use Rattle.bn_words.proofs.NoFormLemmas.{eight_texts, five_texts, nine_texts, other_length, six_texts, seven_texts}
 use Rattle.bn_words.proofs.read.read_words.Goals as goal
-use Rattle.bn_words.proofs.read.read_words.Goals.{in_default-via-then-words-lt6+then-words-lt1}
-use Rattle.bn_words.proofs.read.read_words.Goals.{in_default-via-then-words-lt6+else-words-lt1+else-words-lt2+else-words-lt3+else-words-lt4+then-words-lt5}
-use Rattle.bn_words.proofs.read.read_words.Goals.{in_default-via-else-words-lt6+else-words-lt7+else-words-lt8+else-words-lt9+else-words-lt10}
 
 pub returns-in-len5 : goal.returns-in-len5
 returns-in-len5 c =
@@ -66,16 +63,16 @@ returns-in-len9 c =
 
 pub returns-in_default : goal.returns-in_default
 returns-in_default c = elim c.in_default.branch [
-  | in_default-via-then-words-lt6+then-words-lt1 w ↦
+  | goal.in_default-via-then-words-lt6+then-words-lt1 w ↦
       let none : length c.args.words.now < 1 = grind (arith, nat_tests) in
       other_length (string_bytes {Z = Global}) c.args.words.now (omega arith) (omega arith) (omega arith) (omega arith)
       (omega arith) (omega arith) (omega arith) (omega arith)
-  | in_default-via-then-words-lt6+else-words-lt1+else-words-lt2+else-words-lt3+else-words-lt4+then-words-lt5 w ↦
+  | goal.in_default-via-then-words-lt6+else-words-lt1+else-words-lt2+else-words-lt3+else-words-lt4+then-words-lt5 w ↦
       let some : 4 ≤ length c.args.words.now = grind (arith, nat_tests) in
       let few : length c.args.words.now < 5 = grind (arith, nat_tests) in
       other_length (string_bytes {Z = Global}) c.args.words.now (omega arith) (omega arith) (omega arith) (omega arith)
       (omega arith) (omega arith) (omega arith) (omega arith)
-  | in_default-via-else-words-lt6+else-words-lt7+else-words-lt8+else-words-lt9+else-words-lt10 w ↦
+  | goal.in_default-via-else-words-lt6+else-words-lt7+else-words-lt8+else-words-lt9+else-words-lt10 w ↦
       let many : 10 ≤ length c.args.words.now = grind (arith, nat_tests) in
       other_length (string_bytes {Z = Global}) c.args.words.now (omega arith) (omega arith) (omega arith) (omega arith)
       (omega arith) (omega arith) (omega arith) (omega arith)

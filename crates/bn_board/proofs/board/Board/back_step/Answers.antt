@@ -17,3 +17,10 @@ returns-clause-same c =
     c.self.inside.layout) c.back_step.new.self.net c.back_step.new.self.config c.self.invariant
     c.back_step.ensures.net c.back_step.ensures.good c.back_step.result c.back_step.ensures.made
     c.back_step.ensures.kept).same
+
+pub returns-clause-board : goal.returns-clause-board
+returns-clause-board c =
+    (board_stepped_back (board_with c.self.inside.packed c.self.inside.start c.self.inside.end c.self.inside.layout)
+    c.back_step.new.self.net c.back_step.new.self.config c.self.invariant
+    c.back_step.ensures.net c.back_step.ensures.good c.back_step.result c.back_step.ensures.made
+    c.back_step.ensures.kept).kept

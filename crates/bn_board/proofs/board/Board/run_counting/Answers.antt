@@ -9,8 +9,7 @@ use Rattle.bn_board.proofs.board.Board.run_counting.Goals as goal
 
 pub loop-made-init : goal.loop-made-init
 loop-made-init g c = record {
-  counted = counted_none c.args.self.now (g.W.Watch.told c.args.watch.now)
-      c.layout.ensures.kept;
+  counted = counted_none c.args.self.now (g.W.Watch.told c.args.watch.now) c.layout.ensures.kept;
   within = omega arith;
 }
 

@@ -7,7 +7,6 @@ decreases-loop-made g l = l.e - l.made
 
 abbrev pub invariant-loop-made : goal.invariant-loop-made
 invariant-loop-made g l = record {
-  counted : HasCounted l.fn.self l.self l.made l.moments (g.W.Watch.told l.fn.watch)
-      (g.W.Watch.told l.watch);
+  counted : HasCounted l.fn.self l.self l.made l.moments (g.W.Watch.told l.fn.watch) (g.W.Watch.told l.watch);
   within : l.made ≤ l.e;
 }

@@ -15,3 +15,9 @@ returns-clause-same c =
     rw (← c.self.view_is) (board_stepped (board_with c.self.inside.packed c.self.inside.start c.self.inside.end
     c.self.inside.layout) c.step.new.self.net c.step.new.self.config c.self.invariant
     c.step.ensures.net c.step.ensures.good c.step.result c.step.ensures.made c.step.ensures.kept).same
+
+pub returns-clause-board : goal.returns-clause-board
+returns-clause-board c =
+    (board_stepped (board_with c.self.inside.packed c.self.inside.start c.self.inside.end c.self.inside.layout)
+    c.step.new.self.net c.step.new.self.config c.self.invariant c.step.ensures.net
+    c.step.ensures.good c.step.result c.step.ensures.made c.step.ensures.kept).kept

@@ -13,7 +13,6 @@ returns-clause-good c =
     (c.new.ensures ∙ c.in_ok-states.ensures) c.requires.first last c.requires.side in
     subst (λ v. IsConfig (rotary_circuit v.net) (record {
       states = c.new.result;
-      place = Enter (c.args.row - 1)
-          c.args.side;
+      place = Enter (c.args.row - 1) c.args.side;
       steps = 0;
     })) c.self.view_is good

@@ -7,6 +7,5 @@ place_of-requires c = omega (
   arith,
   c.self.invariant.first_symbols,
   c.self.invariant.first_fits.symbols,
-  ap length
-      c.as_slice.ensures.value,
+  ap length c.as_slice.ensures.value,
 )

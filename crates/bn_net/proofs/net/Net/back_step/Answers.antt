@@ -1,19 +1,19 @@
-use Rattle.std.proofs.Common.{◌-◌, sym, ap}
+use Rattle.std.proofs.Common.{◌-◌, sym, ap, refl}
 use Rattle.bn_circuits.specs.Circuits.{Goes}
+use Rattle.bn_circuits.proofs.RunLemmas.{Reaches-back}
 use Rattle.bn_circuits.proofs.StepLemmas.{previous-IsConfig}
 use Rattle.bn_circuits.specs.declared.config.Config.{Config}
 use Rattle.bn_circuits.specs.declared.place.Place.TheVariants.{Enter}
 use Rattle.bn_net.specs.Parts.{circuit}
-use Rattle.bn_net.proofs.WireLemmas.{view-IsCircuit}
 use Rattle.bn_net.proofs.NetSteps.{output-state, back-Goes, first_by_line, first_by_move}
+use Rattle.bn_net.proofs.NetSteps.{stays_by_steps, stays_by_first}
 use Rattle.bn_net.proofs.net.Net.back_step.Given.{Over}
 use Rattle.bn_net.proofs.net.Net.back_step.Goals as goal
 
 pub returns-in_default-clause-first : goal.returns-in_default-clause-first
 returns-in_default-clause-first g c =
-    let whole = view-IsCircuit g.E.Element.table g.met.E.Element.reversible c.self.inside.elements.items
-    c.self.inside.targets c.self.inside.sources c.args.self.now c.self.invariant c.self.view_is in
-    first_by_line (circuit g.E.Element.table c.args.self.now) whole c.args.config.now (sym c.in_default.ensures.line)
+    first_by_line (circuit g.E.Element.table c.args.self.now) (c.in_default.ensures.circuit refl) c.args.config.now
+    (sym c.in_default.ensures.line)
 
 pub get-state-requires : goal.get-state-requires
 get-state-requires g c = output-state (circuit g.E.Element.table c.args.self.now) c.args.config.now c.in-Some.field-0
@@ -21,10 +21,9 @@ get-state-requires g c = output-state (circuit g.E.Element.table c.args.self.now
 
 pub returns-in_default-back-clause-first : goal.returns-in_default-back-clause-first
 returns-in_default-back-clause-first g c =
-    let whole = view-IsCircuit g.E.Element.table g.met.E.Element.reversible c.self.inside.elements.items
-    c.self.inside.targets c.self.inside.sources c.args.self.now c.self.invariant c.self.view_is in
-    first_by_move (circuit g.E.Element.table c.args.self.now) whole c.args.config.now c.in-Some.field-0
-    c.get-state.result (sym c.in-Some.ensures.line) c.get-state.ensures (sym c.in_default-back.ensures)
+    first_by_move (circuit g.E.Element.table c.args.self.now) c.in_default-back.ensures.circuit
+    c.args.config.now c.in-Some.field-0 c.get-state.result (sym c.in-Some.ensures.line) c.get-state.ensures
+    c.in_default-back.ensures.made
 
 pub set-requires : goal.set-requires
 set-requires g c = output-state (circuit g.E.Element.table c.args.self.now) c.args.config.now c.in-Some.field-0
@@ -37,16 +36,14 @@ made : (g : Over) (c : goal.After-config-2-1 g) → Goes (circuit g.E.Element.ta
       steps = c.args.config.now.steps - 1;
     }) c.args.config.now
 made g c =
-    let whole = view-IsCircuit g.E.Element.table g.met.E.Element.reversible c.self.inside.elements.items
-    c.self.inside.targets c.self.inside.sources c.args.self.now c.self.invariant c.self.view_is in
-    back-Goes (circuit g.E.Element.table c.args.self.now) whole
+    back-Goes (circuit g.E.Element.table c.args.self.now) c.in-Some-back.ensures.circuit
     (record {
       states = c.set.new.self;
       place = Enter c.in-Some.field-0.element c.in-Some-back.input;
       steps = c.args.config.now.steps - 1;
     }) c.args.config.now c.requires c.in-Some.field-0 c.get-state.result
     c.in-Some-back.before c.in-Some-back.input
-    (sym c.in-Some.ensures.line) c.get-state.ensures (sym c.in-Some-back.ensures)
+    (sym c.in-Some.ensures.line) c.get-state.ensures (sym c.in-Some-back.ensures.made)
     (ap (λ xs. let r : Config = record {
       states = xs;
       place = Enter c.in-Some.field-0.element c.in-Some-back.input;
@@ -59,11 +56,35 @@ returns-clause-made g c = made g c
 
 pub returns-clause-good : goal.returns-clause-good
 returns-clause-good g c =
-    let whole = view-IsCircuit g.E.Element.table g.met.E.Element.reversible c.self.inside.elements.items
-    c.self.inside.targets c.self.inside.sources c.args.self.now c.self.invariant c.self.view_is in
-    previous-IsConfig (circuit g.E.Element.table c.args.self.now) whole
+    previous-IsConfig (circuit g.E.Element.table c.args.self.now) c.in-Some-back.ensures.circuit
     (record {
       states = c.set.new.self;
       place = Enter c.in-Some.field-0.element c.in-Some-back.input;
       steps = c.args.config.now.steps - 1;
     }) c.args.config.now c.requires (made g c)
+
+pub returns-then-config-eq0-clause-back : goal.returns-then-config-eq0-clause-back
+returns-then-config-eq0-clause-back g c =
+    stays_by_steps (circuit g.E.Element.table c.args.self.now) c.args.config.now c.if-config-eq0.true
+
+pub returns-in_default-clause-back : goal.returns-in_default-clause-back
+returns-in_default-clause-back g c =
+    stays_by_first (circuit g.E.Element.table c.args.self.now) (c.in_default.ensures.circuit refl) c.args.config.now
+    c.requires (first_by_line (circuit g.E.Element.table c.args.self.now) (c.in_default.ensures.circuit refl)
+    c.args.config.now (sym c.in_default.ensures.line))
+
+pub returns-in_default-back-clause-back : goal.returns-in_default-back-clause-back
+returns-in_default-back-clause-back g c =
+    stays_by_first (circuit g.E.Element.table c.args.self.now) c.in_default-back.ensures.circuit c.args.config.now
+    c.requires (first_by_move (circuit g.E.Element.table c.args.self.now) c.in_default-back.ensures.circuit
+    c.args.config.now c.in-Some.field-0 c.get-state.result (sym c.in-Some.ensures.line) c.get-state.ensures
+    c.in_default-back.ensures.made)
+
+pub returns-clause-back : goal.returns-clause-back
+returns-clause-back g c =
+    sym (Reaches-back (circuit g.E.Element.table c.args.self.now) c.in-Some-back.ensures.circuit 1
+    (record {
+      states = c.set.new.self;
+      place = Enter c.in-Some.field-0.element c.in-Some-back.input;
+      steps = c.args.config.now.steps - 1;
+    }) c.args.config.now (c.args.config.now, made g c, refl))

@@ -1,7 +1,6 @@
 use Rattle.std.proofs.Common.{◌≡◌, Some, None, Option, map, IfSome, sym}
 use Rattle.bn_circuits.specs.Circuits.{IsOutputOf, source}
 use Rattle.bn_circuits.specs.declared.line.Line.{Line}
-use Rattle.bn_net.proofs.WireLemmas.{view-IsCircuit}
 use Rattle.bn_net.proofs.net.Net.line_before.Goals as goal
 
 pub returns-in-Enter-clause-output : goal.returns-in-Enter-clause-output
@@ -12,7 +11,5 @@ returns-in-Enter-clause-output g c = by_source c.source.result c.source.ensures.
         → IfSome o (IsOutputOf (map g.E.Element.table c.args.self.now.elements))
     by_source None is = tt
     by_source (Some from) is =
-        let circuit = view-IsCircuit g.E.Element.table g.met.E.Element.reversible c.self.inside.elements.items
-        c.self.inside.targets c.self.inside.sources c.args.self.now c.self.invariant c.self.view_is in
         let to : Line = record { element = c.in-Enter.element; line = c.in-Enter.line } in
-        (circuit.wired from to ((circuit.one_to_one from to).1 (sym is))).0
+        (c.source.ensures.circuit.wired from to ((c.source.ensures.circuit.one_to_one from to).1 (sym is))).0

@@ -1,7 +1,6 @@
 use Rattle.std.proofs.Common.{◌≡◌, map, get_or, None, sym, subst, ◌∙◌}
 use Rattle.std.proofs.lemmas.Option.{slice_get-get_or}
 use Rattle.bn_net.specs.Faults.{fault_of}
-use Rattle.bn_net.proofs.WireLemmas.{view-IsCircuit}
 use Rattle.bn_net.proofs.FaultLemmas.{nothing_built, more_built, next_faultless, built_targets, built_sources}
 use Rattle.bn_net.proofs.net.Net.new.Goals as goal
 
@@ -10,6 +9,7 @@ loop-index-init g c = (
   c.in_ok-net.ensures.elements,
   nothing_built (map g.E.Element.table c.args.elements.items) c.args.wires.now c.in_ok-net.net.wires
       c.in_ok-net.ensures.wires,
+  c.in_ok-net.ensures.circuit,
 )
 
 pub connect-requires : goal.connect-requires
@@ -22,8 +22,7 @@ connect-requires g c =
     subst (λ xs. fault_of (map g.E.Element.table xs) c.loop-index.net.wires
     (get_or c.args.wires.now c.loop-index.index (record {
       from = record { element = 0; line = 0 };
-      to = record
-          { element = 0; line = 0 };
+      to = record { element = 0; line = 0 };
     })) ≡ None) (sym c.loop-index.invariant.0) none
 
 pub loop-index-preserved : goal.loop-index-preserved
@@ -40,6 +39,7 @@ loop-index-preserved g c =
           c.loop-index.invariant.1 c.loop-index-test.true
           (slice_get-get_or c.args.wires.now c.loop-index.index _ c.loop-index-test.true) none c.connect.ensures.targets
           c.connect.ensures.sources,
+      c.connect.ensures.circuit,
     )
 
 pub returns-clause-targets : goal.returns-clause-targets
@@ -47,7 +47,3 @@ returns-clause-targets g c = built_targets c.loop-index.invariant.1 c.loop-index
 
 pub returns-clause-sources : goal.returns-clause-sources
 returns-clause-sources g c = built_sources c.loop-index.invariant.1 c.loop-index-test.false
-
-pub returns-clause-circuit : goal.returns-clause-circuit
-returns-clause-circuit g c = view-IsCircuit g.E.Element.table g.met.E.Element.reversible c.net.inside.elements.items
-    c.net.inside.targets c.net.inside.sources c.loop-index.net c.net.invariant c.net.view_is

@@ -1,19 +1,26 @@
 use Rattle.std.proofs.Common.{◌≡◌, ◌+◌, sym, ap, subst, ◌∙◌, refl, arith}
 use Rattle.bn_lists.proofs.RunsLemmas.{runs_join}
 use Rattle.bn_circuits.specs.Circuits.{Goes, IsFirst}
-use Rattle.bn_circuits.specs.Stepping.{run}
-use Rattle.bn_circuits.proofs.RunLemmas.{back_stops, Reaches-run}
+use Rattle.bn_circuits.specs.Stepping.{run, back}
+use Rattle.bn_circuits.proofs.RunLemmas.{back-zero, back_composes, Reaches-run}
 use Rattle.bn_net.specs.Parts.{circuit}
-use Rattle.bn_net.proofs.WireLemmas.{view-IsCircuit}
+use Rattle.bn_net.proofs.NetSteps.{back_rests}
 use Rattle.bn_net.proofs.net.Net.run_back.Goals as goal
+
+pub loop-made-init : goal.loop-made-init
+loop-made-init g c = (
+  refl,
+  c.requires,
+  sym (back-zero (circuit g.E.Element.table c.args.self.now) c.args.config.now),
+)
 
 pub returns-then-not-back_step-clause-back : goal.returns-then-not-back_step-clause-back
 returns-then-not-back_step-clause-back g c =
-    let whole = view-IsCircuit g.E.Element.table g.met.E.Element.reversible c.self.inside.elements.items
-    c.self.inside.targets c.self.inside.sources c.args.self.now c.self.invariant c.self.view_is in
-    c.if-not-back_step.ensures.kept ∙ sym (back_stops (circuit g.E.Element.table c.args.self.now) whole c.loop-made.made
-    c.args.e c.loop-made.config c.args.config.now c.loop-made.invariant.1 c.loop-made.invariant.0
-    (omega (arith, c.loop-made-test.true)) (λ _. c.if-not-back_step.ensures.first))
+    let k = circuit g.E.Element.table c.args.self.now in
+    let stays : c.loop-made.config ≡ back k c.loop-made.config 1 =
+    sym c.if-not-back_step.ensures.kept ∙ c.back_step.ensures.back in
+    c.if-not-back_step.ensures.kept ∙ back_rests k c.args.config.now c.loop-made.config c.loop-made.made c.args.e
+    c.loop-made.invariant.2 stays (omega (arith, c.loop-made-test.true))
 
 pub returns-then-not-back_step-clause-undone : goal.returns-then-not-back_step-clause-undone
 returns-then-not-back_step-clause-undone g c =
@@ -27,15 +34,16 @@ loop-made-preserved g c = (
       c.back_step.new.config c.loop-made.config c.args.config.now (omega arith)
       (c.loop-made.config, c.if-not-back_step.ensures.made, refl) c.loop-made.invariant.0,
   c.back_step.ensures.good,
+  c.back_step.ensures.back
+      ∙ ap (λ x. back (circuit g.E.Element.table c.args.self.now) x 1) c.loop-made.invariant.2
+      ∙ sym (back_composes (circuit g.E.Element.table c.args.self.now) c.args.config.now c.loop-made.made 1
+      (c.loop-made.made + 1) refl),
 )
 
 pub returns-clause-back : goal.returns-clause-back
 returns-clause-back g c =
-    let whole = view-IsCircuit g.E.Element.table g.met.E.Element.reversible c.self.inside.elements.items
-    c.self.inside.targets c.self.inside.sources c.args.self.now c.self.invariant c.self.view_is in
-    sym (back_stops (circuit g.E.Element.table c.args.self.now) whole c.loop-made.made c.args.e c.loop-made.config
-    c.args.config.now c.loop-made.invariant.1 c.loop-made.invariant.0 c.loop-made.auto.made-end
-    (λ fewer. absurd (omega (arith, c.loop-made-test.false))))
+    let all : c.loop-made.made ≡ c.args.e = omega (arith, c.loop-made-test.false, c.loop-made.auto.made-end) in
+    c.loop-made.invariant.2 ∙ ap (λ n. back (circuit g.E.Element.table c.args.self.now) c.args.config.now n) all
 
 pub returns-clause-undone : goal.returns-clause-undone
 returns-clause-undone g c =

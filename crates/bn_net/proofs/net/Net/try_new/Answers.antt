@@ -2,7 +2,6 @@ use Rattle.std.proofs.Common.{◌≡◌, ◌+◌, map, get_or, None, Err, sym, s
 use Rattle.std.proofs.lemmas.Option.{slice_get-get_or}
 use Rattle.std.proofs.lemmas.Result.{err_from_is_err_and}
 use Rattle.bn_net.specs.Faults.{fault_of, checked}
-use Rattle.bn_net.proofs.WireLemmas.{view-IsCircuit}
 use Rattle.bn_net.proofs.FaultLemmas.{nothing_built, more_built, built_targets, built_sources, checked-Ok, refused_at}
 use Rattle.bn_net.proofs.net.Net.try_new.Goals as goal
 
@@ -11,6 +10,7 @@ loop-index-init g c = (
   c.in_ok-net.ensures.elements,
   nothing_built (map g.E.Element.table c.args.elements.items)
       c.args.wires.now c.in_ok-net.net.wires c.in_ok-net.ensures.wires,
+  c.in_ok-net.ensures.circuit,
 )
 
 pub returns-in_err-check-clause-refused : goal.returns-in_err-check-clause-refused
@@ -20,8 +20,7 @@ returns-in_err-check-clause-refused g c =
     (fault_of (map g.E.Element.table xs) c.loop-index.net.wires
     (get_or c.args.wires.now c.loop-index.index (record {
       from = record { element = 0; line = 0 };
-      to = record
-          { element = 0; line = 0 };
+      to = record { element = 0; line = 0 };
     }))) (c.loop-index.index + 1)) c.loop-index.invariant.0 c.in_err-check.ensures in
     rw (p.1, p.2) (refused_at (map g.E.Element.table c.args.elements.items) c.args.wires.now c.loop-index.net.wires
     c.loop-index.index (get_or c.args.wires.now c.loop-index.index
@@ -34,14 +33,12 @@ loop-index-preserved g c =
     let none = checked-Ok (fault_of (map g.E.Element.table c.loop-index.net.elements) c.loop-index.net.wires
     (get_or c.args.wires.now c.loop-index.index (record {
       from = record { element = 0; line = 0 };
-      to = record
-          { element = 0; line = 0 };
+      to = record { element = 0; line = 0 };
     }))) (c.loop-index.index + 1) c.in_ok-check.field-0 (sym c.in_ok-check.ensures) in
     let none' = subst (λ xs. fault_of (map g.E.Element.table xs) c.loop-index.net.wires
     (get_or c.args.wires.now c.loop-index.index (record {
       from = record { element = 0; line = 0 };
-      to = record
-          { element = 0; line = 0 };
+      to = record { element = 0; line = 0 };
     })) ≡ None) c.loop-index.invariant.0 none in (
       c.connect.ensures.elements ∙ c.loop-index.invariant.0,
       more_built (map g.E.Element.table c.args.elements.items) c.args.wires.now c.loop-index.net.wires
@@ -50,6 +47,7 @@ loop-index-preserved g c =
           c.loop-index.invariant.1 c.loop-index-test.true
           (slice_get-get_or c.args.wires.now c.loop-index.index _ c.loop-index-test.true) none'
           c.connect.ensures.targets c.connect.ensures.sources,
+      c.connect.ensures.circuit,
     )
 
 pub returns-clause-targets : goal.returns-clause-targets
@@ -57,7 +55,3 @@ returns-clause-targets g c = built_targets c.loop-index.invariant.1 c.loop-index
 
 pub returns-clause-sources : goal.returns-clause-sources
 returns-clause-sources g c = built_sources c.loop-index.invariant.1 c.loop-index-test.false
-
-pub returns-clause-circuit : goal.returns-clause-circuit
-returns-clause-circuit g c = view-IsCircuit g.E.Element.table g.met.E.Element.reversible c.net-2.inside.elements.items
-    c.net-2.inside.targets c.net-2.inside.sources c.loop-index.net c.net-2.invariant c.net-2.view_is

@@ -74,8 +74,7 @@ returns-then-are_fed-clause-refused c =
     (c.if-are_fed.ensures ws fed))) (ap (λ (n : ℕ). TwoSources (n + 7)) same)
 
 pub returns-clause-inner : goal.returns-clause-inner
-returns-clause-inner c =
-    record { are = c.in-Ok.ensures; within = omega (arith, c.if-from-rows.false) }
+returns-clause-inner c = record { are = c.in-Ok.ensures; within = omega (arith, c.if-from-rows.false) }
 
 pub returns-clause-faultless : goal.returns-clause-faultless
 returns-clause-faultless c =

@@ -2,8 +2,7 @@ use Rattle.std.proofs.Common.{◌≡◌, ◌+◌, ◌∙◌, length, ap, arith, 
 use Rattle.bn_circuits.specs.declared.config.Config.{Config}
 use Rattle.bn_netlist_laws.specs.Faults.{wires_after}
 use Rattle.bn_netlist.specs.Finishing.{finds_column}
-use Rattle.bn_netlist.proofs.FinishLemmas.{whole-AreDrawn, whole-IsConfig, counts, made_said}
-use Rattle.bn_netlist.proofs.FinishLemmas.{first_out, made_spelled}
+use Rattle.bn_netlist.proofs.FinishLemmas.{whole-AreDrawn, whole-IsConfig, counts, made_said, first_out, made_spelled}
 use Rattle.bn_netlist.proofs.PackedLemmas.{drawn_config}
 use Rattle.bn_netlist.proofs.entries.Entries.into_config.Goals as goal
 
@@ -11,8 +10,7 @@ pub from_draft-requires-clause-drawn : goal.from_draft-requires-clause-drawn
 from_draft-requires-clause-drawn g c =
     let whole = c.requires.whole in (
       wires_after 6 whole.rows,
-      whole-AreDrawn c.args.header.now whole.rows whole.whole c.args.self.ends.drawn
-          whole.holds.kept.drawn_are,
+      whole-AreDrawn c.args.header.now whole.rows whole.whole c.args.self.ends.drawn whole.holds.kept.drawn_are,
     )
 
 pub from_draft-requires-clause-good : goal.from_draft-requires-clause-good

@@ -8,8 +8,7 @@ get-requires c =
     omega (
       arith,
       c.loop-element-test.true,
-      count-bars c.self.inside.words.items c.args.self.now c.self.inside.count
-          c.self.view_is,
+      count-bars c.self.inside.words.items c.args.self.now c.self.inside.count c.self.view_is,
     )
 
 pub loop-element-preserved : goal.loop-element-preserved
@@ -25,6 +24,5 @@ returns c =
     (omega (
       arith,
       c.loop-element-test.false,
-      count-bars c.self.inside.words.items c.args.self.now c.self.inside.count
-          c.self.view_is,
+      count-bars c.self.inside.words.items c.args.self.now c.self.inside.count c.self.view_is,
     ))

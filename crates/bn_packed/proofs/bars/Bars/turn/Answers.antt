@@ -6,8 +6,7 @@ pub index_mut-requires : goal.index_mut-requires
 index_mut-requires c =
     let there : c.args.element < c.self.inside.count = omega (
       arith,
-      length-bars c.self.inside.words.items
-          c.self.inside.count,
+      length-bars c.self.inside.words.items c.self.inside.count,
       ap length c.self.view_is,
     ) in
     let within : c.word_of.result < length c.self.inside.words.items =

@@ -9,8 +9,7 @@ use Rattle.bn_packed.proofs.ends.Ends.lead.Goals as goal
 pub loop-wire-init : goal.loop-wire-init
 loop-wire-init g c = record {
   elements = refl;
-  added = added_none c.args.self.now.elements c.args.self.now
-      c.args.wires.now;
+  added = added_none c.args.self.now.elements c.args.self.now c.args.wires.now;
 }
 
 pub set-requires-clause-there : goal.set-requires-clause-there

@@ -17,6 +17,6 @@ returns c =
     c.as_slice.result.now =
     rw c.as_slice.ensures.value c.in_ok-wires.ensures.wires in
     let net : IsNetOf c.in_ok-net.net (length c.args.self.now.net.elements) c.as_slice.result.now =
-    subst (λ n. IsNetOf c.in_ok-net.net n c.as_slice.result.now) c.len.ensures.number c.in_ok-net.ensures in
+    subst (λ n. IsNetOf c.in_ok-net.net n c.as_slice.result.now) c.len.ensures.number c.in_ok-net.ensures.net in
     told_again c.args.self.now.net c.len.ensures.circuit c.in_ok-net.net c.as_slice.result.now wires
     c.requires.order c.len-2.ensures.order net

@@ -9,7 +9,7 @@ returns-clause-first c = λ t u word s inside steps f.
     let l = to_z-of_z w64 c.args.left (search rules) in
     let h = to_z-of_z w64 c.head-head.result (search rules) in
     let blank = blank_there c.letter_at.result c.is_none-is_blank.result c.args.tape.now u word c.args.left
-    c.is_none-is_blank.ensures (rw (sym l) c.letter_at.ensures) s inside
+    c.is_none-is_blank.ensures (rw (sym l) c.letter_at.ensures.letter) s inside
     in
     let m = steps_move t u c.args.left c.head-head.result c.is_none-is_blank.result steps
     (s.head ∙ sym c.head-head.ensures.value)
@@ -22,7 +22,7 @@ returns-clause-last c = λ t u word s inside steps f.
     let l = to_z-of_z w64 c.args.left (search rules) in
     let h = to_z-of_z w64 c.head-head.result (search rules) in
     let blank = blank_there c.letter_at.result c.is_none-is_blank.result c.args.tape.now u word c.args.left
-    c.is_none-is_blank.ensures (rw (sym l) c.letter_at.ensures) s inside
+    c.is_none-is_blank.ensures (rw (sym l) c.letter_at.ensures.letter) s inside
     in
     let m = steps_move t u c.args.left c.head-head.result c.is_none-is_blank.result steps
     (s.head ∙ sym c.head-head.ensures.value)

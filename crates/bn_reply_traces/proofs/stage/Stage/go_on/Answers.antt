@@ -19,6 +19,6 @@ returns c = λ t word n i same early few at.
     c.head-head.result c.letter_at.result c.is_none-is_blank.result few early at
     (subst (λ (p : Program). IsTurn p turns.Moved c.args.self.now.state c.args.self.now.tape c.step.new.state
     c.step.new.tape) (sym same) c.in-Moved.ensures) c.head-left.ensures.value c.head-head.ensures.value
-    c.is_none-is_blank.ensures (rw (sym l) c.letter_at.ensures) c.head-head.ensures.valid
+    c.is_none-is_blank.ensures (rw (sym l) c.letter_at.ensures.letter) c.head-head.ensures.valid
     (λ x y m f. c.after-self.ensures.first x y (rw (l, h) m) f)
     (λ x y m f. c.after-self.ensures.last x y (rw (l, h) m) f)

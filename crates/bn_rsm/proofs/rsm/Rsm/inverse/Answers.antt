@@ -14,8 +14,7 @@ new-requires c =
     let few : length (map turned m.moves.items) < 2 ^ 32 = omega
     (arith, length-map m.moves.items turned, c.self.invariant.few) in
     record {
-      sound = subst (AreSound m.states m.lines) (sym moves)
-          (sound-turned m.states m.lines m.moves.items m.sound);
+      sound = subst (AreSound m.states m.lines) (sym moves) (sound-turned m.states m.lines m.moves.items m.sound);
       few = subst (λ ms. length ms < 2 ^ 32) (sym moves) few;
     }
 

@@ -7,8 +7,7 @@ use Rattle.bn_session.proofs.scope.Scope.command_in.Goals as goal
 pub returns-in_default-clause-refused : goal.returns-in_default-clause-refused
 returns-in_default-clause-refused c = (
   refl,
-  unsaid c.args.line.now
-      (said_none c.args.line.now _ c.in_default.is c.sentence_in.ensures),
+  unsaid c.args.line.now (said_none c.args.line.now _ c.in_default.is c.sentence_in.ensures),
 )
 
 pub command_of-requires : goal.command_of-requires
