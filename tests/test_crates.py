@@ -3,6 +3,8 @@
 - crates.txt lists each folder of crates/ and no other, at most MOST_CRATES, and no chain of crates is longer than
   MOST_CHAIN.
 - The laws of a crate are fields of one record, or of two: no crate has more functions with an empty body.
+- The lines of src/, specs/ and proofs/ have at most 120 characters, and tools/build/columns has nothing to lay out anew.
+- No statement stands in the code for the prover alone: what a type keeps is told by the calls that are made anyway.
 - The picture in docs/develop/architecture.md has the rooms of crates.txt with their crates; `bn_reply_*` stands
   for the crates whose names begin so. A crate uses its own room and those drawn below it, and where two columns of rooms
   stand side by side, none of the other column.
@@ -15,11 +17,12 @@ import os
 import re
 
 import pytest
-from places import TOP, crates, rooms, text_of
+from places import TOP, crates, rooms, run, text_of
 
 ARCHITECTURE = "docs/develop/architecture.md"
 MOST_CHAIN = 14
 MOST_CRATES = 60
+WIDTH = 120
 PLACES = [
     "*.md",
     "docs/*.md",
@@ -124,6 +127,33 @@ def test_the_laws_of_a_crate_are_the_contracts_of_two_functions_at_most(crate):
     )
     empty = re.findall(r"^pub fn (\w+)\(\)\n(?:    [^\n]*\n)*\{(?:\s|//[^\n]*\n|\w+\(\);)*\}$", code, flags=re.M)
     assert len(empty) <= 2, f"{crate}: {', '.join(empty)}"
+
+
+@pytest.mark.parametrize("crate", crates())
+def test_the_lines_of_a_crate_are_not_wide(crate):
+    files = glob.glob(os.path.join(TOP, "crates", crate, "**", "*"), recursive=True)
+    kept = [path for path in files if path.endswith((".rt", ".antt")) and f"{os.sep}out{os.sep}" not in path]
+    wide = [
+        f"{os.path.relpath(path, TOP)}:{number}"
+        for path in sorted(kept)
+        for number, line in enumerate(text_of(path).split("\n"), 1)
+        if len(line) > WIDTH
+    ]
+    assert not wide
+
+
+def test_proofs_are_laid_out():
+    ran = run([os.path.join(TOP, "tools", "build", "columns")], path=os.environ["PATH"])
+    assert (ran.returncode, ran.stdout) == (0, "")
+
+
+@pytest.mark.parametrize("crate", crates())
+def test_no_statement_is_for_the_prover_alone(crate):
+    code = "".join(
+        text_of(path)
+        for path in sorted(glob.glob(os.path.join(TOP, "crates", crate, "src", "**", "*.rt"), recursive=True))
+    )
+    assert not re.findall(r"^ *let _(?:\w+ =| = &).*$", code, flags=re.M)
 
 
 def test_no_chain_of_crates_makes_the_first_build_slow():
