@@ -45,6 +45,11 @@ const PAGES_ABOUT = {
   elements: ["Any circuit, element by element. Type moves, and the program makes a bank of them; or a configuration " +
     "text.", "The pink ring is the signal; the pink line is the wire that it is on, the broken ones are its way. An " +
       "element that has just turned is tinted; a column on amber is marked."],
+  design: ["An editor for circuits. Drag elements onto the canvas, and drag wires from an output, which points out of its box, " +
+    "to an input, which points into it. Each input takes one wire. Click a bar to turn it, or a free input to let the signal " +
+      "enter there.",
+    "The pink ring is the signal, and the dotted wires are its path. Amber bars have turned since the start. A column has a grey " +
+      "background, a marked column an amber one. The program computes each step."],
   mirror: ["At the left a circuit, at the right its mirror: each wire turned round, east and west exchanged.",
     "The mirror is made of the circuit as it stands. Each step of the mirror takes back one of the circuit's, and " +
       "the line below says whether the bars agree."],

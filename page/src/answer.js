@@ -5,8 +5,9 @@ import {busy} from "./state.js";
 
 export const STATUS = {done: 0, usage: 2, text: 3, machine: 4, word: 5, size: 6, noMemory: 9, stuck: 10, window: 11, inside: 12};
 // Each lane has a worker of its own: for what is waited for, for what is waited for at the same time, for what is fetched
-// ahead, and for what takes long, so that a step doesn't queue behind them.
-export const LANES = {now: 0, beside: 1, ahead: 2, long: 3};
+// ahead, and for what takes long, so that a step doesn't queue behind them; and two for the circuit editor, which the workbench
+// below it doesn't stop.
+export const LANES = {now: 0, beside: 1, ahead: 2, long: 3, design: 4, verdict: 5};
 /** @type {{words: string, status: number, bytes: number, ms: number, program: number}[]} */
 export const log = [];
 const STOPPED = "stopped";
@@ -16,7 +17,7 @@ const decoder = new TextDecoder();
 /** @typedef {{worker: Worker, waiting: Map<number, (it: any) => void>, count: number, call: (message: any) => Promise<any>,
  *   ready: Promise<void>}} Bench */
 /** @type {(Bench | null)[]} */
-const benches = [null, null, null, null];
+const benches = [null, null, null, null, null, null];
 // What the page was bundled with: the module's bytes, which are unpacked meanwhile, and the worker's text.
 const given = /** @type {{module: Promise<ArrayBuffer>, worker: string}} */ ({});
 /** @type {Promise<WebAssembly.Module> | null} */

@@ -1,6 +1,7 @@
 // The page: what was typed becomes a machine, that a run, and the run is shown at one step of one time.
 import {keepAddress} from "./address.js";
 import {chips} from "./breaks.js";
+import {openDesign} from "./design/design.js";
 import {editorText} from "./editor.js";
 import {EXAMPLES} from "./examples.js";
 import {renderFilm, saySpan} from "./film.js";
@@ -58,6 +59,8 @@ function begin() {
     openWorkshop("command");
     pageOf("command").take?.(command, asked.get("i") ?? "");
   }
+  const design = asked.get("design");
+  if (design !== null) openDesign(design);
   if (lesson !== null || isFirst) openLearn(lesson || undefined, !asked.has("e"));
   if (task) {
     beginTask(task);

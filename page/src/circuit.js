@@ -47,7 +47,7 @@ function columnAbove(it, bottom) {
   if (!rows.length || !same(targetOf(it, {element: bottom, side: "n"}), {element: above, side: "s"})) return null;
   return {rows, bottom, elements: [...rows, bottom]};
 }
-const columnsOf = it => it.bars.map((_, element) => columnAbove(it, element)).filter(column => column);
+export const columnsOf = it => it.bars.map((_, element) => columnAbove(it, element)).filter(column => column);
 
 function nextColumn(it, column, columnOf) {
   const following = new Set();
@@ -60,7 +60,7 @@ function nextColumn(it, column, columnOf) {
   }
   return following.size === 1 ? columnOf.get([...following][0]) : null;
 }
-function banksOf(it, columns) {
+export function banksOf(it, columns) {
   const columnOf = new Map(columns.flatMap(column => column.rows.map(row => [row, column])));
   const following = new Map(), fed = new Set();
   for (const column of columns) {

@@ -1,5 +1,5 @@
 // The circuits to begin with, what the program makes of what is typed, and what is wrong with that in words.
-import {answer, STATUS} from "./answer.js";
+import {answer, LANES, STATUS} from "./answer.js";
 
 export const CIRCUITS = [
   {title: "A bank of two moves", about: "Two states, two lines. The marked column is the state.",
@@ -31,15 +31,15 @@ const SAYINGS = {
 
 export const isConfiguration = given => /^\s*rotary/.test(given);
 // A configuration text as it is, or the text of the bank of a table of moves.
-export const circuitText = (given, state = "1", line = "1") =>
-  answer(isConfiguration(given) ? ["step", "0"] : ["realise", state, line], given);
+export const circuitText = (given, state = "1", line = "1", lane = LANES.now) =>
+  answer(isConfiguration(given) ? ["step", "0"] : ["realise", state, line], given, {lane});
 
 // What the program refused, in words; nothing where it refused nothing.
 export function circuitFault({status, text, words}) {
   if (words) return words;
   if (status === STATUS.done) return "";
-  const line = /^text: (board \d+ )?line (\d+) (.*)$/.exec(text),
-    record = /^text: record (\d+) (?:field (\d) )?(.*)$/.exec(text);
+  const line = /^text: (board \d+ )?line (\d+) (.*)$/m.exec(text),
+    record = /^text: record (\d+) (?:field (\d) )?(.*)$/m.exec(text);
   const pair = /^machine: (domain|range) (\d+) (\d+)/.exec(text),
     schedule = /^text: schedule line (\d+) (form|board)/.exec(text);
   if (line) {

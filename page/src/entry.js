@@ -8,6 +8,7 @@ import "./style.css";
 import "./pictures.css";
 import "./dialogs.css";
 import "./learn.css";
+import "./design.css";
 import "./print.css";
 
 const stream = new Blob([packed]).stream().pipeThrough(new DecompressionStream("deflate"));

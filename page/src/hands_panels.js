@@ -1,6 +1,7 @@
 // What opens beside the panels: what they are about, their texts, the dialogs of the page's head, a link to what is
 // seen and a picture of it.
 import {openAbout} from "./about.js";
+import {openDesign} from "./design/design.js";
 import {openHelp, openWindow} from "./dialogs.js";
 import {takeLecture} from "./lecture.js";
 import {linkOf} from "./links.js";
@@ -24,6 +25,7 @@ export function onPanels() {
   byId("skip").onclick = () => byId("play").focus();
   takeLecture();
   byId("tasks").onclick = openTasks;
+  byId("opendesign").onclick = () => { pause(); openDesign(); };
   byId("openworkshop").onclick = () => { pause(); openWorkshop(); };
   byId("share").onclick = share;
   byId("picture").onclick = savePicture;

@@ -148,10 +148,10 @@ interface Judged {
 
 /** A call of the program, as it is handed out to copy, with what its input is. */
 interface Call { words: string[]; input: string | null; what: string }
-/** A page of the workshop: how it is made, and what is done as it comes and goes. */
+/** A page of the workshop: how it is made, and what is done as it comes and goes; which pictures are saved, where that aren't all. */
 interface WorkshopPage {
   key: string; title: string; make(box: HTMLElement): void; open(): void; close(): void; calls(): Call[];
-  keys: Record<string, () => any>; take?: (text: any, start?: any) => any;
+  keys: Record<string, () => any>; pictures?: string; take?: (text: any, start?: any) => any;
 }
 /** What is said of what was filled in, and what the program answered, which is shown where it gives nothing away. */
 interface Judgement { isRight: boolean | null; words: string; told: string }
@@ -206,4 +206,5 @@ interface Array<T> {
   findLastIndex(holds: (it: T, at: number) => any): number;
 }
 interface Float64Array { findLast(holds: (it: number, at: number) => any): number | undefined }
+declare class CompressionStream { constructor(format: string); readable: any; writable: any }
 declare class DecompressionStream { constructor(format: string); readable: any; writable: any }

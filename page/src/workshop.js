@@ -2,6 +2,7 @@
 // says how it is made, and what is done as it comes and goes.
 import {openAboutPage} from "./about.js";
 import {commandPage} from "./command.js";
+import {designPage} from "./design/design.js";
 import {elementsPage} from "./elements.js";
 import {erasePage} from "./erase.js";
 import {farmPage} from "./farm.js";
@@ -14,7 +15,7 @@ import {byId, partOf} from "./state.js";
 import {markTab, takeTabs} from "./tabs.js";
 
 /** @type {WorkshopPage[]} */
-const PAGES = [elementsPage, mirrorPage, farmPage, erasePage, reversiblePage, planPage, commandPage];
+const PAGES = [elementsPage, designPage, mirrorPage, farmPage, erasePage, reversiblePage, planPage, commandPage];
 // The box is there once the workshop was opened, and the page that is shown.
 const workshop = /** @type {{box: HTMLDialogElement, page: WorkshopPage, made: Set<WorkshopPage>}} */ ({made: new Set()});
 const part = id => partOf(workshop.box, id);
@@ -39,7 +40,7 @@ function makeWorkshop() {
   takeTabs(workshop.box, it => choosePage(pageOf(it.dataset.page ?? "")));
   part("e-close").onclick = () => workshop.box.close();
   part("e-picture").onclick = () => openPicture(`Hithwelor · ${workshop.page.title}`, [
-    {key: workshop.page.key, title: workshop.page.title.toLowerCase(), pictures: `#page-${workshop.page.key} svg`, texts: ""},
+    {key: workshop.page.key, title: workshop.page.title.toLowerCase(), pictures: workshop.page.pictures ?? `#page-${workshop.page.key} svg`, texts: ""},
   ]);
   part("e-texts").onclick = () => openSaid(workshop.page.title.toLowerCase(), workshop.page.calls());
   part("e-about-page").onclick = () => openAboutPage(workshop.page);

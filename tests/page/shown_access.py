@@ -136,6 +136,28 @@ SCENES = [
     ("reversible", "#m=least", "bench.openWorkshop('reversible')"),
     ("floor plan", "#m=least", "bench.openWorkshop('plan')"),
     ("a command", "#m=least", "bench.openWorkshop('command')"),
+    (
+        "design",
+        "#design",
+        "document.getElementById('g-clear').click(); document.querySelector('[data-begin=column]').click()",
+    ),
+    (
+        "design, a machine",
+        "#design",
+        "document.getElementById('g-clear').click(); document.querySelector('[data-begin=toggle]').click(); "
+        "document.getElementById('g-tab-machine').click(); document.getElementById('g-find').click()",
+    ),
+    (
+        "design, a puzzle",
+        "#design",
+        "document.querySelector('[data-puzzle=counter]').click(); document.getElementById('g-tab-puzzles').click(); "
+        "document.getElementById('g-hint').click(); document.getElementById('g-show').click(); document.getElementById('g-tab-text').click()",
+    ),
+    (
+        "design, a list",
+        "#design",
+        "document.getElementById('g-tab-list').click(); document.getElementById('g-step').click()",
+    ),
 ]
 
 
@@ -235,6 +257,8 @@ def check_keyboard(page, count):
             "two pasts",
             "a row",
             "a bank",
+            "design",
+            "design, a machine",
         ):
             continue
         scene(page, fragment, act)

@@ -1,5 +1,5 @@
-"""The page in Firefox: answers byte for byte, drawn places of some machines, a way there and back, a run that is stopped, and
-its layout."""
+"""The page in Firefox: answers byte for byte, drawn places of some machines, a way there and back, a run that is stopped,
+its layout, and the circuit editor."""
 import json
 import os
 import time
@@ -65,6 +65,31 @@ def check_new(page, count):
         count.hold(comes(page, f"bench.state.e !== {e}"), f"Firefox: the lesson's {step} isn't gone on with")
 
 
+def check_drawn(page, program, count):
+    """In the circuit editor a column is put there, stepped, and found again by its link; its table is found."""
+    text = "document.getElementById('g-text').value"
+    page.visit(f"file://{PAGE}#design")
+    page.ask("(document.getElementById('g-clear').click(), document.querySelector('[data-begin=column]').click(), 0)")
+    given = page.ask(text)
+    count.hold(program.text(["step", "0"], given) == given, f"Firefox: a column is the text {given!r}")
+    for k in range(1, 4):
+        page.ask("document.getElementById('g-step').click(), 0")
+        right = program.text(["step", str(k)], given)
+        count.hold(
+            comes(page, f"{text} === {json.dumps(right)}"), f"Firefox: the editor's step {k} is {page.ask(text)!r}"
+        )
+    page.ask("(document.getElementById('g-tab-machine').click(), document.getElementById('g-find').click(), 0)")
+    found = "document.getElementById('g-found').textContent"
+    count.hold(
+        comes(page, f"{found}.startsWith('Complete: ')"), f"Firefox: of a column it finds {page.ask(found)!r}"
+    )
+    page.ask("document.getElementById('g-link').click(), 0")
+    comes(page, "location.hash.startsWith('#design=')")
+    page.visit(f"file://{PAGE}{page.ask('location.hash')}")
+    count.hold(comes(page, f"{text} === {json.dumps(right)}"), f"Firefox: by its link comes {page.ask(text)!r}")
+    count.hold(not page.faults(), f"Firefox: the editor has faults {page.faults()}")
+
+
 def check_firefox(program, answers, draw, places, pictures, count):
     """All of it, in the Firefox that is at hand."""
     began = time.monotonic()
@@ -83,6 +108,7 @@ def check_firefox(program, answers, draw, places, pictures, count):
         count.hold(e == 0, f"Firefox: five quadruples there and back lead to step {e}")
         check_stopped(page, program, count, "Firefox, ")
         check_new(page, count)
+        check_drawn(page, program, count)
         for width, height in ((1300, 900), (520, 900)):
             page.resize(width, height)
             page.visit(f"file://{PAGE}#m=increment&e=700000")

@@ -13,7 +13,7 @@
 - In a headless Chromium without a network, from the file: answers to words and inputs, byte for byte; what stands in the
   page at drawn steps of many machines, with what `view` and `step` give there: tapes, place, module, stage and every bar
   of the module; the quadruple that is marked; the texts that it hands out to copy; the window, with that of `run =W auto`;
-  the pages of its workshop; what it says to answers of the exercises, which are those of docs/learn/exercises.md; the panels in
+  the pages of its workshop; the circuit editor, by the mouse and by the keyboard alone; what it says to answers of the exercises, which are those of docs/learn/exercises.md; the panels in
   words; hints, a still and paper; contrast in both schemes, names and roles, the keyboard alone, less motion; a way there
   and back; an endless run is stopped. The machine as it is changed, in its table and in its diagram, and taken back; what
   accepts and what many words are answered with; what is heard; four widths; answers that are cut off.
@@ -42,6 +42,7 @@ from counting import TOP, Count, text_of
 from firefox import firefox_at_hand
 from shown import PAGE, SHIPPED, Program, Shown, comes
 from shown_access import check_access
+from shown_design import check_design
 from shown_early import check_early
 from shown_editor import check_editor
 from shown_faults import check_faults
@@ -294,6 +295,7 @@ def parts_of(program, asked, count):
         "long": lambda page: check_long(page, program, random.Random(asked.seed), count),
         "places": lambda page: check_places(page, program, random.Random(asked.seed), asked.places, count),
         "editor": lambda page: check_editor(page, program, asked.seed, count),
+        "design": lambda page: check_design(page, program, asked.seed, count),
         "glance": lambda page: check_glance(page, program, count),
         "learn": lambda page: check_learn(page, asked.pictures, count),
         "pasted": lambda page: check_pasted(page, program, count),

@@ -1,0 +1,18 @@
+// A configuration text that the program has judged, as a drawing without places; of either version.
+import {readCircuit, readPlace} from "../texts.js";
+
+/** @type {(text: string, at?: number[][]) => Drawing} */
+export function drawingOf(text, at = []) {
+  const circuit = readCircuit(text), head = text.split("\n", 6).map(line => line.split(" "));
+  return {
+    bars: [...circuit.bars].map(bar => bar ? "H" : "V"), targets: [...circuit.targets], at,
+    start: readPlace(head[2][1]), end: readPlace(head[3][1]), steps: head[4][1], hasLeft: head[5][0] === "left",
+    place: readPlace(head[5][1]),
+  };
+}
+// The same circuit in another configuration: bars, signal and steps of a text.
+/** @type {(it: Drawing, text: string) => Drawing} */
+export function stepped(it, text) {
+  const other = drawingOf(text);
+  return {...it, bars: other.bars, place: other.place, hasLeft: other.hasLeft, steps: other.steps};
+}

@@ -1,0 +1,82 @@
+// A drawing as it is kept: its configuration text, which says nothing of places, and beside it where its elements stand.
+// As a file it is JSON that can be read, in a link it is deflated, and the browser keeps the last one where it keeps anything.
+import {textOf} from "./drawing.js";
+
+const FORM = "hithwelor design 1", KEPT_AS = "hithwelor design", SOLVED_AS = "hithwelor puzzles";
+const MOST_LINK = 400000;
+
+/** @type {(it: Drawing) => string} */
+export const fileOf = it => `${JSON.stringify({form: FORM, text: textOf(it), places: it.at}, null, 1).replace(/\n\s+(?=[-\d\]])/g, "")}\n`;
+// What stands in a file: its text, and the places where each element has one. A file that is a configuration text has none.
+/** @type {(given: string) => {text: string, places: number[][]}} */
+export function readFile(given) {
+  try {
+    const it = JSON.parse(given);
+    return {text: String(it.text ?? ""), places: placesIn(it.places)};
+  } catch {
+    return {text: given, places: []};
+  }
+}
+/** @type {(given: any) => number[][]} */
+function placesIn(given) {
+  /** @type {(it: any) => boolean} */
+  const isPlace = it => Array.isArray(it) && it.length === 2 && it.every(one => Number.isInteger(one) && Math.abs(one) < 1e5);
+  return Array.isArray(given) && given.every(isPlace) ? given : [];
+}
+
+// ---- in a link
+
+/** @type {(bytes: Uint8Array, through: any) => Promise<Uint8Array>} */
+const passed = async (bytes, through) =>
+  new Uint8Array(await new Response(new Blob([/** @type {any} */ (bytes)]).stream().pipeThrough(through)).arrayBuffer());
+/** @type {(it: Drawing) => Promise<string>} */
+export async function wordOf(it) {
+  const given = new TextEncoder().encode(JSON.stringify([textOf(it), it.at.flat()]));
+  const bytes = await passed(given, new CompressionStream("deflate-raw"));
+  let binary = "";
+  for (const byte of bytes) binary += String.fromCharCode(byte);
+  return btoa(binary).replace(/\+/g, "-").replace(/\//g, "_").replace(/=+$/, "");
+}
+// What a link's word says, or null where it says nothing.
+/** @type {(word: string) => Promise<{text: string, places: number[][]} | null>} */
+export async function readWord(word) {
+  try {
+    if (word.length > MOST_LINK) return null;
+    const binary = atob(word.replace(/-/g, "+").replace(/_/g, "/"));
+    const bytes = await passed(Uint8Array.from(binary, it => it.charCodeAt(0)), new DecompressionStream("deflate-raw"));
+    const [text, flat] = JSON.parse(new TextDecoder().decode(bytes));
+    const places = Array.from({length: flat.length / 2}, (_, k) => flat.slice(2 * k, 2 * k + 2));
+    return {text: String(text), places: placesIn(places)};
+  } catch {
+    return null;
+  }
+}
+
+// ---- in the browser
+
+/** @type {(key: string, text: string) => void} */
+function keep(key, text) {
+  try { localStorage.setItem(key, text); } catch { /* where nothing is kept, a file or a link keeps it */ }
+}
+/** @type {(key: string) => string | null} */
+function keptAs(key) {
+  try { return localStorage.getItem(key); } catch { return null; }
+}
+/** @type {(it: Drawing) => void} */
+export const keepDrawing = it => keep(KEPT_AS, it.bars.length ? fileOf(it) : "");
+export function keptDrawing() {
+  const given = keptAs(KEPT_AS);
+  return given ? readFile(given) : null;
+}
+// How many elements each puzzle was solved with.
+/** @type {() => Record<string, number>} */
+export function solved() {
+  try {
+    const found = JSON.parse(keptAs(SOLVED_AS) ?? "{}");
+    return found && typeof found === "object" ? found : {};
+  } catch {
+    return {};
+  }
+}
+/** @type {(key: string, elements: number) => void} */
+export const keepSolved = (key, elements) => keep(SOLVED_AS, JSON.stringify({...solved(), [key]: Math.min(elements, solved()[key] ?? elements)}));
