@@ -10,6 +10,7 @@ export class Workbench {
   constructor(module) {
     this.module = module;
     this.room = 1 << 20;
+    this.isAsked = false;
     this.code = this.begin();
   }
 
@@ -53,6 +54,9 @@ export class Workbench {
   // The answer to words and an input, as bytes. Where the text needs more room, the call is made once more with it.
   /** @param {Uint8Array} words @param {Uint8Array} input */
   answer(words, input) {
+    // The host may have ended the last call without an exception that is caught here, as node:vm does at a timeout.
+    if (this.isAsked) this.begin();
+    this.isAsked = true;
     try {
       let answer = this.call(words, input, this.room);
       if (answer.status === FULL && answer.length > this.room) {
@@ -60,9 +64,11 @@ export class Workbench {
         answer = this.call(words, input, this.room);
       }
       if (this.memory() > KEPT_MEMORY) this.begin();
+      this.isAsked = false;
       return {status: answer.status, text: answer.text};
     } catch (fault) {
       this.begin();
+      this.isAsked = false;
       throw fault;
     }
   }

@@ -7,6 +7,7 @@ const STATUSES = {
   2: "usage", 3: "text", 4: "machine", 5: "word", 6: "size", 7: "read fault", 8: "write fault", 9: "no memory",
 };
 const DONE = 0, MACHINE = 4, NO_MEMORY = 9, STUCK = 10, WINDOW = 11, INSIDE = 12;
+const BLANK = "_";
 const MOST_STEPS = 1048576;
 const MOST_DRIVE_STEPS = 2n ** 61n;
 const coder = new TextEncoder(), decoder = new TextDecoder();
@@ -19,31 +20,36 @@ export class Refused extends Error {
   }
 }
 
-// The program was in want of memory (status 9), or its memory or its stack was at its end; the next answer begins anew.
+// The program ran out of memory (status 9), or its memory or its stack was at its end; the next answer begins anew.
 export class NoMemory extends Error {
-  constructor(why = "the program was in want of memory", options) {
+  constructor(why = "the program ran out of memory", options) {
     super(why, options);
     this.name = "NoMemory";
   }
 }
 
-function bytesOf(data, what) {
+export function bytesOf(data, what) {
   if (typeof data === "string") return coder.encode(data);
   if (data instanceof Uint8Array) return data;
   if (data instanceof ArrayBuffer) return new Uint8Array(data);
   throw new TypeError(`${what} is a string or bytes, and not ${data === null ? "null" : typeof data}`);
 }
 
-// The words as bytes with a byte 0 between them.
-function joined(words) {
+// The words, each as bytes.
+export function listed(words) {
   if (typeof words === "string" || typeof words?.[Symbol.iterator] !== "function") {
     throw new TypeError("words is a sequence of words, and not one text");
   }
-  const listed = Array.from(words, word => bytesOf(word, "a word"));
-  if (listed.some(word => word.includes(0))) throw new RangeError("a word has no byte 0");
-  const all = new Uint8Array(listed.reduce((sum, word) => sum + word.length + 1, -1 + (listed.length === 0)));
+  const list = Array.from(words, word => bytesOf(word, "a word"));
+  if (list.some(word => word.includes(0))) throw new RangeError("a word has no byte 0");
+  return list;
+}
+
+// The words as bytes with a byte 0 between them.
+function joined(words) {
+  const list = listed(words), all = new Uint8Array(list.reduce((sum, word) => sum + word.length + 1, -1 + (list.length === 0)));
   let at = 0;
-  for (const word of listed) {
+  for (const word of list) {
     all.set(word, at);
     at += word.length + 1;
   }
@@ -77,19 +83,45 @@ const tapeWords = words => {
 const behind = (text, front) => text.startsWith(front) ? text.slice(front.length) : text;
 const linesOf = text => text.split("\n").slice(0, -1);
 
+// The symbols without the blanks at both ends: joined if each has one letter, else with spaces between them.
+function wordOf(symbols) {
+  const from = symbols.findIndex(it => it !== BLANK), to = symbols.findLastIndex(it => it !== BLANK);
+  return from < 0 ? "" : symbols.slice(from, to + 1).join(symbols.every(it => it.length === 1) ? "" : " ");
+}
+
+// A tape, from the first cell that is shown to the last one. Its fields are plain values, so it can be cloned; `new Tape` of
+// a clone has the calls again.
+export class Tape {
+  constructor({number, first, head, symbols}) {
+    Object.assign(this, {number, first, head, symbols: [...symbols], word: wordOf(symbols)});
+  }
+
+  get length() {
+    return this.symbols.length;
+  }
+
+  get positions() {
+    return this.symbols.map((_, place) => this.first + place);
+  }
+
+  at(position) {
+    const symbol = this.symbols[position - this.first];
+    if (symbol === undefined) {
+      throw new RangeError(`tape ${this.number} is shown from ${this.first} to ${this.first + this.length - 1}`);
+    }
+    return symbol;
+  }
+
+  [Symbol.iterator]() {
+    return this.symbols[Symbol.iterator]();
+  }
+}
+
 function readTape(line) {
   const found = /^tape ([123]) from (-?\d+) head (-?\d+|\?):((?: \S+)*)$/.exec(line);
   if (!found) throw new Error(`${JSON.stringify(line)} isn't the line of a tape`);
-  const symbols = found[4].split(" ").slice(1), single = symbols.every(it => it.length === 1);
-  const word = single ? symbols.join("").replace(/^_+|_+$/g, "") : symbols.join(" ").replace(/^[_ ]+|[_ ]+$/g, "");
-  const first = Number(found[2]);
-  return {number: Number(found[1]), first, head: found[3] === "?" ? null : Number(found[3]), symbols, word,
-          at: place => {
-            if (place < first || place >= first + symbols.length) {
-              throw new RangeError(`tape ${found[1]} is shown from ${first} to ${first + symbols.length - 1}`);
-            }
-            return symbols[place - first];
-          }};
+  return new Tape({number: Number(found[1]), first: Number(found[2]), head: found[3] === "?" ? null : Number(found[3]),
+                   symbols: found[4].split(" ").slice(1)});
 }
 
 function readOutcome(text) {
@@ -278,8 +310,8 @@ function machineClasses(answer) {
   return {Machine, ReversibleMachine};
 }
 
-// The module: a compiled one, its bytes, a Response, or where it stands.
-async function moduleOf(source) {
+// The module: a compiled one, its bytes, a Response, or its address; without any, the module beside this file.
+export async function moduleOf(source = new URL("hithwelor.wasm", import.meta.url)) {
   if (source instanceof WebAssembly.Module) return source;
   if (source instanceof Uint8Array || source instanceof ArrayBuffer) return WebAssembly.compile(source);
   if (typeof source === "string" || source instanceof URL) {
@@ -295,7 +327,7 @@ async function moduleOf(source) {
 }
 
 // The workbench, by the module beside this file, or by the one that is given.
-export async function load({module = new URL("hithwelor.wasm", import.meta.url)} = {}) {
+export async function load({module} = {}) {
   const compiled = await moduleOf(module), bench = new Workbench(compiled);
 
   // Status and text, as bytes, of the program's answer to words and an input.

@@ -1,6 +1,7 @@
-// A worker that answers one call after another, in browsers and in node: it is sent {number, words, input} and sends
-// {number, status, text} back, or {number, fault} where an answer was cut off. `words` and `input` are as `answer` takes
-// them. A first message {module} hands over a compiled module; without it the one beside this file is loaded.
+// A worker that answers one request after another, in browsers and in Node.js: it is sent {number, words, input} and sends
+// {number, status, text} back, or {number, fault, name} if the answer was cut off. `words` and `input` are as `answer` takes
+// them; with `isBytes` the text is bytes. A first message {module} hands over a compiled module; without it the one beside
+// this file is loaded. client.mjs asks it.
 import {load} from "./hithwelor.mjs";
 
 // Bundlers leave alone what only node has.
@@ -8,16 +9,17 @@ const threads = () => import(/* @vite-ignore */ /* webpackIgnore: true */ "node:
 const port = typeof self === "undefined" ? (await threads()).parentPort : self;
 let loaded = null;
 
-async function take({module, number, words, input}) {
+async function take({module, number, words, input, isBytes = false}) {
   if (module) {
     loaded = load({module});
     return;
   }
   try {
     const bench = await (loaded ??= load());
-    port.postMessage({number, ...bench.answer(words, input)});
+    const answer = isBytes ? bench.answerBytes(words, input) : bench.answer(words, input);
+    port.postMessage({number, ...answer}, isBytes ? [answer.text.buffer] : []);
   } catch (fault) {
-    port.postMessage({number, fault: String(fault)});
+    port.postMessage({number, fault: String(fault), name: fault?.name});
   }
 }
 

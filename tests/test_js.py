@@ -21,7 +21,7 @@ from places import TOP, text_of, told_program
 JS = os.path.join(TOP, "js")
 PATIENCE = 60
 # How many tests js/test has, so that none is lost.
-LEAST_TESTS = 8
+LEAST_TESTS = 12
 ASK = """import {load} from "hithwelor";
 const {Machine} = await load();
 console.log(new Machine("S,_,_,+,T\\nT,_,_,0,F\\n").check());

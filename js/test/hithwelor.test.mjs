@@ -5,7 +5,7 @@ import fs from "node:fs";
 import test from "node:test";
 import {fileURLToPath} from "node:url";
 import {Worker} from "node:worker_threads";
-import {NoMemory, Refused, load} from "../hithwelor.mjs";
+import {NoMemory, Refused, Tape, load} from "../hithwelor.mjs";
 
 const at = path => new URL(path, import.meta.url);
 const example = name => fs.readFileSync(at(`../../examples/${name}`), "utf8");
@@ -55,6 +55,17 @@ test("views and sessions", () => {
   const session = least.session("", [0, 2, 2, 1], ["break b element 930", "go 100000", "view", "rev 100000"]);
   assert.equal(session[1], "at 930.s steps 2822 break b");
   assert.equal(session[2].place, "930.s");
+});
+
+test("tapes are iterable, and can be cloned", () => {
+  const [tape] = increment.run("1011").tapes, clone = structuredClone(tape);
+  assert.deepEqual([[...tape].join(" "), tape.length, tape.positions, tape.at(-1), tape.word],
+                   ["_ _ 1 0 1 1 _ _ _ _", 10, [-1, 0, 1, 2, 3, 4, 5, 6, 7, 8], "_", "1011"]);
+  assert.deepEqual({...clone}, {...tape});
+  assert.equal(new Tape(clone).at(1), tape.at(1));
+  assert.equal(structuredClone(increment.run("1011")).tapes[2].word, "1100");
+  const names = new Tape({number: 1, first: -2, head: 0, symbols: ["_", "_a", "_", "b_", "_"]});
+  assert.deepEqual([names.word, names.at(-1), new Tape({number: 1, first: 0, head: 0, symbols: ["_"]}).word], ["_a _ b_", "_a", ""]);
 });
 
 test("refusals", () => {

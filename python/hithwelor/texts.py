@@ -5,6 +5,7 @@ Each class keeps the program's own text as `text`; `_repr_html_` shows it in a n
 from __future__ import annotations
 
 import html
+import operator
 import re
 from collections.abc import Iterable, Iterator, Sequence
 from dataclasses import dataclass, field
@@ -21,6 +22,8 @@ STATUSES = {
     9: "no memory",
 }
 
+BLANK = "_"
+
 # A window of the three tapes: l1, r1, n, r3.
 Window = tuple[int, int, int, int]
 
@@ -31,6 +34,10 @@ class Refused(ValueError):
     def __init__(self, status: int, text: str) -> None:
         self.status, self.text = status, text
         super().__init__(f"{text.strip()} (status {status}, {STATUSES.get(status, 'unknown')})")
+
+    def __reduce__(self) -> tuple[type[Refused], tuple[int, str]]:
+        """Lets a Refused be pickled: the pools of processes hand it from a worker to the caller."""
+        return type(self), (self.status, self.text)
 
 
 def checked(status: int, text: bytes, *statuses: int) -> str:
@@ -69,18 +76,33 @@ class Tape:
 
     @property
     def word(self) -> str:
-        """The symbols without the blanks at both ends."""
-        return (
-            "".join(self.symbols).strip("_")
-            if all(len(it) == 1 for it in self.symbols)
-            else " ".join(self.symbols).strip("_ ")
-        )
+        """The symbols without the blanks at both ends: joined if each has one letter, else with spaces between them."""
+        shown = [place for place, symbol in enumerate(self.symbols) if symbol != BLANK]
+        inside = self.symbols[shown[0] : shown[-1] + 1] if shown else ()
+        return ("" if all(len(it) == 1 for it in self.symbols) else " ").join(inside)
+
+    @property
+    def positions(self) -> range:
+        """The positions of the cells that are shown, in the order in which a loop over the tape gives their symbols."""
+        return range(self.first, self.first + len(self.symbols))
+
+    def __len__(self) -> int:
+        """How many cells are shown."""
+        return len(self.symbols)
+
+    def __iter__(self) -> Iterator[str]:
+        """The symbols from the first cell that is shown to the last one."""
+        return iter(self.symbols)
+
+    def __reversed__(self) -> Iterator[str]:
+        return reversed(self.symbols)
 
     def __getitem__(self, position: int) -> str:
-        """The symbol at a position; beyond the cells that are shown that is an IndexError."""
-        if not self.first <= position < self.first + len(self.symbols):
-            raise IndexError(f"tape {self.number} is shown from {self.first} to {self.first + len(self.symbols) - 1}")
-        return self.symbols[position - self.first]
+        """The symbol at a position, which may be negative; beyond the cells that are shown that is an IndexError."""
+        place = operator.index(position) - self.first
+        if not 0 <= place < len(self.symbols):
+            raise IndexError(f"tape {self.number} is shown from {self.first} to {self.positions[-1]}")
+        return self.symbols[place]
 
     def _row(self) -> str:
         cells = []
@@ -89,7 +111,7 @@ class Tape:
             if place == self.head:
                 style += ";border:3px solid #c33"
             cells.append(
-                f'<td style="{style}" title="cell {place}">{"&middot;" if symbol == "_" else html.escape(symbol)}</td>'
+                f'<td style="{style}" title="cell {place}">{"&middot;" if symbol == BLANK else html.escape(symbol)}</td>'
             )
         return f'<tr><th style="text-align:left;padding-right:8px">{self.NAMES[self.number]}</th>{"".join(cells)}</tr>'
 

@@ -6,7 +6,6 @@ import contextlib
 import os
 import select
 import signal
-import struct
 import subprocess
 import sys
 import threading
@@ -14,6 +13,7 @@ import time
 from typing import IO, NoReturn
 
 from .. import answers
+from ..engine import HEAD, MOST_NUMBER, piped, write_all
 
 LOOK = 0.3
 PACKAGES = os.path.dirname(answers.HERE)
@@ -44,7 +44,7 @@ class Limited:
 
     def __init__(self) -> None:
         self.child: subprocess.Popen[bytes] | None = None
-        self.seconds, self.until = 0.0, 0.0
+        self.seconds, self.until, self.number = 0.0, 0.0, 0
 
     @classmethod
     def kept(cls, seconds: float) -> Limited:
@@ -74,23 +74,24 @@ class Limited:
     def ask(self, words: bytes, data: bytes) -> tuple[int, bytes]:
         """The answer, in the time that is left of this case."""
         try:
-            self.write(struct.pack("<II", len(words), len(data)) + words + data)
-            code, length = struct.unpack("<II", self.read(8))
+            self.number = self.number + 1 & MOST_NUMBER
+            _, pipe, _ = self.pipes()
+            write_all(pipe, HEAD.pack(self.number, len(words), len(data)) + words + data)
+            answered, code, length = HEAD.unpack(self.read(HEAD.size))
+            if answered != self.number:
+                raise EOFError(f"request {self.number} has the answer of request {answered}")
             return code, self.read(length)
-        except (OSError, EOFError) as fault:
-            self.stop()
-            raise Ended from fault
+        except BaseException as fault:
+            if self.child:
+                self.stop()
+            if isinstance(fault, (OSError, EOFError)):
+                raise Ended from fault
+            raise
 
     def pipes(self) -> tuple[subprocess.Popen[bytes], IO[bytes], IO[bytes]]:
         """The process, and the two pipes to it and from it."""
         assert self.child is not None
-        return self.child, answers.piped(self.child.stdin), answers.piped(self.child.stdout)
-
-    def write(self, data: bytes) -> None:
-        _, pipe, _ = self.pipes()
-        sent = memoryview(data)
-        while sent:
-            sent = sent[pipe.write(sent) :]
+        return self.child, piped(self.child.stdin), piped(self.child.stdout)
 
     def read(self, count: int) -> bytes:
         """So many bytes from the process, or TimeUp, where it is killed."""
@@ -153,9 +154,9 @@ def serve(parent: int) -> NoReturn:
     sink.write(b".")
     sink.flush()
     while True:
-        words, data = struct.unpack("<II", exactly(source, 8))
+        number, words, data = HEAD.unpack(exactly(source, HEAD.size))
         code, text = way.answer(exactly(source, words), exactly(source, data))
-        sink.write(struct.pack("<II", code, len(text)) + text)
+        sink.write(HEAD.pack(number, code, len(text)) + text)
         sink.flush()
 
 

@@ -1,0 +1,140 @@
+// A client of worker.mjs, in browsers and in node: each request is a promise, and may be ended by an AbortSignal.
+//
+// The worker has one request at a time. Requests and answers are numbered, and a request that is aborted ends its worker:
+// no answer is left for a later request.
+import {NoMemory, bytesOf, listed, moduleOf} from "./hithwelor.mjs";
+
+const threads = () => import(/* @vite-ignore */ /* webpackIgnore: true */ "node:worker_threads");
+const decoder = new TextDecoder();
+
+async function started(module) {
+  const url = new URL("worker.mjs", import.meta.url);
+  const worker = typeof Worker === "undefined" ? new (await threads()).Worker(url) : new Worker(url, {type: "module"});
+  worker.postMessage({module});
+  return worker;
+}
+
+// Has `heard` called with each message of a worker, and `failed` where it fails or ends.
+function listen(worker, heard, failed) {
+  if (worker.on) worker.on("message", heard).on("error", failed).on("exit", () => failed(new Error("the worker has ended")));
+  else {
+    worker.onmessage = event => heard(event.data);
+    worker.onerror = event => failed(new Error(event.message));
+  }
+}
+
+export class Client {
+  #module;
+  #worker = null;
+  #queue = [];
+  #asked = null;
+  #number = 0;
+  #isClosed = false;
+
+  constructor(module) {
+    this.#module = module;
+  }
+
+  // The promise of status and text, as bytes.
+  answerBytes(words, input = "", {signal} = {}) {
+    return new Promise((done, fail) => {
+      const request = {words: listed(words), input: bytesOf(input, "the input")};
+      if (this.#isClosed) throw new Error("the client is closed");
+      if (signal?.aborted) {
+        fail(signal.reason);
+        return;
+      }
+      const abort = () => this.#aborted(request, signal.reason);
+      signal?.addEventListener("abort", abort, {once: true});
+      const settled = call => told => {
+        signal?.removeEventListener("abort", abort);
+        call(told);
+      };
+      Object.assign(request, {done: settled(done), fail: settled(fail)});
+      this.#queue.push(request);
+      this.#next();
+    });
+  }
+
+  // The promise of status and text.
+  async answer(words, input = "", options = {}) {
+    const {status, text} = await this.answerBytes(words, input, options);
+    return {status, text: decoder.decode(text)};
+  }
+
+  // Ends the worker; requests that have no answer yet fail.
+  close() {
+    this.#isClosed = true;
+    this.#end();
+    const left = [this.#asked, ...this.#queue.splice(0)].filter(Boolean);
+    this.#asked = null;
+    for (const request of left) request.fail(new Error("the client is closed"));
+  }
+
+  async #next() {
+    if (this.#asked || this.#queue.length === 0) return;
+    const request = this.#asked = this.#queue.shift();
+    const number = request.number = ++this.#number;
+    try {
+      if (!this.#worker) await this.#start();
+    } catch (fault) {
+      this.#settle(request, () => request.fail(fault));
+      return;
+    }
+    if (this.#asked === request) {
+      this.#worker.ref?.();
+      this.#worker.postMessage({number, words: request.words, input: request.input, isBytes: true});
+    } else if (!this.#asked) this.#next();
+  }
+
+  async #start() {
+    const worker = await started(this.#module);
+    if (this.#isClosed || this.#worker) {
+      worker.terminate();
+      return;
+    }
+    this.#worker = worker;
+    listen(worker, message => this.#heard(worker, message), fault => this.#failed(worker, fault));
+  }
+
+  #heard(worker, {number, status, text, fault, name}) {
+    const request = this.#asked;
+    if (worker !== this.#worker || request?.number !== number) return;
+    this.#settle(request, () => {
+      if (fault === undefined) request.done({status, text});
+      else request.fail(name === "NoMemory" ? new NoMemory(fault) : new Error(fault));
+    });
+  }
+
+  #failed(worker, fault) {
+    if (worker !== this.#worker) return;
+    this.#end();
+    const request = this.#asked;
+    if (request) this.#settle(request, () => request.fail(fault));
+  }
+
+  #aborted(request, reason) {
+    if (request === this.#asked) this.#end();
+    else this.#queue.splice(this.#queue.indexOf(request), 1);
+    this.#settle(request, () => request.fail(reason));
+  }
+
+  #settle(request, settle) {
+    if (this.#asked === request) this.#asked = null;
+    settle();
+    this.#next();
+    // A worker without a request doesn't keep node from ending.
+    if (!this.#asked) this.#worker?.unref?.();
+  }
+
+  #end() {
+    const worker = this.#worker;
+    this.#worker = null;
+    worker?.terminate();
+  }
+}
+
+// A client whose workers answer by the module beside this file, or by the one that is given.
+export async function connect({module} = {}) {
+  return new Client(await moduleOf(module));
+}
