@@ -142,7 +142,7 @@ def told_by(node, script, given):
 def reader():
     """The readers of the tools."""
     sys.path.insert(0, os.path.join(places.TOP, "tools", "lib"))
-    import machine_files
+    from hithwelor.foreign import machine_files
     from workbench_text import Fault
 
     return machine_files, Fault

@@ -57,8 +57,11 @@ def test_the_gate_runs_everything_proved_and_every_test():
     assert "rt ci" in lines and lines.index("rt ci") < lines.index("tools/setup") < tests
 
 
-@pytest.mark.parametrize("closed, status, output", [("<&-", 7, "read fault\n"), (">&-", 8, "")])
-def test_the_package_with_a_closed_input_or_output(clone, machine, any_node, python, closed, status, output):
+CLOSED = [("<&-", 7, "read fault\n", "error: standard input is closed\n"), (">&-", 8, "", "")]
+
+
+@pytest.mark.parametrize("closed, status, output, said", CLOSED)
+def test_the_package_with_a_closed_input_or_output(clone, machine, any_node, python, closed, status, output, said):
     path = machine(node=any_node, python=python)
     ran = run(
         ["bash", "-c", f"python3 -B -m hithwelor check {closed}"],
@@ -66,7 +69,7 @@ def test_the_package_with_a_closed_input_or_output(clone, machine, any_node, pyt
         cwd=os.path.join(clone, "python"),
         **({} if "<" in closed else {"input": "S,_,_,+,T\nT,_,_,0,F\n"}),
     )
-    assert (ran.returncode, ran.stdout, ran.stderr) == (status, output, "")
+    assert (ran.returncode, ran.stdout, ran.stderr) == (status, output, said)
 
 
 def test_building_the_page_tells_how_far_it_is(own_clone, machine):

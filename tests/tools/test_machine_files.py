@@ -2,7 +2,7 @@
 import os
 import unittest
 
-from machine_files import new_names, read_jflap, read_yaml, read_yaml_text, table_of
+from hithwelor.foreign.machine_files import new_names, read_jflap, read_yaml, read_yaml_text, table_of
 from workbench_text import TOP, Fault, read_file
 
 PARITY_TABLE = """even-so-far,0,0,+,even-so-far

@@ -225,3 +225,23 @@ tell_refusal() {
     esac
     say "refused$refusal, status $status: $what. See $where in $help_page"
 }
+
+# Answers an exact form for ./hithwelor and the installed command, where Python isn't there for the rest.
+answer_exactly() {
+    local engine
+    if is_current; then
+        engine=("$program")
+    elif find_fault_of_module && [ -z "$fault" ]; then
+        engine=(node "$top/bin/hithwelor")
+    else
+        say "nothing here can answer: Python 3.9 or later is missing, the proved program isn't built, and $fault"
+        exit 1
+    fi
+    "${engine[@]}" "$@" </dev/null >/dev/null 2>&1
+    if [ "$?" = 2 ]; then
+        say "without Python 3.9 or later only the exact forms of docs/use/formats.md are answered, as run =1011 auto < FILE"
+        asks_for_help "$@" && exit 0
+        exit 2
+    fi
+    exec "${engine[@]}" "$@"
+}

@@ -14,6 +14,7 @@ from dataclasses import dataclass
 from repository import TOP
 
 sys.path.append(os.path.join(TOP, "python"))
+from hithwelor.faults import Fault
 from hithwelor.texts import Tape, View
 
 WORKBENCH = os.path.join(TOP, "workbench")
@@ -24,10 +25,6 @@ GREATEST_WINDOW = 1048576
 # The word in place of a window's numbers, and the statuses of a run in the window that is found: halted, and stuck.
 AUTO = "auto"
 ENDED = (0, 10)
-
-
-class Fault(Exception):
-    """What is wrong and where, as one line."""
 
 
 def guarded(main):

@@ -4,13 +4,16 @@ All have one tape; the first three start on the first letter of the word, as a t
 reader gives the machine's rules as they stand in the file; `table_of` makes of them such a table. page/src/formats.js is the
 same for the page, and tests/test_import.py compares both on every file of tests/machines.
 """
-import re
+from __future__ import annotations
 
-from jflap_files import read_jflap
-from line_machines import is_line, is_morphett, read_line, read_morphett
-from machine_rules import NONE, SHIFTS, Machine, Rule, shown
-from workbench_text import Fault
-from yaml_text import Entry, pairs_of, read_yaml_text
+import re
+from collections.abc import Iterable
+
+from ..faults import Fault
+from .jflap_files import read_jflap
+from .line_machines import is_line, is_morphett, read_line, read_morphett
+from .machine_rules import NONE, SHIFTS, Machine, Rule, shown
+from .yaml_text import Entry, pairs_of, read_yaml_text
 
 LONGEST_NAME = 32
 SOURCE = "source code"
@@ -19,7 +22,7 @@ SOURCE = "source code"
 # Which of the four
 
 
-def kind_of(text):
+def kind_of(text: str) -> str | None:
     """Of which program a text is: jflap, line, morphett or yaml; None where it is of none."""
     bare = text.removeprefix("\ufeff").lstrip(" \t\r\n")
     if bare.startswith("<"):
@@ -41,7 +44,7 @@ def is_table(text):
     return bool(lines) and all(len(line.split(",")) == 5 for line in lines)
 
 
-def read_machine(text, where, kind=None):
+def read_machine(text: str, where: str, kind: str | None = None) -> Machine:
     """The machine of a text of one of the four programs."""
     kind = kind or kind_of(text)
     if kind is None:
@@ -229,7 +232,7 @@ def ordered(rules, start, halting, where):
     return [rule for rule in first + others if rule is not last] + [last]
 
 
-def new_names(states):
+def new_names(states: Iterable[str]) -> dict[str, str]:
     """A name that tables allow for each state, and no two alike."""
     names, taken = {}, set()
     for state in states:
@@ -244,7 +247,7 @@ def new_names(states):
     return names
 
 
-def table_of(machine, where, wanted=None):
+def table_of(machine: Machine, where: str, wanted: str | None = None) -> tuple[str, dict[str, str]]:
     """The table's text, and the new names of states by their old ones."""
     halting = halting_state(machine, wanted, where)
     check_domains(machine.rules)

@@ -3,11 +3,13 @@
 One tape, single states, and rules that name their symbols: what goes beyond that is refused by its name.
 page/src/jflap.js is the same reader.
 """
+from __future__ import annotations
+
 import re
 import xml.etree.ElementTree as ElementTree
 
-from machine_rules import NONE, SHIFTS, Machine, Rule
-from workbench_text import Fault
+from ..faults import Fault
+from .machine_rules import NONE, SHIFTS, Machine, Rule
 
 # How the blank is written, besides by nothing.
 BLANKS = ["", "\u25a1"]

@@ -2,10 +2,12 @@
 
 page/src/lines.js is the same reader.
 """
+from __future__ import annotations
+
 import re
 
-from machine_rules import Machine, Rule
-from workbench_text import Fault
+from ..faults import Fault
+from .machine_rules import Machine, Rule
 
 MOVES = {"r": "+", "l": "-", "*": "0"}
 ANY = "*"

@@ -5,10 +5,12 @@ lists and mappings, which may go on over several lines; a key behind `?`; a text
 before it. No block lists, no anchors, no plain words over several lines, no tags. All values are text.
 page/src/yaml.js is the same reader.
 """
+from __future__ import annotations
+
 import re
 from dataclasses import dataclass
 
-from workbench_text import Fault
+from ..faults import Fault
 
 # What stands behind a backslash in a word in double quotes.
 ESCAPES = {
