@@ -39,3 +39,7 @@ class Beside(BuildHookInterface):
         if what == "library":
             build_data["tag"] = "py3-none-" + (os.environ.get("HITHWELOR_PLATFORM") or platform_of(path))
             build_data["pure_python"] = False
+
+    def finalize(self, version, build_data, artifact_path):
+        """Lets everybody read the wheel: hatchling writes it as a file of its user alone."""
+        os.chmod(artifact_path, 0o644)

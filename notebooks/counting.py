@@ -3,8 +3,8 @@
 #
 # How do steps and elements grow: with the word, with the states, with the window? Each number is one of the proved program. The cells gather them, draw them, and look for the power that comes nearest. Before each picture, guess.
 # %%
-import hithwelor
 import pictures
+import hithwelor
 
 # Sorts 0s before 1s: it finds a 1 with a 0 behind it, exchanges the two, and begins again there.
 sort = hithwelor.Machine("""S,_,_,+,Scan

@@ -3,8 +3,8 @@
 #
 # You need to know what a Turing machine is, and nothing else. Run the cells one after another. **Your turn** marks what you do by yourself. Each answer is one of the proved program, by the package `hithwelor`; the cells make no step of their own.
 # %%
-import hithwelor
 import pictures
+import hithwelor
 
 
 def ask(*words, on):

@@ -3,10 +3,11 @@
 
     notebooks/make.py [--to DIR] [NAME..]
 
-A text has its cells behind lines `# %%`, those with words behind `# %% [markdown]`. No network is needed, and of other
-packages nbclient with what it brings, and ipykernel: Debian's python3-nbclient and python3-ipykernel.
+A text has its cells behind lines `# %%`, those with words behind `# %% [markdown]`. No network is needed. The packages
+nbclient and ipykernel are: Debian's python3-nbclient and python3-ipykernel, or `pip install nbclient ipykernel`.
 """
 import argparse
+import importlib.util
 import os
 import re
 import sys
@@ -40,13 +41,24 @@ def made(name):
     return book
 
 
-def main():
-    import nbformat
+def lacking():
+    """What to install, or nothing."""
+    names = [it for it in ("nbformat", "nbclient", "ipykernel") if not importlib.util.find_spec(it)]
+    return (
+        names
+        and f"{sys.executable} lacks {', '.join(names)}: apt install python3-nbclient python3-ipykernel, or pip install nbclient ipykernel"
+    )
 
+
+def main():
     parser = argparse.ArgumentParser(description=__doc__, formatter_class=argparse.RawDescriptionHelpFormatter)
     parser.add_argument("names", nargs="*", metavar="NAME", default=NAMES)
     parser.add_argument("--to", default=HERE, metavar="DIR")
     options = parser.parse_args()
+    if lacking():
+        sys.exit(f"notebooks/make.py: {lacking()}")
+    import nbformat
+
     for name in options.names:
         path = os.path.join(options.to, f"{name}.ipynb")
         nbformat.write(made(name), path)

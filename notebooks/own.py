@@ -3,8 +3,8 @@
 #
 # Its reversible machine, its circuit, its mirror. The sheet stands for a machine that turns a number in binary into Gray's code. Put your own table in the first cell and run all cells: nothing below names this machine, but for the machine that undoes it, in section 6.
 # %%
-import hithwelor
 import pictures
+import hithwelor
 
 own = hithwelor.Machine("""P0,0,0,+,P0
 P0,1,1,+,P1

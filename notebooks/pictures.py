@@ -1,9 +1,20 @@
 """Pictures for the lab sheets, as SVG: an element, the moments of a trace, the hill of the history, points with a fit.
 
 They draw what the program printed and compute no step. Nothing but Python is needed. A notebook shows a Picture.
+
+In a clone of the repository importing this module puts the package hithwelor on the path, unless one is installed.
 """
 import html
+import importlib.util
 import math
+import os
+import sys
+
+PACKAGES = os.path.join(os.path.dirname(os.path.dirname(os.path.abspath(__file__))), "python")
+if not importlib.util.find_spec("hithwelor"):
+    if not os.path.isdir(os.path.join(PACKAGES, "hithwelor")):
+        raise ImportError("the package hithwelor is missing: install its wheel by pip, or open the sheet in a clone")
+    sys.path.append(PACKAGES)
 
 BLUE, RED, GREY, INKS = "#2c6da3", "#c0392b", "#999", ["#2c6da3", "#c0392b", "#3a7d44", "#8a5a00"]
 MARGIN, WIDTH, HEIGHT = 56, 520, 300

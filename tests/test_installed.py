@@ -6,19 +6,18 @@ import re
 import places
 import pytest
 from places import RUN, RUN_ANSWER, run
+from version import version
 
 INSTALL = os.path.join(places.TOP, "tools", "install")
 COMPLETIONS = ("share/zsh/site-functions/_hithwelor", "share/fish/vendor_completions.d/hithwelor.fish")
 
 
-def told_version():
-    return re.search(r"^## (\d+\.\d+\.\d+) \((\S+)\)", places.text_of("CHANGELOG.md"), flags=re.M).groups()
-
-
 def test_the_version_and_its_date_are_told_alike():
-    citation = places.text_of("CITATION.cff")
-    told = [re.search(rf"^{name}: (\S+)", citation, flags=re.M)[1] for name in ("version", "date-released")]
-    assert tuple(told) == told_version()
+    """A release has a date, and a state between two releases has none."""
+    citation, changes = places.text_of("CITATION.cff"), places.text_of("CHANGELOG.md")
+    assert re.search(r"^version: (\S+)", citation, flags=re.M)[1] == version()
+    date = re.search(rf"^## {re.escape(version())} \((\S+)\)", changes, flags=re.M)
+    assert re.findall(r"^date-released: (\S+)", citation, flags=re.M) == ([date[1]] if date else [])
 
 
 @pytest.fixture(scope="module")
@@ -66,7 +65,7 @@ def test_words_without_a_form(prefix, path):
 
 
 def test_it_tells_its_version_and_its_forms(prefix, path):
-    assert called(prefix, path, "--version").stdout == f"hithwelor {told_version()[0]}\n"
+    assert called(prefix, path, "--version").stdout == f"hithwelor {version()}\n"
     ran = called(prefix, path, "--help")
     assert ran.returncode == 0 and "run =W auto" in ran.stderr
 

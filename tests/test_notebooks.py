@@ -5,6 +5,7 @@ Each is run twice: its code cells in order by a fresh Python that can open no so
 """
 import json
 import os
+import shutil
 import subprocess
 import sys
 
@@ -84,7 +85,7 @@ def test_a_notebook_has_pictures_and_its_turns_have_answers(name):
 @pytest.mark.parametrize("name", make.NAMES)
 def test_its_cells_run_in_a_fresh_python_without_a_network(name, answering):
     cells = code_of(book_of(name))
-    env = {**os.environ, "PYTHONPATH": os.path.join(places.TOP, "python")}
+    env = {name: what for name, what in os.environ.items() if name != "PYTHONPATH"}
     sources = json.dumps([joined(cell["source"]) for cell in cells])
     ran = subprocess.run(
         [sys.executable, "-B", "-c", PLAIN], input=sources, cwd=FOLDER, env=env, capture_output=True, text=True
@@ -93,11 +94,23 @@ def test_its_cells_run_in_a_fresh_python_without_a_network(name, answering):
     assert json.loads(ran.stdout) == shown_by(cells)
 
 
+def test_what_is_missing_is_named(tmp_path):
+    """Where neither the package nor Jupyter's packages are here."""
+    shutil.copy(os.path.join(FOLDER, "pictures.py"), tmp_path)
+    told = lambda *words, **more: subprocess.run(
+        [sys.executable, "-I", "-B", *words], capture_output=True, text=True, **more
+    ).stderr
+    alone = "import sys; sys.path.insert(0, sys.argv[1]); import pictures"
+    assert "ImportError: the package hithwelor is missing: install its wheel" in told("-c", alone, tmp_path)
+    bare = f"import importlib.util as it, runpy, sys; it.find_spec = lambda *_: None; sys.argv = ['make.py']; runpy.run_path({os.path.join(FOLDER, 'make.py')!r}, run_name='__main__')"
+    assert "pip install nbclient ipykernel" in told("-c", bare)
+
+
 @pytest.mark.engine
 @pytest.mark.parametrize("name", make.NAMES)
 def test_it_runs_as_jupyter_runs_it(name, answering, monkeypatch):
     pytest.importorskip("nbclient", reason="python3-nbclient isn't installed: tools/setup")
     pytest.importorskip("ipykernel", reason="python3-ipykernel isn't installed: tools/setup")
-    monkeypatch.setenv("PYTHONPATH", os.path.join(places.TOP, "python"))
+    monkeypatch.delenv("PYTHONPATH", raising=False)
     monkeypatch.setenv("PYTHONDONTWRITEBYTECODE", "1")
     assert shown_by(code_of(make.made(name))) == shown_by(code_of(book_of(name)))

@@ -7,12 +7,13 @@ import re
 import places
 import pytest
 from places import text_of
+from version import version
 
 BODIES = "docs/trust/wrong-bodies.md"
 # Where the version is told again.
 VERSIONS = {
-    "docs/use/workbench.1": r'^\.TH WORKBENCH 1 "[\d-]+" "Hithwelor ([\d.]+)"',
-    "CITATION.cff": r'^version: "?([\d.]+)"?$',
+    "docs/use/workbench.1": r'^\.TH WORKBENCH 1 "[\d-]+" "Hithwelor ([\w.]+)"',
+    "CITATION.cff": r'^version: "?([\w.]+)"?$',
 }
 # The pages that are made and not committed: the head, and how often at least a pattern stands there.
 MADE = {
@@ -101,8 +102,16 @@ def test_the_calls_of_the_crates_are_told_in_full():
 
 @pytest.mark.parametrize("path", VERSIONS)
 def test_the_version_is_told_alike(path):
-    version = re.search(r"^## (\d+\.\d+\.\d+) ", text_of("CHANGELOG.md"), flags=re.M)[1]
-    assert set(re.findall(VERSIONS[path], text_of(path), flags=re.M)) == {version}
+    assert set(re.findall(VERSIONS[path], text_of(path), flags=re.M)) == {version()}
+
+
+def test_a_state_between_two_releases_is_a_later_version_than_the_last_one():
+    """So pip and npm take a build of it for an upgrade."""
+    number = lambda told: [int(it) for it in re.findall(r"\d+", told)[:3]]
+    last = re.search(r"^## (\d+\.\d+\.\d+) ", text_of("CHANGELOG.md"), flags=re.M)[1]
+    is_between = "\n## Unreleased\n" in text_of("CHANGELOG.md")
+    assert (".dev" in version()) == is_between
+    assert number(version()) > number(last) if is_between else version() == last
 
 
 def rows_of_bodies():

@@ -13,6 +13,7 @@ import zipfile
 
 import places
 import pytest
+from version import version
 
 pytestmark = pytest.mark.slow
 TOP = os.path.dirname(os.path.dirname(os.path.abspath(__file__)))
@@ -33,6 +34,7 @@ try:
     machine.run("x")
 except hithwelor.Refused as refused:
     assert refused.status == 5
+assert hithwelor.__version__ == hithwelor.version()
 print(hithwelor.version(), type(hithwelor.way()).__name__)
 """
 ASK = """import {load} from "hithwelor";
@@ -157,7 +159,7 @@ def test_all_modules_are_in_the_wheels(released):
 
 
 def test_the_archive_of_sources_makes_the_same_wheel(released, tmp_path):
-    with tarfile.open(only(released, "hithwelor-*+dev.tar.gz")) as file:
+    with tarfile.open(only(released, f"hithwelor-{version()}{'' if '.dev' in version() else '+dev'}.tar.gz")) as file:
         file.extractall(tmp_path)
     (source,) = tmp_path.iterdir()
     builders = [
@@ -180,6 +182,7 @@ def test_the_archive_of_sources_makes_the_same_wheel(released, tmp_path):
     made = run(words, env={**os.environ, "SOURCE_DATE_EPOCH": moment})
     assert made.returncode == 0, made.stdout
     wheel = only(tmp_path, "*.whl")
+    assert wheel.stat().st_mode & 0o777 == 0o644
     assert wheel.read_bytes() == (released / wheel.name).read_bytes()
 
 

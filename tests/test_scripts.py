@@ -51,6 +51,11 @@ def test_the_gate_names_a_first_look_where_it_can_run(clone, machine, any_node, 
         assert ran.stderr.rstrip().endswith("check/quick needs no rt, but Python 3.9 or later and node 18 or later")
 
 
+def test_the_first_look_shows_its_help():
+    ran = run([sys.executable, os.path.join(places.TOP, "check", "quick"), "--help"], seconds=20)
+    assert (ran.returncode, ran.stderr) == (0, "") and ran.stdout.startswith("usage: check/quick")
+
+
 def test_the_gate_runs_everything_proved_and_every_test():
     lines = places.text_of(".ci", "run").splitlines()
     tests = next(number for number, line in enumerate(lines) if '-m pytest -q -m "" --closing-line' in line)

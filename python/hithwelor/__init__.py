@@ -7,7 +7,10 @@ from __future__ import annotations
 
 from .answers import NoMemory, Unavailable, answer, way
 from .machine import Machine, Names, ReversibleMachine
+from .tables import read_table
 from .texts import Exit, Look, Outcome, Refused, Run, Session, Tape, View, Window
+
+__version__: str
 
 __all__ = [
     "Exit",
@@ -24,7 +27,9 @@ __all__ = [
     "Unavailable",
     "View",
     "Window",
+    "__version__",
     "answer",
+    "read_table",
     "version",
     "way",
 ]
@@ -41,7 +46,14 @@ def version() -> str:
     told = first_that_stands([os.path.join(TOP, "CHANGELOG.md"), os.path.join(TOP, "version")])
     if told and HERE == os.path.join(TOP, "python", "hithwelor"):
         with open(told, encoding="utf-8") as file:
-            found = re.search(r"^(?:## )?(\d+\.\d+\.\d+)", file.read(), flags=re.M)
+            found = re.search(r"^(?:This state is |## )?(\d+\.\d+\.\d+(?:\.dev\d+)?)", file.read(), flags=re.M)
         if found:
             return found[1]
     return metadata.version("hithwelor")
+
+
+def __getattr__(name: str) -> str:
+    """`__version__`, which is read when it is asked for."""
+    if name == "__version__":
+        return version()
+    raise AttributeError(f"module {__name__!r} has no attribute {name!r}")

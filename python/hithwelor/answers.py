@@ -12,7 +12,7 @@ import threading
 from collections.abc import Sequence
 from typing import Union
 
-from .engine import Engine, Library, Node, Unavailable
+from .engine import LEAST_NODE, Engine, Library, Node, Unavailable
 
 __all__ = ["Bytes", "Engine", "HERE", "Library", "Node", "NoMemory", "TOP", "Unavailable", "VARIABLE", "answer", "way"]
 
@@ -58,22 +58,27 @@ def first_that_stands(paths: Sequence[str]) -> str | None:
     return next((path for path in paths if os.path.exists(path)), None)
 
 
+def places() -> tuple[str, ...]:
+    """The path of the shared library; else those of Node.js and of its command. Unavailable if there is neither."""
+    path, node, command = library_path(), shutil.which("node"), first_that_stands(COMMANDS)
+    if path:
+        return (path,)
+    if node and command:
+        return node, command
+    raise Unavailable(
+        f"no engine is here: install Node.js {LEAST_NODE} or later, or build the shared library by embed/build, or name it by "
+        f"{VARIABLE}"
+    )
+
+
 def way() -> Engine:
     """The engine, a Library or a Node, which is kept for all answers. Unavailable if there is neither."""
     with _lock:
         if _kept and _kept[0].is_closed:
             _kept.clear()
         if not _kept:
-            path, node, command = library_path(), shutil.which("node"), first_that_stands(COMMANDS)
-            if path:
-                _kept.append(Library(path))
-            elif node and command:
-                _kept.append(Node(node, command))
-            else:
-                raise Unavailable(
-                    f"nothing is here that answers: build the shared library by embed/build, name it by {VARIABLE}, "
-                    "or install node"
-                )
+            path, *command = places()
+            _kept.append(Node(path, *command) if command else Library(path))
         return _kept[0]
 
 

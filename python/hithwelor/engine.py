@@ -16,8 +16,12 @@ import weakref
 from types import TracebackType
 from typing import IO, TypeVar
 
+LEAST_NODE, TOO_OLD = 18, 86
 # What the child of Node.js runs: the command as a module, which answers one request after another. Ctrl-C is Python's.
-SERVE = "process.on('SIGINT', () => {}); require(process.argv[1]).serve()"
+SERVE = (
+    f"if (parseInt(process.versions.node) < {LEAST_NODE}) process.exit({TOO_OLD}); "
+    "process.on('SIGINT', () => {}); require(process.argv[1]).serve()"
+)
 FULL = 8
 ROOM, MOST_KEPT = 1 << 16, 1 << 24
 # The head of a request: its number and the lengths of the words and of the input; and of an answer: the number of its
@@ -149,7 +153,7 @@ class Node(Engine):
             except BaseException as fault:
                 self.end()
                 if isinstance(fault, (OSError, EOFError)):
-                    raise Unavailable(f"the process of Node.js has ended: {self.path}") from fault
+                    raise Unavailable(self.cause()) from fault
                 raise
             finally:
                 self.is_asked = False
@@ -169,12 +173,19 @@ class Node(Engine):
 
     def end(self) -> None:
         """Kills the child, unless it waits for a request and ends by itself."""
-        if not self.is_in_step:
+        if not self.is_in_step and self.child.poll() is None:
             self.child.kill()
         for pipe in (self.child.stdin, self.child.stdout):
             with contextlib.suppress(OSError, ValueError):
                 piped(pipe).close()
         self.child.wait()
+
+    def cause(self) -> str:
+        """Why the child has ended, if its status tells it."""
+        if self.child.returncode != TOO_OLD:
+            return f"the process of Node.js has ended: {self.path}"
+        told = subprocess.run([self.words[0], "--version"], stdout=subprocess.PIPE, text=True).stdout.strip()
+        return f"{self.words[0]} is Node.js {told}, and {LEAST_NODE} or later is needed"
 
     def close(self) -> None:
         self.closed = True

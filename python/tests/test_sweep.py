@@ -2,10 +2,23 @@
 import os
 import signal
 import subprocess
+import sys
 import time
 import unittest
 
-from sweeping import ENDLESS, INCREMENT, LEAST, PATIENCE, TOP, Sweeps, needs, python_with, whole, without_seconds
+from sweeping import (
+    ENDLESS,
+    INCREMENT,
+    LEAST,
+    PACKAGES,
+    PATIENCE,
+    TOP,
+    Sweeps,
+    needs,
+    python_with,
+    whole,
+    without_seconds,
+)
 from hithwelor import answers
 from hithwelor.faults import Fault
 from hithwelor.sweep import cases, command, rows, table
@@ -164,6 +177,12 @@ class Resumed(Sweeps):
         self.assert_line(said, "stopped; the same words with --resume go on")
         self.assert_goes_on()
 
+    def test_sigterm_leaves_the_same_table_and_no_warning(self):
+        status, said = self.kill(signal.SIGTERM)
+        self.assertEqual(status, 143)
+        self.assert_line(said, "stopped; the same words with --resume go on")
+        self.assert_goes_on()
+
     def test_ctrl_c_and_a_death_end_no_sweep_of_large_batches_by_waiting(self):
         words = self.file("words", "".join(f"{number:060b}\n" for number in range(0, 2**60, 2**60 // 300_000)))
         running = self.start(
@@ -252,6 +271,14 @@ class Wrong(Sweeps):
         self.assertEqual((status, out.count("\n")), (0, 2))
         self.assert_line(said, "no file of this folder ends in .csv")
         self.assertEqual(self.call("sweep", self.folder, "--up-to", 0)[0], 2)
+
+    def test_a_sweep_without_an_engine_leaves_no_table(self):
+        bare = {"PATH": self.blocks, "PYTHONPATH": PACKAGES, "PYTHONDONTWRITEBYTECODE": "1"}
+        script = "import sys; from hithwelor import answers, __main__; answers.SHARED = []; sys.exit(__main__.main(sys.argv[1:]))"
+        words = ["sweep", LEAST, "--up-to", "2", "--out", self.table]
+        ran = subprocess.run([sys.executable, "-c", script, *words], env=bare, capture_output=True, text=True)
+        self.assertEqual((ran.returncode, os.listdir(self.folder)), (1, []))
+        self.assert_line(ran.stderr, "no engine is here: install Node.js 18 or later")
 
     def test_words_that_have_no_form_say_what_to_do(self):
         for words, part in (

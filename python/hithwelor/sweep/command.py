@@ -18,14 +18,14 @@ import signal
 import sys
 from typing import Callable, NoReturn, TextIO
 
-from ..answers import Unavailable
+from ..answers import Unavailable, places
 from ..faults import STOPPED, Fault
 from . import cases, record, table
 from .progress import progress
 from .rows import Tally
 from .workers import Cluster, Local, Pool, answers_in_order
 
-DIFFER = 1
+DIFFER, TERMINATED = 1, 128 + signal.SIGTERM
 # What to do about a refusal, by its first word.
 HINTS = {
     "text": "that file isn't a table of quintuples, one `state,read,write,shift,next` a line",
@@ -120,6 +120,14 @@ def parser() -> Parser:
     return it
 
 
+class Terminated(KeyboardInterrupt):
+    """SIGTERM came: the sweep ends as after Ctrl-C, with no process left behind."""
+
+
+def terminate(number: int, frame: object) -> NoReturn:
+    raise Terminated
+
+
 def tell(line: object) -> None:
     """One line on standard error."""
     print(f"hithwelor sweep: {line}", file=sys.stderr, flush=True)
@@ -203,7 +211,10 @@ def pool_for(options: argparse.Namespace, is_wanted: bool) -> Pool | None:
     """Who answers, where there is anything left to be answered."""
     if not is_wanted:
         return None
-    return Cluster(options.scheduler) if options.scheduler else Local(options.jobs or len(os.sched_getaffinity(0)))
+    if options.scheduler:
+        return Cluster(options.scheduler)
+    places()
+    return Local(options.jobs or len(os.sched_getaffinity(0)))
 
 
 def fill(pool: Pool | None, plan: cases.Plan, written: table.Written, done: int, bounds: tuple[int, int]) -> Tally:
@@ -215,10 +226,11 @@ def fill(pool: Pool | None, plan: cases.Plan, written: table.Written, done: int,
             written.add(answer.text)
             tally.add(answer.tally)
             line.update(answer.groups * width)
-    except KeyboardInterrupt:
-        signal.signal(signal.SIGINT, signal.SIG_IGN)
+    except KeyboardInterrupt as stop:
+        for number in (signal.SIGINT, signal.SIGTERM):
+            signal.signal(number, signal.SIG_IGN)
         how = f"; the same words with --resume go on with {written.path}" if written.path else ""
-        raise Fault(f"stopped{how}", STOPPED) from None
+        raise Fault(f"stopped{how}", TERMINATED if isinstance(stop, Terminated) else STOPPED) from None
     finally:
         line.close()
     return tally
@@ -276,6 +288,7 @@ def join(words: list[str]) -> int:
 
 def main(words: list[str]) -> int:
     """The command of the package: gives its status, and tells a fault in one line."""
+    signal.signal(signal.SIGTERM, terminate)
     try:
         return join(words[1:]) if words[:1] == ["join"] else sweep(words)
     except Unavailable as fault:
@@ -284,5 +297,5 @@ def main(words: list[str]) -> int:
     except Fault as fault:
         tell(fault)
         return fault.status
-    except KeyboardInterrupt:
-        return STOPPED
+    except KeyboardInterrupt as stop:
+        return TERMINATED if isinstance(stop, Terminated) else STOPPED
