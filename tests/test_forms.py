@@ -11,7 +11,9 @@ import subprocess
 
 import places
 import pytest
+from hithwelor.cli_explain import usage_fault
 from hithwelor.forms import commands, forms, numbers
+from people import called
 from places import TOP, text_of
 
 TABLE = "crates/bn_words/specs/Requests.antt"
@@ -31,55 +33,62 @@ KINDS = {
 # Words that have no form, and what is said to them in one line.
 FAULTS = [
     ([], "no command is named"),
-    (["check", "examples/least.csv"], "examples/least.csv is a file: write < examples/least.csv"),
+    (
+        ["check", "examples/least.csv"],
+        "examples/least.csv is a file: write < examples/least.csv, or hithwelor check examples/least.csv ..",
+    ),
     (
         ["examples/least.csv"],
-        "examples/least.csv is a file: name a command first, and give it the file by < examples/least.csv",
+        "examples/least.csv is a file: the command comes first, as in hithwelor run examples/least.csv WORD",
     ),
     (["generate", "examples/least.csv"], "examples/least.csv is a file, and generate reads none"),
     (["generate", "examples"], "examples is a folder, and generate reads none"),
     (["check", "."], ". is a folder: check reads a file, by < FILE"),
-    (["examples"], "examples is a folder: name a command first, and give it a file by < FILE"),
-    (["check", "nofile.csv"], "there is no file nofile.csv here; one that is there is given by < FILE"),
-    (["generate", "nofile.csv"], "nofile.csv is no word of generate, which reads no file either"),
+    (["examples"], "examples is a folder: name a command first, and then a file"),
+    (["check", "nofile.csv"], "there is no file nofile.csv"),
+    (["generate", "nofile.csv"], "nofile.csv is no argument of generate, which reads no file either"),
     (["Check"], "commands are written in small letters: check"),
-    (["chek"], "there is no command chek; check is one"),
-    (["hceck"], "there is no command hceck; check is one"),
-    (["cheeck"], "there is no command cheeck; check is one"),
-    (["chuck"], "there is no command chuck; check is one"),
+    (["chek"], "there is no command chek; did you mean check?"),
+    (["hceck"], "there is no command hceck; did you mean check?"),
+    (["cheeck"], "there is no command cheeck; did you mean check?"),
+    (["chuck"], "there is no command chuck; did you mean check?"),
     (["walk"], "there is no command walk"),
-    (["machine", "1011", "20"], "the word needs a = before it: =1011"),
-    (["machine", "=1011", "020"], "a number has no zero in front: write 20 for 020"),
-    (["machine", "=1011", "+20"], "a number has no sign: n can't be +20"),
-    (["machine", "=1011", "x"], "n is a number, and x is none"),
-    (["machine", "=1011", ""], "n is a number, and the empty word is none"),
-    (["machine", "=1011", "1048577"], "n is at most 1048576"),
-    (["step", "4611686018427387905"], "E is at most 4611686018427387904"),
-    (["step", "99999999999999999999"], "E is at most 4611686018427387904"),
+    (["machine", "1011", "20"], "machine: the word needs = before it: =1011"),
+    (["machine", "=1011", "020"], "machine: a number has no zero in front: write 20 for 020"),
+    (["machine", "=1011", "+20"], "machine: a number has no sign: n can't be +20"),
+    (["machine", "=1011", "x"], "machine: n must be a whole number, not `x`"),
+    (["machine", "=1011", ""], "machine: n must be a whole number, not the empty word"),
+    (["machine", "=1011", "1048577"], "machine: n is at most 1,048,576: 1048577 is too large"),
+    (["step", "4611686018427387905"], "step: E is at most 4,611,686,018,427,387,904: 4611686018427387905 is too large"),
     (
-        ["run", "=1", "0", "2", "1"],
-        "as many words are wanted as in `run =W l1 r1 n r3` or `run =W l1 r1 n r3 E` or `run =W auto`",
+        ["step", "99999999999999999999"],
+        "step: E is at most 4,611,686,018,427,387,904: 99999999999999999999 is too large",
     ),
-    (["run", "=1011", "0"], "auto is the one word that may stand for 0"),
-    (["realise", "0", "1"], "Q is at least 1"),
-    (["generate", "5"], "k is at most 4"),
-    (["moments", "=1", "=", "1", "5"], "the word needs a = before it: =1"),
-    (["build", "1", "0", "2", "1", "0"], "the word needs a = before it: =1"),
-    (["build", ":1,x", "0", "2", "1", "x"], "r3 is a number, and x is none"),
-    (["compile", ":1", "0", "2", "1", "1"], "the word needs a = before it: =:1"),
+    (["run", "=1", "0", "2", "1"], "run: 3 of 4 window numbers given; r3 is missing"),
+    (["run", "=1011", "0"], "run: 1 of 4 window numbers given; r1, n and r3 are missing"),
+    (["realise", "0", "1"], "realise: Q is at least 1, not 0"),
+    (["generate", "5"], "generate: k is at most 4: 5 is too large"),
+    (["moments", "=1", "=", "1", "5"], "moments: the word needs = before it: =1"),
+    (["build", "1", "0", "2", "1", "0"], "build: the word needs = before it: =1"),
+    (["build", ":1,x", "0", "2", "1", "x"], "build: r3 must be a whole number, not `x`"),
+    (["compile", ":1", "0", "2", "1", "1"], "compile: the word is = and its letters here, not :1"),
+    (["build", "=1", "=", "0", "2", "1", "0"], "build: one word, or one for each of the three tapes: 2 are given"),
     (
-        ["build", "=1", "=", "0", "2", "1", "0"],
-        "as many words are wanted as in `build =W l1 r1 r2 r3` or `build =W1 =W2 =W3 l1 r1 r2 r3`",
+        ["drive", "=", ":", "=", "0", "2", "1", "0", "2305843009213693953"],
+        "drive: E is at most 2,305,843,009,213,693,952: 2305843009213693953 is too large",
     ),
-    (["drive", "=", ":", "=", "0", "2", "1", "0", "2305843009213693953"], "E is at most 2305843009213693952"),
-    (["look", "=", "0", "2", "1", "0", "4611686018427387905"], "E is at most 4611686018427387904"),
     (
-        ["play", "=1", "2", "1", "0", "1", "0"],
-        "as many words are wanted as in `play =W l1 r1 r2 r3` or `play =W1 =W2 =W3 l1 r1 r2 r3`",
+        ["look", "=", "0", "2", "1", "0", "4611686018427387905"],
+        "look: E is at most 4,611,686,018,427,387,904: 4611686018427387905 is too large",
     ),
-    (["moments", "=1", "=", "5"], "as many words are wanted as in `moments =W n` or `moments =W1 =W2 =W3 n`"),
-    (["machine", "=1011"], "as many words are wanted as in `machine =W n`"),
-    (["erase", "=1"], "as many words are wanted as in `erase` or `erase =W n`"),
+    (["play", "=1", "2", "1", "0", "1", "0"], "play: `0` is surplus"),
+    (["moments", "=1", "=", "5"], "moments: one word, or one for each of the three tapes: 2 are given"),
+    (["machine", "=1011"], "machine: n is missing"),
+    (["erase", "=1"], "erase: n is missing"),
+    (["run", "0", "5", "11", "5", "=1011"], "run: the word comes first: run =1011 0 5 11 5"),
+    (["run", "=1011", "0", "5", "11", "5", "6", "7"], "run: `7` is surplus"),
+    (["machine", "=1", "1,000"], "machine: n must be a whole number without separators, not `1,000`: 1000"),
+    (["run", "0", "5", "11", "5"], "run: the word is missing: = and its letters; = alone is the empty word"),
 ]
 GREATEST = {"greatest": 2**62, "MOST_DRIVE_STEPS": 2**61, "MOST_COUNT": 2**20}
 
@@ -204,15 +213,22 @@ def said_by_bash(script, *words):
 
 
 @pytest.mark.parametrize("words, wanted", FAULTS, ids=[" ".join(words) or "no words" for words, _ in FAULTS])
-def test_words_that_have_no_form_are_told_what_is_wrong(words, wanted):
-    find = 'top=$PWD script=try; . tools/lib/built.sh; . tools/lib/front.sh; shopt -s extglob; fault=; find_fault "$@"; echo "$fault"'
-    assert said_by_bash(find, *words) == wanted
+def test_words_that_have_no_form_are_told_what_is_wrong(monkeypatch, words, wanted):
+    monkeypatch.chdir(TOP)
+    assert usage_fault(words).cause == wanted
+
+
+@pytest.mark.parametrize("words", [it for it, _ in FAULTS if it != ["check", "examples/least.csv"]], ids=" ".join)
+def test_a_usage_error_has_at_most_three_lines(monkeypatch, words):
+    monkeypatch.chdir(TOP)
+    status, text, err = called(*words)
+    assert (status, text) == (2, b"") and err.count("\n") <= 3 and err.startswith("error: ")
 
 
 @pytest.mark.parametrize("script", ["./workbench", "./try"])
 def test_words_that_ask_for_help_are_told_the_forms(script):
     ran = subprocess.run([script, "--help"], cwd=TOP, stdin=subprocess.DEVNULL, capture_output=True, text=True)
-    assert (ran.returncode, ran.stdout) == (0, "usage\n") and f"{TOP}/docs/use/workbench.1" in ran.stderr
+    assert ran.returncode == 0 and all(f"  {it.words} " in ran.stdout for it in forms())
 
 
 @pytest.mark.parametrize("begin", ["", "re", "s", "x"])

@@ -45,7 +45,7 @@ def test_without_node_the_installed_module_says_so(install, machine, tmp_path):
     install("--prefix", prefix)
     ran = answer(prefix, machine())
     assert (ran.returncode, ran.stdout, ran.stderr.count("\n")) == (1, "", 1)
-    assert "node 18 or later" in ran.stderr
+    assert "Node.js 18 or later" in ran.stderr
 
 
 def test_an_upgrade_takes_the_old_program_away(install, own_clone, machine, any_node, tmp_path):
@@ -99,7 +99,7 @@ def test_untracked_files_arent_installed(install, own_clone, tmp_path):
     for name in ("docs/learn/tutorial.md~", "docs/notes.md", "examples/mine.csv", "python/hithwelor/scratch.py"):
         places.write(os.path.join(own_clone, name), "mine\n")
     prefix = str(tmp_path / "prefix")
-    assert install("--prefix", prefix, "--python").returncode == 0
+    assert install("--prefix", prefix).returncode == 0
     assert not [name for name, data in files_of(prefix).items() if data == b"mine\n"]
     assert "share/doc/hithwelor/docs/learn/tutorial.md" in files_of(prefix)
 
@@ -192,7 +192,7 @@ def test_completion_in_zsh(install, tmp_path, needs):
     )
     ran = run(["zsh", "-f", "-c", script])
     lines = ran.stdout.splitlines()
-    assert ran.returncode == 0 and "bennett:Bennett's reversible machine of this machine" in lines
+    assert ran.returncode == 0 and "bennett:print Bennett's reversible machine, a table of quadruples" in lines
     assert any(line.startswith("help:") for line in lines) and lines[-1] == "files"
 
 
@@ -213,6 +213,7 @@ def test_completion_in_fish(install, tmp_path, needs):
         return dict(it.partition("\t")[::2] for it in ran.stdout.splitlines())
 
     assert set(completed("hithwelor mi")) == {"migrate", "mirror"}
-    assert completed("hithwelor b")["bennett"] == "Bennett's reversible machine of this machine"
+    assert completed("hithwelor b")["bennett"] == "print Bennett's reversible machine, a table of quadruples"
+    assert "--element-steps" in completed("hithwelor run m.csv --el")
     assert "help" in completed("hithwelor h")
     assert "migration.txt" in completed("hithwelor check < mi")

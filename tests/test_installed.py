@@ -40,11 +40,6 @@ def prefix(tmp_path_factory, path):
     return installed(tmp_path_factory.mktemp("installed"), path)
 
 
-@pytest.fixture(scope="module")
-def prefix_with_package(tmp_path_factory, path):
-    return installed(tmp_path_factory.mktemp("with package"), path, "--python")
-
-
 def text_in(prefix, name):
     with open(os.path.join(prefix, name), encoding="utf-8") as file:
         return file.read()
@@ -61,13 +56,21 @@ def test_it_answers(prefix, path):
 
 def test_words_without_a_form(prefix, path):
     ran = called(prefix, path, "step")
-    assert (ran.returncode, ran.stdout) == (2, "usage\n") and "hithwelor: " in ran.stderr
+    assert (ran.returncode, ran.stdout) == (2, "") and ran.stderr.startswith("error: step: CIRCUIT is missing")
 
 
 def test_it_tells_its_version_and_its_forms(prefix, path):
     assert called(prefix, path, "--version").stdout == f"hithwelor {version()}\n"
     ran = called(prefix, path, "--help")
-    assert ran.returncode == 0 and "run =W auto" in ran.stderr
+    assert ran.returncode == 0 and "  run " in ran.stdout
+    ran = called(prefix, path, "help", "run")
+    assert ran.returncode == 0 and "  run =W auto" in ran.stdout
+
+
+def test_it_finds_the_window_and_reads_files(prefix, path):
+    table = os.path.join(prefix, "share", "doc", "hithwelor", "examples", "increment.csv")
+    ran = called(prefix, path, "run", table, "1011")
+    assert (ran.returncode, ran.stdout) == (0, RUN_ANSWER)
 
 
 def test_the_man_page_is_there(prefix):
@@ -83,26 +86,23 @@ def completed(prefix, path, begin):
     return run(["bash", "-c", script], path=path).stdout.strip()
 
 
-@pytest.mark.parametrize("begin, wanted", [("mig", "migrate"), ("sw", "")])
-def test_bash_completes_commands_alone(prefix, path, begin, wanted):
+@pytest.mark.parametrize("begin, wanted", [("mig", "migrate"), ("sw", "sweep"), ("pl", "plan play plot")])
+def test_bash_completes_commands(prefix, path, begin, wanted):
     assert completed(prefix, path, begin) == wanted
 
 
+def test_bash_completes_options(prefix, path):
+    script = (
+        f". {prefix}/share/bash-completion/completions/hithwelor; COMP_WORDS=(hithwelor run m.csv --el) COMP_CWORD=3; "
+        "_hithwelor; echo ${COMPREPLY[@]}"
+    )
+    assert run(["bash", "-c", script], path=path).stdout.strip() == "--element-steps"
+
+
 @pytest.mark.parametrize("name", COMPLETIONS)
-def test_the_words_of_the_package_arent_completed_without_it(prefix, name):
+def test_commands_and_options_are_completed(prefix, name):
     told = text_in(prefix, name)
-    assert "migrate" in told and "sweep" not in told
-
-
-@pytest.mark.parametrize("begin, wanted", [("sw", "sweep"), ("pl", "plan play plot")])
-def test_bash_completes_the_words_of_the_package(prefix_with_package, path, begin, wanted):
-    assert completed(prefix_with_package.replace(" ", "\\ "), path, begin) == wanted
-
-
-@pytest.mark.parametrize("name", COMPLETIONS)
-def test_the_words_of_the_package_are_completed_with_it(prefix_with_package, name):
-    told = text_in(prefix_with_package, name)
-    assert "sweep" in told and "plot" in told
+    assert "migrate" in told and "sweep" in told and "element-steps" in told
 
 
 def test_taken_away_it_leaves_nothing(tmp_path, path):

@@ -221,7 +221,9 @@ def use_wheel(wheel, python, room):
         assert ran.stdout.endswith("output =1100\n"), command
         assert run([*command, "--version"], **here).stdout == f"hithwelor {version}\n"
         ran = run([*command, "--help"], **here)
-        assert ran.returncode == 0 and "run =W auto " in ran.stdout and "sweep MACHINE.." in ran.stdout, command
+        assert ran.returncode == 0 and "  run " in ran.stdout and "  sweep " in ran.stdout, command
+        ran = run([*command, "run", TABLE, "1011"], **here)
+        assert ran.returncode == 0 and ran.stdout.endswith("output =1100\n"), command
     out, picture = room / "table.csv", room / "table.png"
     ran = run([programs / "hithwelor", "sweep", TABLE, "--up-to", "2", "--check", "--jobs", "1", "--out", out], **here)
     assert ran.stdout == "7 agree, 0 differ\n"

@@ -7,8 +7,17 @@ from places import run
 
 
 @pytest.fixture
-def tried(clone, machine, any_node):
-    path = machine(node=any_node)
+def any_python():
+    """The path of the first Python that is found."""
+    found = places.pythons()
+    if not found:
+        pytest.skip("Python 3.9 or later isn't installed")
+    return next(iter(found.values()))
+
+
+@pytest.fixture
+def tried(clone, machine, any_node, any_python):
+    path = machine(node=any_node, python=any_python)
 
     def call(*words, **more):
         return run([os.path.join(clone, "try"), *words], path=path, cwd=os.path.join(clone, "examples"), **more)
@@ -20,17 +29,17 @@ def tried(clone, machine, any_node):
     "words, hint",
     [
         (["check", "."], ". is a folder: check reads a file, by < FILE"),
-        (["check", "nofile.csv"], "there is no file nofile.csv here"),
-        (["check", "no/file"], "there is no file no/file here"),
+        (["check", "nofile.csv"], "there is no file nofile.csv"),
+        (["check", "no/file"], "there is no file no/file"),
         (["refused"], "refused is a folder: name a command first"),
         (["check", "least.csv"], "least.csv is a file: write < least.csv"),
-        (["generate", "nofile.csv"], "nofile.csv is no word of generate, which reads no file either"),
+        (["generate", "nofile.csv"], "nofile.csv is no argument of generate, which reads no file either"),
     ],
 )
 def test_a_word_that_names_a_folder_or_no_file_is_told(tried, words, hint):
     ran = tried(*words)
     assert (ran.returncode, ran.stdout) == (2, "usage\n")
-    assert f"try: {hint}" in ran.stderr
+    assert f"error: {hint}" in ran.stderr
 
 
 def test_a_folder_as_input_is_told(tried, clone):
@@ -40,12 +49,51 @@ def test_a_folder_as_input_is_told(tried, clone):
     finally:
         os.close(folder)
     assert (ran.returncode, ran.stdout) == (7, "read fault\n")
-    assert "try: the input can't be read (status 7): it is a folder" in ran.stderr
+    assert "try: status 7: the input can't be read: it is a folder" in ran.stderr
 
 
 def test_a_full_device_as_output_is_told(clone, machine, any_node):
     ran = run(["bash", "-c", "./try generate 1 > /dev/full"], path=machine(node=any_node), cwd=clone)
-    assert ran.returncode == 8 and "the output wasn't taken whole (status 8)" in ran.stderr
+    assert ran.returncode == 8 and "try: status 8: the output was not taken whole" in ran.stderr
+
+
+def test_without_python_a_refusal_is_told_in_short(clone, machine, any_node):
+    ran = run([os.path.join(clone, "try"), "check"], path=machine(node=any_node), input="S,_,_,R,T\n")
+    assert (ran.returncode, ran.stdout) == (3, "text: record 1 field 4 shift\n")
+    assert ran.stderr.splitlines()[-1] == "try: status 3: the input has a fault in its form"
+
+
+def test_what_comes_by_a_pipe_or_a_file_is_explained_alike(tried, tmp_path):
+    told = "error: standard input, line 2: moves are + - 0 here; this table uses L and R"
+    table = tmp_path / "table.csv"
+    table.write_text("S,_,_,+,T\nT,_,_,R,T\nT,1,_,L,F\n", encoding="utf-8")
+    with open(table, encoding="utf-8") as file:
+        for ran in (tried("check", stdin=file), tried("check", input=table.read_text(encoding="utf-8"))):
+            assert (ran.returncode, ran.stdout) == (3, "text: record 2 field 4 shift\n") and told in ran.stderr
+
+
+PIECES = ["./hithwelor run examples/increment.csv 1011", "./hithwelor run =1011 0 5 11 5 < examples/increment.csv"]
+
+
+@pytest.mark.parametrize("command", PIECES)
+def test_the_command_of_a_clone_answers_with_each_python(clone, machine, any_node, python, command):
+    ran = run(["bash", "-c", command], path=machine(node=any_node, python=python), cwd=clone)
+    assert (ran.returncode, ran.stdout) == (0, places.RUN_ANSWER), ran.stderr
+
+
+def test_without_python_the_command_takes_exact_forms_and_tells_what_the_rest_needs(clone, machine, any_node):
+    path = machine(node=any_node)
+    ran = run(["bash", "-c", PIECES[1]], path=path, cwd=clone)
+    assert (ran.returncode, ran.stdout, ran.stderr) == (0, places.RUN_ANSWER, "")
+    ran = run(["bash", "-c", PIECES[0]], path=path, cwd=clone)
+    assert (ran.returncode, ran.stdout) == (2, "") and "Python 3.9 or later" in ran.stderr
+    ran = run(["bash", "-c", PIECES[0]], path=machine(), cwd=clone)
+    assert (ran.returncode, ran.stdout) == (1, "") and "node isn't on the path" in ran.stderr
+
+
+def test_without_node_the_command_tells_what_is_missing(clone, machine, any_python):
+    ran = run(["bash", "-c", PIECES[0]], path=machine(python=any_python), cwd=clone)
+    assert (ran.returncode, ran.stdout) == (1, "") and "node" in ran.stderr.lower() and "Traceback" not in ran.stderr
 
 
 def test_help_is_completed_in_bash():

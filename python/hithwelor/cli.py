@@ -7,16 +7,16 @@ from __future__ import annotations
 
 import importlib
 import sys
-from typing import Callable
 
 from . import cli_input, version
-from .cli_args import read_arguments
+from .cli_args import read_arguments, use_of
 from .cli_engine import Engine, Progress
-from .cli_run import REFUSALS, Question, answer
-from .cli_input import Input
-from .faults import STOPPED, Fault, Stop
+from .cli_errors import explained_exactly
+from .cli_run import REFUSALS, answer
+from .cli_usage import fault_of, forms_shown, looks_exact
+from .faults import STOPPED, Stop
 from .forms import commands, is_exact, uses
-from .help import help_text
+from .cli_help import exact_help, help_of, summary
 
 OWN = {"sweep": "hithwelor.sweep.command", "plot": "hithwelor.plot"}
 HELPING = ("--help", "-h", "help")
@@ -44,17 +44,30 @@ def answered(words: list[str]) -> int:
     if words == ["--version"]:
         return written(DONE, f"hithwelor {version()}\n".encode())
     if words[0] in HELPING:
-        return written(DONE, help_text(version()).encode())
+        return written(DONE, help_for(words[1:]).encode())
     engine = Engine()
     if is_exact(words):
         return exactly(words, engine)
+    if looks_exact(words):
+        raise Stop(fault_of(words), usage=f"={words[0]}")
     arguments = read_arguments(words[0], words[1:])
     if "help" in arguments.given:
-        return written(DONE, help_text(version()).encode())
+        return written(DONE, help_of(words[0]).encode())
     status, text = answer(arguments, engine)
     if "verbose" in arguments.given:
         print(f"note: answered by {engine.name}", file=sys.stderr)
     return written(status, text)
+
+
+def help_for(names: list[str]) -> str:
+    """The help of a command, of the exact forms, or the list of commands."""
+    if not names:
+        return summary(version())
+    if names[0] == "exact":
+        return exact_help()
+    if names[0] in OWN:
+        return f"hithwelor {names[0]} --help prints its options\n"
+    return help_of(use_of(names[0]).command)
 
 
 def exactly(words: list[str], engine: Engine) -> int:
@@ -70,24 +83,8 @@ def exactly(words: list[str], engine: Engine) -> int:
         status, text = engine(words, data)
     code = written(status, text)
     if code in REFUSALS and code != WRITE_FAULT:
-        explain(words, status, text, data, engine)
+        told(explained_exactly(words, status, text, data, engine))
     return code
-
-
-def explain(
-    words: list[str], status: int, text: bytes, data: bytes, engine: Callable[[list[str], bytes], tuple[int, bytes]]
-) -> None:
-    """Says what a refusal of an exact form means."""
-    from .cli_errors import explained
-
-    first, _, second = data.partition(b"\n%\n")
-    inputs = []
-    for part in (first, second) if second else (first,):
-        it = Input("standard input", cli_input.kind_of(part), part)
-        it.rows = cli_input.records_of(cli_input.text_of(part))
-        inputs.append(it)
-    given = [word[1:] for word in words[1:] if word.startswith(("=", ":"))]
-    told(explained(words, status, text, Question(engine, words, data, inputs, given, None, words[0])))
 
 
 def told(stop: Stop) -> int:
@@ -96,12 +93,20 @@ def told(stop: Stop) -> int:
     if stop.remedy:
         lines.append(f"help: {stop.remedy}")
     if stop.usage is not None:
-        use = uses().get(stop.usage)
-        lines.append(f"usage: {use.usage if use else 'hithwelor COMMAND FILE ..'}")
-        lines.append(f"help: hithwelor help{f' {stop.usage}' if use else ''}")
+        lines += usage_of(stop.usage)
     if sys.stderr is not None:
         print("\n".join(lines), file=sys.stderr)
     return stop.status
+
+
+def usage_of(command: str) -> list[str]:
+    """How a command is used, and where its help is. Behind a = its exact forms are shown; without a name all commands are meant."""
+    name = command.lstrip("=")
+    use = uses().get(name)
+    if not use:
+        return ["usage: hithwelor COMMAND FILE ..", "more: hithwelor help"]
+    shown = forms_shown(name) if command.startswith("=") else use.usage
+    return [f"usage: {shown}", f"more: hithwelor help {name}"]
 
 
 def written(code: int, text: bytes) -> int:

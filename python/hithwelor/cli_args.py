@@ -3,13 +3,15 @@ from __future__ import annotations
 
 import argparse
 import difflib
+import os
 import re
 from dataclasses import dataclass, field
 from typing import NoReturn
 
 from .cli_input import exists
 from .faults import Stop
-from .forms import Use, commands, forms_of, limits_of, options, twins, uses
+from .cli_usage import fault_of_number
+from .forms import Use, commands, forms_of, is_number, options, twins, uses
 
 # What the names of arguments mean, for messages.
 MEANINGS = {
@@ -91,6 +93,8 @@ def use_of(command: str) -> Use:
     found = uses().get(command)
     if found:
         return found
+    if os.path.isdir(command):
+        raise Stop(f"{command} is a folder: name a command first, and then a file", usage="")
     if exists(command) and command != "-":
         raise Stop(f"{command} is a file: the command comes first, as in hithwelor run {command} WORD", usage="")
     if command.lower() in uses():
@@ -146,21 +150,10 @@ def check_order(use: Use, names: list[str], given: list[str]) -> None:
 
 def whole(word: str, letter: str, command: str, name: str) -> int:
     """The number that a word spells, within the limits of a letter of a command's form."""
-    least, greatest = limits_of(next(iter(forms_with(command, letter)), command), letter)
-    if re.fullmatch(r"[+-]\d+", word):
-        raise Stop(f"{name}: a number has no sign: {word}", usage=command)
-    if re.fullmatch(r"\d{1,3}([,._' ]\d{3})+", word):
-        told = re.sub(r"\D", "", word)
-        raise Stop(f"{name} must be a whole number without separators: {told}, not {word}", usage=command)
-    if re.fullmatch(r"0\d+", word):
-        raise Stop(f"{name}: a number has no zero in front: write {word.lstrip('0') or '0'} for {word}", usage=command)
-    if not re.fullmatch(r"[0-9]+", word):
-        raise Stop(f"{name} must be a whole number, not `{word}`", usage=command)
-    if len(word) > 40 or int(word) > greatest:
-        raise Stop(f"{name} is at most {greatest:,}: {word} is too large", usage=command)
-    if int(word) < least:
-        raise Stop(f"{name} is at least {least}, not {word}", usage=command)
-    return int(word)
+    owner = next(iter(forms_with(command, letter)), command)
+    if is_number(word, owner, letter):
+        return int(word)
+    raise Stop(f"{command}: {fault_of_number(owner, letter, word, name)}", usage=command)
 
 
 def forms_with(command: str, letter: str) -> list[str]:

@@ -7,12 +7,24 @@ from __future__ import annotations
 import re
 from typing import TYPE_CHECKING, Callable
 
-from .cli_input import FOREIGN, MOVES, Input, is_header, text_of
+from .cli_input import (
+    FOREIGN,
+    MOVES,
+    Input,
+    csv_of,
+    is_header,
+    kind_of,
+    put_halting_last,
+    records_of,
+    split_parts,
+    text_of,
+)
 from .faults import Stop
 from .foreign import kind_of as foreign_kind_of
 from .forms import Use, parts_of, twins, uses
 
 if TYPE_CHECKING:
+    from .cli_engine import Ask
     from .cli_run import Question
 
 SHOWN = {
@@ -59,11 +71,9 @@ def wrong_kind(use: Use, it: Input) -> Stop:
     shown = SHOWN.get(it.kind)
     wanted = SHOWN.get(use.kind, use.kind)
     if not shown:
-        return Stop(
-            f"{it.name}: not recognised; {use.command} takes {wanted}",
-            3,
-            "--as KIND says what it is, or `help formats`",
-        )
+        what = looks_like(it) or "not recognised"
+        remedy = "tables are CSV" if looks_like(it) else "--as KIND says what it is"
+        return Stop(f"{it.name}: {what}; {use.command} takes {wanted}", 3, remedy)
     fitting = [name for name, other in uses().items() if other.kind == it.kind]
     fitting += [name for name in twins() if it.kind == "quadruples"]
     twin = {"reversible": "hithwelor bennett FILE | hithwelor reversible -"}.get(use.command, "")
@@ -71,6 +81,17 @@ def wrong_kind(use: Use, it: Input) -> Stop:
         twin if it.kind == "quintuples" and twin else f"{it.kind} are taken by: {', '.join(dict.fromkeys(fitting))}"
     )
     return Stop(f"{it.name} is {shown}; {use.command} takes {wanted}", 3, remedy)
+
+
+def looks_like(it: Input) -> str:
+    """What an input looks like that is none of the kinds."""
+    first = text_of(it.data).lstrip()[:1]
+    return {
+        "<": "it looks like XML or HTML",
+        "{": "it looks like JSON",
+        "[": "it looks like JSON",
+        "": "it is empty",
+    }.get(first, "")
 
 
 # What the inputs say of a refusal. Each is given what the pattern found, the question, and the table's cause and remedy.
@@ -92,9 +113,9 @@ def fields(found: re.Match[str], question: Question, cause: str, remedy: str) ->
             f"it is read when given as a file: hithwelor {question.command} FILE ..",
         )
     if re.match(r"\s*[<{\[]", text_of(it.data)):
-        what = "XML or HTML" if text_of(it.data).lstrip()[0] == "<" else "JSON"
+        what = looks_like(it)
         return (
-            f"{it.name} looks like {what}, not a table",
+            f"{it.name}: {what}, not a table",
             "tables are CSV; JFLAP's .jff files are read when given as a file",
         )
     if record > len(it.rows):
@@ -186,6 +207,8 @@ def standard(found: re.Match[str], question: Question, cause: str, remedy: str) 
     it = table_of(found, question)
     has_entries = any(group and group.isdigit() for group in found.groups())
     cause = two_entries(found, question, cause, remedy)[0] if has_entries else f"{it.name}: {cause}"
+    if "S1 " in found[0]:
+        return cause, remedy
     symbols = {field for _, row in it.rows for field in row[1:3]}
     if "_" not in symbols:
         return (
@@ -196,6 +219,10 @@ def standard(found: re.Match[str], question: Question, cause: str, remedy: str) 
     if status == DONE:
         return cause, "a machine that starts on the first letter is brought into standard form by `standard`"
     other = text.decode(errors="replace").strip()
+    ends = re.fullmatch(r"machine: halting (\d+)", other)
+    if ends and not has_entries:
+        more, remedy = halting(ends, question, base(other, question.command)[0], "")
+        return f"{cause}\n{more}", remedy
     return cause, f"`standard` refuses it too: {base(other, question.command)[0]}"
 
 
@@ -207,22 +234,32 @@ def halting(found: re.Match[str], question: Question, cause: str, remedy: str) -
     cause, _ = two_entries(found, question, cause, remedy)
     if not ends:
         return cause, "no state of the table is without quintuples: add one in which the machine halts"
-    return (
-        cause,
-        f"no quintuple leaves {', '.join(ends)}: --halt {ends[0]} makes it the state in which the machine halts",
-    )
+    fitting = [end for end in ends if halts_in(question, it, end)]
+    if not fitting:
+        return cause, f"no quintuple leaves {', '.join(ends)}, and with none of them as the halting state it is taken"
+    told = f"no quintuple leaves {', '.join(fitting)}"
+    return cause, f"{told}: --halt {fitting[0]} makes it the state in which the machine halts"
+
+
+def halts_in(question: Question, it: Input, halt: str) -> bool:
+    """Whether `standard` takes the machine where it halts in this state."""
+    other = Input(it.name, it.kind, it.data, list(it.rows))
+    try:
+        put_halting_last(other, halt)
+    except Stop:
+        return False
+    return question.ask(["standard"], csv_of(other.rows))[0] == DONE
 
 
 def letter(found: re.Match[str], question: Question, cause: str, remedy: str) -> tuple[str, str]:
     """A letter that the table doesn't have: which, where, and the letters it has."""
-    place = int(found[found.lastindex or 1])
-    tape = int(found[1]) if found.lastindex == 2 else 1
+    place, tape = int(found[2] or found[1]), int(found[1]) if found[2] else 1
     word = question.given[tape - 1] if len(question.given) >= tape else ""
     is_named = "," in word
     parts = word.split(",") if is_named else list(word)
     symbol = parts[place - 1] if place <= len(parts) else "?"
     letters = alphabet(question, tape)
-    where = f"place {place} of the word" + (f" on tape {tape}" if found.lastindex == 2 else "")
+    where = f"place {place} of the word" + (f" on tape {tape}" if found[2] else "")
     told = (
         f"letter `{symbol}` ({where}) is the blank"
         if symbol == "_"
@@ -256,10 +293,12 @@ def too_large(found: re.Match[str], question: Question, cause: str, remedy: str)
 
 def short(found: re.Match[str], question: Question, cause: str, remedy: str) -> tuple[str, str]:
     """A word that is longer than its tape's right side."""
-    option = {"1": "--right", "2": "--history", "3": "--output"}[found[1] if found.lastindex == 2 else "1"]
-    if "size: word needs" in found[0] and question.command == "erase":
-        return cause, "a word has at most 1,048,576 letters"
-    return cause, f"{option} {found[found.lastindex or 1]} or more"
+    option = {"1": "--right", "2": "--history", "3": "--output"}[found[1] or "1"]
+    if question.command == "erase" or "auto" in question.words:
+        return f"the word has {int(found[2]):,} letters", "a word has at most 1,048,576 letters"
+    if question.is_exact:
+        return cause, f"r{found[1] or 1} must be {found[2]} or more"
+    return cause, f"{option} {found[2]} or more"
 
 
 More = Callable[["re.Match[str]", "Question", str, str], "tuple[str, str]"]
@@ -275,3 +314,14 @@ MORE: list[tuple[str, More]] = [
     (r"size: elements (\d+)", too_large),
     (r"size: word (?:(\d+) )?needs (\d+)", short),
 ]
+
+
+def explained_exactly(words: list[str], status: int, text: bytes, data: bytes, ask: Ask) -> Stop:
+    """What the refusal of an exact form means, whose input came by standard input."""
+    from .cli_run import Question
+
+    inputs = []
+    for part in split_parts(data) or (data,):
+        inputs.append(Input("standard input", kind_of(part), part, records_of(text_of(part))))
+    given = [word[1:] for word in words[1:] if word.startswith(("=", ":"))]
+    return explained(words, status, text, Question(ask, words, data, inputs, given, None, words[0], True))

@@ -138,6 +138,8 @@ def kind_of(data: bytes) -> str:
     if re.match(r"\s*rotary\b", text):
         return "circuit"
     foreign = foreign_kind_of(text)
+    if foreign == "jflap" and not re.search(r"<(structure|automaton)\b", text):
+        return ""
     if foreign:
         return foreign
     rows = [row for _, row in records_of(text, delimiter_of(text)) if not is_comment(row)]
@@ -225,10 +227,15 @@ def tidy_table(it: Input, wanted: Wanted) -> Input:
         if wanted.halt:
             put_halting_last(it, wanted.halt)
     if it.notes:
-        made = io.StringIO()
-        csv.writer(made, lineterminator="\n").writerows(row for _, row in it.rows)
-        it.data = bytes_of(made.getvalue())
+        it.data = csv_of(it.rows)
     return it
+
+
+def csv_of(rows: list[tuple[int, list[str]]]) -> bytes:
+    """Records as the program reads them."""
+    made = io.StringIO()
+    csv.writer(made, lineterminator="\n").writerows(row for _, row in rows)
+    return bytes_of(made.getvalue())
 
 
 def moves_of(it: Input) -> list[tuple[int, int]]:
@@ -302,8 +309,8 @@ def put_halting_last(it: Input, halt: str) -> None:
     if it.rows[-1][1][-1] == halt:
         return
     at = max(number for number, (_, row) in enumerate(it.rows) if row[-1] == halt)
-    if at == 0 and len({row[0] for _, row in it.rows}) > 1:
-        raise Stop(f"{it.place(1)}: the first record alone leads to `{halt}`; another one has to be first", MACHINE)
+    if at == 0 and it.rows[0][1][0] != it.rows[1][1][0]:
+        raise Stop(f"{it.place(1)}: the first record alone leads to `{halt}`, and it has to be the last", MACHINE)
     it.rows.append(it.rows.pop(at))
     it.notes.append(f"{it.name}: the machine halts in `{halt}`; a record that leads there is put last")
 

@@ -38,6 +38,7 @@ class Question:
     given: list[str] = field(default_factory=list)
     found: Found | None = None
     command: str = ""
+    is_exact: bool = False
 
 
 class Translation:

@@ -1,10 +1,7 @@
 # shellcheck shell=bash disable=SC2154,SC2034
-# What ./workbench, ./try, tools/program and the installed command share: where the proved program stands, whether it was
-# built of the sources that stand, and when something is said beside it. Sourced, with the top of the repository in `top`
-# and the script's name in `script`. What is said is in tools/lib/front.sh, or where `front` says, which a call that is simply
-# answered doesn't read.
+# What ./workbench, ./try, ./hithwelor, tools/program and the installed command share: where the proved program is, and whether
+# it was built of the sources that are here. Sourced, with the top of the repository in `top` and the script's name in `script`.
 program=$top/crates/bn_main/out/bn_main
-front=${front-$top/tools/lib/front.sh}
 
 # The digests of all sources, in the form of `sha256sum`, a line a file. A source is told by its name, so that what an
 # editor leaves beside it is none; a new source counts from when one that is listed names it.
@@ -68,36 +65,4 @@ find_fault_of_module() {
 
 say() {
     printf '%s: %s\n' "$script" "$*" >&2
-}
-
-# Whether the words ask for help.
-asks_for_help() {
-    [[ $# = 1 && ($1 = help || $1 = --help || $1 = -h) ]]
-}
-
-# Answers words that ask for help: on standard output what the program says to them, and the forms beside it.
-show_help() {
-    . "$front"
-    echo usage
-    show_forms
-}
-
-# Says that a command waits for what is typed, where standard input is a terminal.
-tell_typing() {
-    [ -t 0 ] || return 0
-    . "$front"
-    reads_input "$@" && say "reading what is typed, up to Ctrl-D"
-}
-
-# Says what helps with this status of the program, where something does.
-tell_status() {
-    case $1 in
-    [2-8]) . "$front" ;;
-    *) return 0 ;;
-    esac
-    if [ "$1" = 2 ]; then
-        tell_usage "${@:2}"
-    else
-        tell_refusal "$@"
-    fi
 }

@@ -1,48 +1,37 @@
 #!/usr/bin/env bash
-# The installed command `hithwelor`: the proved program, or the same code as a module of node, with the words that
-# ./workbench says beside it. Standard output and the exit status are the program's own, but for --help and --version.
-# shellcheck disable=SC2034 # tools/lib/built.sh and tools/lib/front.sh read what is set here
+# The installed command `hithwelor`: the Python package, which takes arguments that one can guess; where Python 3.9 or later is
+# missing, the exact forms are answered by the proved program, or by the same code as a module under Node.js.
+# shellcheck disable=SC2034,SC2317 # tools/lib/front.sh reads what is set here, and calls choose_engine
 set -u
 top=$(readlink -f "${BASH_SOURCE[0]}")
 top=${top%/bin/*}
 library=$top/lib/hithwelor
 script=hithwelor
-front=$library/front.sh
-manual=hithwelor
-help_page=$top/share/doc/hithwelor/docs/use/help.md
+packages=$library/python
+tables=$library
 . "$library/built.sh"
+. "$library/front.sh"
 
-# Runs the program, or the module, with the words given.
-run() {
+# The engine that is installed. Sets `engine`, or `fault`.
+choose_engine() {
     local version
     if [ -x "$library/hithwelor" ]; then
-        "$library/hithwelor" "$@"
+        engine=("$library/hithwelor")
     elif version=$(node --version 2>/dev/null) && [[ $version =~ ^v([0-9]+)\. ]] && ((BASH_REMATCH[1] >= 18)); then
-        node "$library/hithwelor.js" "$@"
+        engine=(node "$library/hithwelor.js")
     else
-        say "what is installed here is run by node 18 or later, and ${version:-none} is on the path"
-        exit 1
+        fault="what is installed here needs Node.js 18 or later, and ${version:-none} is on the path"
+        return 1
     fi
 }
 
+if has_python; then
+    export PYTHONPATH=$packages${PYTHONPATH:+:$PYTHONPATH} PYTHONDONTWRITEBYTECODE=1
+    exec python3 -m hithwelor "$@"
+fi
 if [[ $# = 1 && $1 = --version ]]; then
     printf 'hithwelor %s\n' "$(<"$library/version")"
     exit 0
 fi
-# Two words are the Python package's own; the program has no command of these names.
-if [[ ${1-} = sweep || ${1-} = plot ]]; then
-    if [ ! -d "$library/python/hithwelor" ]; then
-        say "$1 is a word of the Python package, which isn't installed here: tools/install --python installs it too"
-        exit 2
-    fi
-    PYTHONPATH=$library/python${PYTHONPATH:+:$PYTHONPATH} exec python3 -m hithwelor "$@"
-fi
-if asks_for_help "$@"; then
-    show_help
-    exit 0
-fi
-tell_typing "$@"
-run "$@"
-status=$?
-tell_status "$status" "$@"
-exit "$status"
+answer_exactly "$@"
+exit
