@@ -5,5 +5,8 @@ import * as command from "../js/command.mjs";
 import {Workbench} from "../js/core.mjs";
 
 export const workbench = () => new Workbench(new WebAssembly.Module(code));
-export const main = () => command.main(workbench());
+export const main = () => {
+  command.refuseOld();
+  return command.main(workbench());
+};
 export const serve = () => command.serve(workbench());

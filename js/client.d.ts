@@ -1,19 +1,7 @@
-// What client.mjs gives: the workbench in a worker, where each request is a promise.
-import type {Bytes} from "./hithwelor.js";
+// What "hithwelor/client" gives: the workbench in a worker, where each request is a promise.
+import type {Client, ModuleSource} from "./types.cjs";
 
-export interface Options {
-  /** Aborting it rejects the promise with the signal's reason, and ends the worker if it has this request. */
-  readonly signal?: AbortSignal;
-}
+export type {Client, Options, Signal} from "./types.cjs";
 
-/** A worker that has one request at a time; the others wait in their order. */
-export interface Client {
-  /** The status and the text of the program's answer to words and an input. */
-  answer(words: Iterable<Bytes>, input?: Bytes, options?: Options): Promise<{status: number; text: string}>;
-  answerBytes(words: Iterable<Bytes>, input?: Bytes, options?: Options): Promise<{status: number; text: Uint8Array}>;
-  /** Ends the worker; requests that have no answer yet are rejected. */
-  close(): void;
-}
-
-/** A client whose worker answers by the module beside hithwelor.mjs, or by the one that is given. */
-export function connect(options?: {module?: WebAssembly.Module | Uint8Array | ArrayBuffer | Response | string | URL}): Promise<Client>;
+/** A client whose workers answer by the module of the package, or by the one that is given. */
+export function connect(options?: {module?: ModuleSource}): Promise<Client>;

@@ -1,20 +1,12 @@
-// A client of worker.mjs, in browsers and in node: each request is a promise, and may be ended by an AbortSignal.
+// A client of a worker: each request is a promise, and may be ended by an AbortSignal. This one is for browsers, and
+// client-node.mjs for Node.js.
 //
 // The worker has one request at a time. Requests and answers are numbered, and a request that is aborted ends its worker:
 // no answer is left for a later request.
-import {NoMemory, bytesOf, listed, moduleOf} from "./hithwelor.mjs";
+import {moduleOf} from "./hithwelor.mjs";
+import {NoMemory, bytesOf, decoder, listed} from "./values.mjs";
 
-const threads = () => import(/* @vite-ignore */ /* webpackIgnore: true */ "node:worker_threads");
-const decoder = new TextDecoder();
-
-async function started(module) {
-  const url = new URL("worker.mjs", import.meta.url);
-  const worker = typeof Worker === "undefined" ? new (await threads()).Worker(url) : new Worker(url, {type: "module"});
-  worker.postMessage({module});
-  return worker;
-}
-
-// Has `heard` called with each message of a worker, and `failed` where it fails or ends.
+// Has `heard` called with each message of a worker, and `failed` if it fails or ends.
 function listen(worker, heard, failed) {
   if (worker.on) worker.on("message", heard).on("error", failed).on("exit", () => failed(new Error("the worker has ended")));
   else {
@@ -24,6 +16,7 @@ function listen(worker, heard, failed) {
 }
 
 export class Client {
+  #started;
   #module;
   #worker = null;
   #queue = [];
@@ -31,7 +24,9 @@ export class Client {
   #number = 0;
   #isClosed = false;
 
-  constructor(module) {
+  // `started` gives a new worker, which is handed the module.
+  constructor(started, module) {
+    this.#started = started;
     this.#module = module;
   }
 
@@ -71,29 +66,22 @@ export class Client {
     for (const request of left) request.fail(new Error("the client is closed"));
   }
 
-  async #next() {
+  #next() {
     if (this.#asked || this.#queue.length === 0) return;
     const request = this.#asked = this.#queue.shift();
     const number = request.number = ++this.#number;
     try {
-      if (!this.#worker) await this.#start();
-    } catch (fault) {
-      this.#settle(request, () => request.fail(fault));
-      return;
-    }
-    if (this.#asked === request) {
+      if (!this.#worker) this.#start();
       this.#worker.ref?.();
       this.#worker.postMessage({number, words: request.words, input: request.input, isBytes: true});
-    } else if (!this.#asked) this.#next();
+    } catch (fault) {
+      this.#settle(request, () => request.fail(fault));
+    }
   }
 
-  async #start() {
-    const worker = await started(this.#module);
-    if (this.#isClosed || this.#worker) {
-      worker.terminate();
-      return;
-    }
-    this.#worker = worker;
+  #start() {
+    const worker = this.#worker = this.#started();
+    worker.postMessage({module: this.#module});
     listen(worker, message => this.#heard(worker, message), fault => this.#failed(worker, fault));
   }
 
@@ -136,5 +124,5 @@ export class Client {
 
 // A client whose workers answer by the module beside this file, or by the one that is given.
 export async function connect({module} = {}) {
-  return new Client(await moduleOf(module));
+  return new Client(() => new Worker(new URL("./worker.mjs", import.meta.url), {type: "module"}), await moduleOf(module));
 }

@@ -1,314 +1,13 @@
-// The workbench from JavaScript: the proved program as a WebAssembly module, in node, in browsers and in workers. `load`
-// gives `answer`, which hands words and an input to the program, and `Machine`, whose calls read what it prints. Nothing
-// is computed here; names are given to parts.
+// The workbench from JavaScript: the proved program as a WebAssembly module, in browsers and in workers; node.mjs is the same in
+// Node.js. `load` gives `answer`, which hands words and an input to the program, and the classes whose calls read what it
+// prints. Nothing is computed here.
 import {Workbench} from "./core.mjs";
+import {machineClasses} from "./machines.mjs";
+import {NoMemory, Refused, Tape, bytesOf, decoder, joined} from "./values.mjs";
 
-const STATUSES = {
-  2: "usage", 3: "text", 4: "machine", 5: "word", 6: "size", 7: "read fault", 8: "write fault", 9: "no memory",
-};
-const DONE = 0, MACHINE = 4, NO_MEMORY = 9, STUCK = 10, WINDOW = 11, INSIDE = 12;
-const BLANK = "_";
-const MOST_STEPS = 1048576;
-const MOST_DRIVE_STEPS = 2n ** 61n;
-const coder = new TextEncoder(), decoder = new TextDecoder();
+export {NoMemory, Refused, Tape};
 
-// The program refused the words or the input: `status` is its exit code, `text` the line that it printed.
-export class Refused extends Error {
-  constructor(status, text) {
-    super(`${text.trim()} (status ${status}, ${STATUSES[status] ?? "unknown"})`);
-    Object.assign(this, {name: "Refused", status, text});
-  }
-}
-
-// The program ran out of memory (status 9), or its memory or its stack was at its end; the next answer begins anew.
-export class NoMemory extends Error {
-  constructor(why = "the program ran out of memory", options) {
-    super(why, options);
-    this.name = "NoMemory";
-  }
-}
-
-export function bytesOf(data, what) {
-  if (typeof data === "string") return coder.encode(data);
-  if (data instanceof Uint8Array) return data;
-  if (data instanceof ArrayBuffer) return new Uint8Array(data);
-  throw new TypeError(`${what} is a string or bytes, and not ${data === null ? "null" : typeof data}`);
-}
-
-// The words, each as bytes.
-export function listed(words) {
-  if (typeof words === "string" || typeof words?.[Symbol.iterator] !== "function") {
-    throw new TypeError("words is a sequence of words, and not one text");
-  }
-  const list = Array.from(words, word => bytesOf(word, "a word"));
-  if (list.some(word => word.includes(0))) throw new RangeError("a word has no byte 0");
-  return list;
-}
-
-// The words as bytes with a byte 0 between them.
-function joined(words) {
-  const list = listed(words), all = new Uint8Array(list.reduce((sum, word) => sum + word.length + 1, -1 + (list.length === 0)));
-  let at = 0;
-  for (const word of list) {
-    all.set(word, at);
-    at += word.length + 1;
-  }
-  return all;
-}
-
-// A number as a word. One that is no longer exact is refused: it would be spelled as another.
-function spelled(number) {
-  if (typeof number === "bigint" || Number.isSafeInteger(number)) return String(number);
-  throw new RangeError(`${number} is no whole number up to 2^53 - 1; give a greater one as a BigInt`);
-}
-
-// A number of a text, where it is exact.
-function counted(text) {
-  const number = Number(text);
-  if (!Number.isSafeInteger(number)) throw new RangeError(`${text} is above 2^53 - 1; the text has it`);
-  return number;
-}
-
-const windowWords = window => {
-  const numbers = Array.from(window);
-  if (numbers.length !== 4) throw new RangeError(`a window is four numbers, l1, r1, n and r3, and not ${numbers.length}`);
-  return numbers.map(spelled);
-};
-// A word on tape 1, or one on each of three tapes, as the program reads them: letters, or names of symbols.
-const tapeWords = words => {
-  const list = typeof words === "string" || words.names ? [words] : [...words];
-  if (list.length !== 1 && list.length !== 3) throw new TypeError(`a machine of quadruples starts with one word, or three, and not ${list.length}`);
-  return list.map(word => typeof word === "string" ? `=${word}` : `:${word.names.join(",")}`);
-};
-const behind = (text, front) => text.startsWith(front) ? text.slice(front.length) : text;
-const linesOf = text => text.split("\n").slice(0, -1);
-
-// The symbols without the blanks at both ends: joined if each has one letter, else with spaces between them.
-function wordOf(symbols) {
-  const from = symbols.findIndex(it => it !== BLANK), to = symbols.findLastIndex(it => it !== BLANK);
-  return from < 0 ? "" : symbols.slice(from, to + 1).join(symbols.every(it => it.length === 1) ? "" : " ");
-}
-
-// A tape, from the first cell that is shown to the last one. Its fields are plain values, so it can be cloned; `new Tape` of
-// a clone has the calls again.
-export class Tape {
-  constructor({number, first, head, symbols}) {
-    Object.assign(this, {number, first, head, symbols: [...symbols], word: wordOf(symbols)});
-  }
-
-  get length() {
-    return this.symbols.length;
-  }
-
-  get positions() {
-    return this.symbols.map((_, place) => this.first + place);
-  }
-
-  at(position) {
-    const symbol = this.symbols[position - this.first];
-    if (symbol === undefined) {
-      throw new RangeError(`tape ${this.number} is shown from ${this.first} to ${this.first + this.length - 1}`);
-    }
-    return symbol;
-  }
-
-  [Symbol.iterator]() {
-    return this.symbols[Symbol.iterator]();
-  }
-}
-
-function readTape(line) {
-  const found = /^tape ([123]) from (-?\d+) head (-?\d+|\?):((?: \S+)*)$/.exec(line);
-  if (!found) throw new Error(`${JSON.stringify(line)} isn't the line of a tape`);
-  return new Tape({number: Number(found[1]), first: Number(found[2]), head: found[3] === "?" ? null : Number(found[3]),
-                   symbols: found[4].split(" ").slice(1)});
-}
-
-function readOutcome(text) {
-  const [first, second] = text.split("\n"), words = first.split(" ");
-  if (words[0] === "stuck") {
-    return {kind: "stuck", steps: counted(words[3]), output: null, state: words[1], letter: words[2], text};
-  }
-  const output = words[0] === "halted" ? behind(second, "output =") : null;
-  return {kind: words[0], steps: counted(words[1]), output, state: null, letter: null, text};
-}
-
-function readExit(words) {
-  const [kind, ...rest] = words.split(" ");
-  const none = {kind, state: null, letter: null, tape: null, side: null, symbols: []};
-  if (kind === "stuck" && rest.length === 4) return {...none, state: rest[0], symbols: rest.slice(1)};
-  if (kind === "stuck") return {...none, state: rest[0], letter: rest[1]};
-  if (kind === "window") return {...none, tape: Number(rest[0]), side: rest[1]};
-  return none;
-}
-
-function readRun(text, window) {
-  const told = new Map(), tapes = [];
-  for (const line of linesOf(text)) {
-    if (line.startsWith("tape ")) tapes.push(readTape(line));
-    else told.set(line.split(" ", 1)[0], line.slice(line.indexOf(" ") + 1));
-  }
-  if (told.has("window")) window = told.get("window").split(" ").map(Number);
-  const quadruple = told.get("quadruple"), output = told.get("output");
-  return {window, elements: counted(told.get("elements")), exit: readExit(told.get("exit") ?? "inside"),
-          steps: counted(told.get("steps")), quadrupleSteps: quadruple ? counted(behind(quadruple, "steps ")) : null, tapes,
-          output: output === undefined ? null : behind(output, "="), text};
-}
-
-const LOOK_LINES = 6, VIEW_LINES = 7;
-
-function readLook(lines) {
-  const element = /^element (at|left) (\S+) steps (\d+)$/.exec(lines[0]);
-  return {place: element[2], hasLeft: element[1] === "left", steps: counted(element[3]), module: lines[1],
-          quadruple: behind(lines[2], "quadruple "), tapes: lines.slice(3, 6).map(readTape),
-          text: lines.map(line => `${line}\n`).join("")};
-}
-
-function readView(lines) {
-  const layer = behind(lines[6], "machine "), cut = layer.indexOf(" ");
-  return {...readLook(lines.slice(0, LOOK_LINES)), stage: cut < 0 ? layer : layer.slice(0, cut),
-          machine: cut < 0 ? "" : layer.slice(cut + 1), text: lines.map(line => `${line}\n`).join("")};
-}
-
-// The answers to a script, one an entry, in order, read as they are asked for; `read` reads so many lines as are shown.
-function* readSession(text, count, read) {
-  const lines = linesOf(text);
-  for (let at = 0; at < lines.length; at++) {
-    if (!lines[at].startsWith("element ")) yield lines[at];
-    else {
-      yield read(lines.slice(at, at + count));
-      at += count - 1;
-    }
-  }
-}
-
-// The classes of machines whose calls this `answer` answers.
-function machineClasses(answer) {
-  class Table {
-    constructor(table) {
-      this.table = typeof table === "string" ? table : decoder.decode(table);
-    }
-
-    // The program's answer as text; a status that isn't one of these is Refused.
-    ask(words, statuses = [DONE], input = this.table) {
-      const {status, text} = answer(words, input);
-      if (!statuses.includes(status)) throw new Refused(status, text);
-      return text;
-    }
-
-    // The table, the line %, and a script: its commands as a sequence, or as one text.
-    withScript(script) {
-      const lines = typeof script === "string" ? script : Array.from(script, line => `${line}\n`).join("");
-      const table = this.table.endsWith("\n") ? this.table : `${this.table}\n`;
-      return `${table}%\n${lines}`;
-    }
-  }
-
-  class Machine extends Table {
-    check() {
-      return this.ask(["check"]).trim();
-    }
-
-    get isStandard() {
-      try {
-        this.check();
-        return true;
-      } catch (refused) {
-        if (refused instanceof Refused && refused.status === MACHINE) return false;
-        throw refused;
-      }
-    }
-
-    standard() {
-      return new Machine(this.ask(["standard"]));
-    }
-
-    bennett() {
-      return this.ask(["bennett"]);
-    }
-
-    reversible() {
-      return new ReversibleMachine(this.bennett());
-    }
-
-    byItself(word, steps = MOST_STEPS) {
-      return readOutcome(this.ask(["machine", `=${word}`, spelled(steps)], [DONE, STUCK, INSIDE]));
-    }
-
-    run(word, window = "auto", steps = null) {
-      if (window === "auto") {
-        if (steps !== null) throw new TypeError("a run of so many steps needs a window");
-        return readRun(this.ask(["run", `=${word}`, "auto"], [DONE, STUCK, WINDOW]), null);
-      }
-      const words = ["run", `=${word}`, ...windowWords(window), ...(steps === null ? [] : [spelled(steps)])];
-      return readRun(this.ask(words, [DONE, STUCK, WINDOW, INSIDE]), words.slice(2, 6).map(Number));
-    }
-
-    view(word, window, steps) {
-      return readView(linesOf(this.ask(["view", `=${word}`, ...windowWords(window), spelled(steps)])));
-    }
-
-    // The answers to a script.
-    session(word, window, script) {
-      const words = ["session", `=${word}`, ...windowWords(window)];
-      return [...readSession(this.ask(words, [DONE], this.withScript(script)), VIEW_LINES, readView)];
-    }
-
-    compile(word, window) {
-      return this.ask(["compile", `=${word}`, ...windowWords(window)]);
-    }
-
-    // The lines of what that circuit is made of.
-    layout(word, window) {
-      return linesOf(this.ask(["layout", `=${word}`, ...windowWords(window)]));
-    }
-  }
-
-  // A machine of quadruples.
-  class ReversibleMachine extends Table {
-    verdicts() {
-      return this.ask(["reversible"]);
-    }
-
-    get isReversible() {
-      return this.verdicts() === "deterministic yes\nreversible yes\n";
-    }
-
-    inverse() {
-      return new ReversibleMachine(this.ask(["inverse"]));
-    }
-
-    // The lines of the moments of a run from a word on tape 1, or one on each of the three tapes.
-    moments(words, steps = MOST_STEPS) {
-      const list = typeof words === "string" ? [words] : [...words];
-      if (list.length !== 1 && list.length !== 3) throw new TypeError(`a run begins with one word, or three, and not ${list.length}`);
-      return linesOf(this.ask(["moments", ...list.map(word => `=${word}`), spelled(steps)], [DONE, STUCK, INSIDE]));
-    }
-
-    build(words, window) {
-      return this.ask(["build", ...tapeWords(words), ...windowWords(window)]);
-    }
-
-    // The run of that circuit, to its exit or of at most so many element steps.
-    drive(words, window, steps = MOST_DRIVE_STEPS) {
-      const list = ["drive", ...tapeWords(words), ...windowWords(window), spelled(steps)];
-      return readRun(this.ask(list, [DONE, STUCK, WINDOW, INSIDE]), list.slice(-5, -1).map(Number));
-    }
-
-    // Every layer of that circuit after at most so many element steps.
-    look(words, window, steps) {
-      return readLook(linesOf(this.ask(["look", ...tapeWords(words), ...windowWords(window), spelled(steps)])));
-    }
-
-    // The answers to a script that is played on that circuit.
-    play(words, window, script) {
-      const list = ["play", ...tapeWords(words), ...windowWords(window)];
-      return [...readSession(this.ask(list, [DONE], this.withScript(script)), LOOK_LINES, readLook)];
-    }
-  }
-
-  return {Machine, ReversibleMachine};
-}
+const OUT_OF_MEMORY = 9;
 
 // The module: a compiled one, its bytes, a Response, or its address; without any, the module beside this file.
 export async function moduleOf(source = new URL("hithwelor.wasm", import.meta.url)) {
@@ -316,19 +15,16 @@ export async function moduleOf(source = new URL("hithwelor.wasm", import.meta.ur
   if (source instanceof Uint8Array || source instanceof ArrayBuffer) return WebAssembly.compile(source);
   if (typeof source === "string" || source instanceof URL) {
     const url = new URL(source, import.meta.url);
-    if (url.protocol === "file:") {
-      const {readFile} = await import(/* @vite-ignore */ /* webpackIgnore: true */ "node:fs/promises");
-      return WebAssembly.compile(await readFile(url));
-    }
+    if (url.protocol === "file:") throw new Error(`${url} is a file, which node.mjs reads: import "hithwelor", or that file`);
     source = await fetch(url);
     if (!source.ok) throw new Error(`${url}: ${source.status} ${source.statusText}`);
   }
   return WebAssembly.compile(await source.arrayBuffer());
 }
 
-// The workbench, by the module beside this file, or by the one that is given.
-export async function load({module} = {}) {
-  const compiled = await moduleOf(module), bench = new Workbench(compiled);
+// The workbench of a compiled module.
+export function workbenchOf(compiled) {
+  const bench = new Workbench(compiled);
 
   // Status and text, as bytes, of the program's answer to words and an input.
   function answerBytes(words, input = "") {
@@ -339,7 +35,7 @@ export async function load({module} = {}) {
     } catch (fault) {
       throw new NoMemory(`the answer was cut off: ${fault.message ?? fault}`, {cause: fault});
     }
-    if (answered.status === NO_MEMORY) throw new NoMemory();
+    if (answered.status === OUT_OF_MEMORY) throw new NoMemory();
     return answered;
   }
 
@@ -348,5 +44,11 @@ export async function load({module} = {}) {
     return {status, text: decoder.decode(text)};
   }
 
-  return {answer, answerBytes, ...machineClasses(answer), module: compiled, memory: () => bench.memory()};
+  return {answer, answerBytes, ...machineClasses(answer), NoMemory, Refused, Tape, module: compiled,
+          memory: () => bench.memory()};
+}
+
+// The workbench, by the module beside this file, or by the one that is given.
+export async function load({module} = {}) {
+  return workbenchOf(await moduleOf(module));
 }

@@ -28,6 +28,29 @@ const {Machine} = await load();
 console.log(new Machine("S,_,_,+,T\\nT,_,_,0,F\\n").check());
 """
 TABLE, SAID = "S,_,_,+,T\nT,_,_,0,F\n", "standard states 3 symbols 1 quintuples 2\n"
+ASK_CJS = """const {load} = require("hithwelor"), {connect} = require("hithwelor/client");
+load().then(({Machine, Refused}) => {
+  console.log(new Machine("S,_,_,+,T\\nT,_,_,0,F\\n").check());
+  if (!(new Refused(2, "usage") instanceof Error)) throw new Error("no error");
+  return connect();
+}).then(client => client.answer(["nonsense"])).then(({status, text}) => console.log(status, text.trim()));
+"""
+# What is bundled: the package and its client; the module is handed over as bytes, by a path that is given.
+BUNDLED = """import {load} from "hithwelor";
+import {connect} from "hithwelor/client";
+const name = "fs", {readFileSync} = await import(name);
+const {Machine} = await load({module: readFileSync(process.argv[2])});
+if (typeof connect !== "function") throw new Error("no client");
+console.log(new Machine("S,_,_,+,T\\nT,_,_,0,F\\n").check());
+"""
+# The bundlers, each with its words for a platform and a file.
+BUNDLERS = {
+    "esbuild": lambda platform, made: [
+        *("bundled.mjs", "--bundle", "--format=esm", f"--platform={platform}", f"--outfile={made}"),
+        "--log-level=warning",
+    ],
+    "rollup": lambda platform, made: ["bundled-rollup.mjs", "--format", "es", "--file", made, "--silent"],
+}
 # What the page of the server does: an answer by itself, and one by a worker.
 PAGE = """<!doctype html><script type="module">
 import {load} from "./hithwelor.mjs";
@@ -112,7 +135,13 @@ def installed(tmp_path_factory, home, needs):
     for name, text in {
         "package.json": '{"private": true}\n',
         "ask.mjs": ASK,
+        "ask.cjs": ASK_CJS,
+        "bundled.mjs": BUNDLED,
+        "bundled-rollup.mjs": BUNDLED.replace('"hithwelor', '"./node_modules/hithwelor/hithwelor.mjs').replace(
+            "hithwelor.mjs/client", "client.mjs"
+        ),
         "types.mts": text_of("js", "test", "types.ts"),
+        "types.cts": text_of("js", "test", "types.cts"),
     }.items():
         (folder / name).write_text(text, encoding="utf-8")
     ran = run(["npm", "install", packed(str(tmp_path_factory.mktemp("tarball")), home)], cwd=folder, env=home)
@@ -131,26 +160,38 @@ def test_the_installed_command_answers(installed, node):
     )
 
 
-def test_the_types(installed, needs):
+@pytest.mark.parametrize("kind", ["mts", "cts"])
+@pytest.mark.parametrize("libraries", ["es2022", "es2022,dom"])
+def test_the_types(installed, needs, libraries, kind):
+    """Of a user's program, for modules and for CommonJS, with the DOM's types and without any."""
     needs("tsc")
-    ran = run(
-        [
-            "tsc",
-            "--noEmit",
-            "--strict",
-            "--target",
-            "es2022",
-            "--module",
-            "node16",
-            "--moduleResolution",
-            "node16",
-            "--lib",
-            "es2022,dom",
-            "types.mts",
-        ],
-        cwd=installed,
-    )
+    strict = ["--noEmit", "--strict", "--skipLibCheck", "false", "--target", "es2022", "--lib", libraries]
+    ran = run(["tsc", *strict, "--module", "node16", "--moduleResolution", "node16", f"types.{kind}"], cwd=installed)
     assert ran.returncode == 0, ran.stdout
+
+
+def test_commonjs_has_the_package_and_its_client(installed, node):
+    ran = run([node, "ask.cjs"], cwd=installed)
+    assert ran.stdout == SAID + "2 usage\n"
+
+
+@pytest.mark.parametrize("bundler, platform", [("esbuild", "browser"), ("esbuild", "node"), ("rollup", "browser")])
+def test_it_is_bundled(installed, needs, any_node, bundler, platform):
+    """By what a user has, without a warning; for browsers with nothing of Node.js in it."""
+    needs(bundler)
+    made = f"made-{bundler}-{platform}.mjs"
+    ran = run([bundler, *BUNDLERS[bundler](platform, made)], cwd=installed)
+    text = (installed / made).read_text(encoding="utf-8")
+    assert ran.returncode == 0 and "arning" not in ran.stdout, ran.stdout
+    assert bool(re.search(r"""["']node:""", text)) == (platform == "node")
+    module = os.path.join("node_modules", "hithwelor", "hithwelor.wasm")
+    assert run([any_node, made, module], cwd=installed).stdout == SAID
+
+
+def test_an_old_node_is_refused_by_its_version(any_node):
+    command = os.path.join(JS, "command.mjs")
+    ran = run([any_node, "--input-type=module", "-e", f"import {{refuseOld}} from {command!r}; refuseOld('16.20.2')"])
+    assert (ran.returncode, ran.stdout) == (1, "hithwelor: this is Node.js 16.20.2, and 18 or later is needed\n")
 
 
 class Handler(http.server.SimpleHTTPRequestHandler):

@@ -5,7 +5,7 @@ import fs from "node:fs";
 import test from "node:test";
 import {fileURLToPath} from "node:url";
 import {Worker} from "node:worker_threads";
-import {NoMemory, Refused, Tape, load} from "../hithwelor.mjs";
+import {NoMemory, Refused, Tape, load} from "../node.mjs";
 
 const at = path => new URL(path, import.meta.url);
 const example = name => fs.readFileSync(at(`../../examples/${name}`), "utf8");
@@ -88,7 +88,7 @@ test("a module that is handed over, as bytes and compiled", async () => {
 });
 
 test("a worker", async () => {
-  const worker = new Worker(at("../worker.mjs"));
+  const worker = new Worker(at("../worker-node.mjs"));
   const told = await new Promise((done, fail) => {
     worker.on("message", done).on("error", fail);
     worker.postMessage({module});

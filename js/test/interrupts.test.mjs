@@ -4,8 +4,8 @@ import assert from "node:assert/strict";
 import fs from "node:fs";
 import test from "node:test";
 import vm from "node:vm";
-import {connect} from "../client.mjs";
-import {load} from "../hithwelor.mjs";
+import {connect} from "../client-node.mjs";
+import {load} from "../node.mjs";
 
 const table = fs.readFileSync(new URL("../../examples/increment.csv", import.meta.url), "utf8");
 const long = ["run", "=1011", "auto"], MOST = 30, ROUNDS = 25, LATER = 3;

@@ -12,7 +12,7 @@ import threading
 from collections.abc import Sequence
 from typing import Union
 
-from .engine import LEAST_NODE, Engine, Library, Node, Unavailable
+from .engines import LEAST_NODE, Engine, Library, Node, Unavailable
 
 __all__ = ["Bytes", "Engine", "HERE", "Library", "Node", "NoMemory", "TOP", "Unavailable", "VARIABLE", "answer", "way"]
 

@@ -13,7 +13,7 @@ import time
 from typing import IO, NoReturn
 
 from .. import answers
-from ..engine import HEAD, MOST_NUMBER, piped, write_all
+from ..engines import HEAD, MOST_NUMBER, piped, write_all
 
 LOOK = 0.3
 PACKAGES = os.path.dirname(answers.HERE)

@@ -1,0 +1,4 @@
+// The client of a worker for CommonJS in Node.js.
+"use strict";
+
+exports.connect = async options => (await import("./client-node.mjs")).connect(options);
