@@ -75,7 +75,7 @@ pictures.plot(element, "letters of the word", is_log=True, fits=["element steps"
 # The window is given now: three of its four numbers stay, and one grows.
 # %%
 def elements(machine, word, window):
-    return int(machine.compile(word, window).split("\n", 2)[1].split(" ")[1])
+    return machine.compile(word, window).elements
 
 
 names = ["work tape, left", "work tape, right", "history", "output"]

@@ -86,10 +86,10 @@ print("in this window:", f"{run.elements:,} elements,", f"{run.steps:,} element 
 short = word[:1]
 small = machine.run(short)
 start = machine.compile(short, small.window)
-left = ask("step", str(small.steps), on=start)
-home = ask("step", str(small.steps), on=ask("mirror", on=left))
+left = start.step(small.steps)
+home = left.mirror().step(small.steps)
 print(f"{small.elements:,} elements, {small.steps:,} steps there and {small.steps:,} steps of the mirror")
-print("the first text again:", ask("mirror", on=home) == start)
+print("the first text again:", home.mirror() == start)
 # %% [markdown]
 # ## 6 Without its word
 #

@@ -49,6 +49,12 @@ def test_the_package_has_types(cache):
     assert ran.returncode == 0, ran.stdout
 
 
+def test_a_users_program_has_types(cache):
+    user = os.path.join("python", "tests", "user_program.py")
+    ran = checked(TOP, cache, "--strict", "--follow-imports", "silent", "--python-version", "3.10", user)
+    assert ran.returncode == 0, ran.stdout
+
+
 @pytest.mark.parametrize(
     "folders", [["tools", "tools/build", "tools/lib", "embed", "check"], ["bench"], ["docs/pictures"]], ids=" ".join
 )
@@ -63,7 +69,7 @@ def test_tools_and_measures_agree_with_their_types(cache, folders):
 @pytest.mark.parametrize(
     "path, right, wrong, told",
     [
-        ("texts.py", "int(words[1]), output=output", "words[1], output=output", "arg-type"),
+        ("texts.py", "int(words[0]), output=output", "words[0], output=output", "arg-type"),
         ("sweep/rows.py", "return code, counts, found or window", "return counts, code, found", "return-value"),
     ],
 )

@@ -1,34 +1,60 @@
 """Hithwelor, a verified workbench for reversible computing, from Python.
 
-`answer` hands words and an input to the program, and gives its status and its text. `Machine`, `ReversibleMachine` and what their calls give are
-small classes over it with the texts read and a picture in notebooks. Nothing is needed besides Python 3.
+`answer` hands words and an input to the program, and returns its status and its text. `Machine`, `ReversibleMachine`, `Circuit`
+and what their calls return are small classes over it, with the texts read and a picture in notebooks. Nothing is needed besides
+Python 3.9 and an engine: Node.js 18 or later, or the shared library.
 """
 from __future__ import annotations
 
-from .answers import NoMemory, Unavailable, answer, way
-from .machine import Machine, Names, ReversibleMachine
+from .answers import NoMemory, Unavailable, answer, close, engine, way
+from .arguments import Names, Window
+from .circuit import Circuit, Element, Farm, Plan, Wire, farm
+from .engines import Engine
+from .layouts import Layout, Module, Spot
+from .machine import Erasure, ErasingMachine, Machine, Quadruple, ReversibleMachine, Rule, SequentialMachine, generate
 from .tables import read_table
-from .texts import Exit, Look, Outcome, Refused, Run, Session, Tape, View, Window
+from .texts import Exit, Look, Outcome, Refused, Run, Session, Tape, View
+from .traces import Moment, Trace
 
 __version__: str
 
 __all__ = [
+    "Circuit",
+    "Element",
+    "Engine",
+    "Erasure",
+    "ErasingMachine",
     "Exit",
+    "Farm",
+    "Layout",
     "Look",
     "Machine",
+    "Module",
+    "Moment",
     "Names",
     "NoMemory",
     "Outcome",
+    "Plan",
+    "Quadruple",
     "Refused",
     "ReversibleMachine",
+    "Rule",
     "Run",
+    "SequentialMachine",
     "Session",
+    "Spot",
     "Tape",
+    "Trace",
     "Unavailable",
     "View",
     "Window",
+    "Wire",
     "__version__",
     "answer",
+    "close",
+    "engine",
+    "farm",
+    "generate",
     "read_table",
     "version",
     "way",

@@ -14,7 +14,21 @@ from typing import Union
 
 from .engines import LEAST_NODE, Engine, Library, Node, Unavailable
 
-__all__ = ["Bytes", "Engine", "HERE", "Library", "Node", "NoMemory", "TOP", "Unavailable", "VARIABLE", "answer", "way"]
+__all__ = [
+    "Bytes",
+    "Engine",
+    "HERE",
+    "Library",
+    "Node",
+    "NoMemory",
+    "TOP",
+    "Unavailable",
+    "VARIABLE",
+    "answer",
+    "close",
+    "engine",
+    "way",
+]
 
 HERE = os.path.dirname(os.path.abspath(__file__))
 TOP = os.path.dirname(os.path.dirname(HERE))
@@ -80,6 +94,18 @@ def way() -> Engine:
             path, *command = places()
             _kept.append(Node(path, *command) if command else Library(path))
         return _kept[0]
+
+
+def engine() -> Engine:
+    """The engine that answers, for a `with` statement that closes it at its end: with hithwelor.engine(): .."""
+    return way()
+
+
+def close() -> None:
+    """Ends the engine, if one runs; the next call starts another one."""
+    with _lock:
+        while _kept:
+            _kept.pop().close()
 
 
 def bytes_of(data: Bytes, what: str) -> bytes:

@@ -1,49 +1,91 @@
-"""Machines of quintuples and of quadruples, and what the program makes of them."""
+"""Machines of quintuples and of quadruples, and what the program makes of them.
+
+A word is a str of letters, without the blank `_`. Numbers of steps are whole numbers. Where the program refuses something, a
+call raises Refused with the program's own line; an argument of another type is a TypeError, a number beyond its limits a
+ValueError.
+"""
 from __future__ import annotations
 
+import csv
 import html
+import io
 import os
-from collections.abc import Iterable
-from typing import ClassVar, TypeVar, Union
+from collections.abc import Hashable, Iterable, Sequence
+from typing import TYPE_CHECKING, ClassVar, NamedTuple, SupportsIndex, TypeVar
 
 from .answers import answer
-from .texts import Look, Outcome, Refused, Run, Session, View, Window, checked
+from .arguments import (
+    MOST_DRIVE_STEPS,
+    MOST_ELEMENT_STEPS,
+    MOST_STEPS,
+    Names,
+    Window,
+    Word,
+    letters,
+    spelled,
+    text_of,
+    whole,
+    window_of,
+)
+from .circuit import Circuit
+from .layouts import Layout
+from .texts import BLANK, Look, Outcome, Refused, Run, Session, View, checked
+from .traces import Trace
 
-DONE, TEXT, MACHINE, STUCK, WINDOW, INSIDE = 0, 3, 4, 10, 11, 12
-# The greatest number of element steps of a drive.
-MOST_DRIVE_STEPS = 2**61
+if TYPE_CHECKING:
+    import networkx
 
+__all__ = [
+    "ErasingMachine",
+    "Machine",
+    "Names",
+    "Quadruple",
+    "ReversibleMachine",
+    "Rule",
+    "SequentialMachine",
+    "Table",
+    "Word",
+]
 
-class Names(tuple[str, ...]):
-    """A word by the names of its symbols, which may have more than one byte: Names(["10", "11"])."""
-
-    __slots__ = ()
-
-
-Word = Union[str, Names]
-
-
-def spelled(words: Word | Iterable[Word]) -> list[str]:
-    """A word on tape 1, or one on each of the three tapes, as the program reads them."""
-    chosen = [words] if isinstance(words, (str, Names)) else list(words)
-    if len(chosen) not in (1, 3):
-        raise ValueError(f"a machine of quadruples starts with one word, or three, and not {len(chosen)}")
-    return [f":{','.join(word)}" if isinstance(word, Names) else f"={word}" for word in chosen]
-
+DONE, MACHINE, STUCK, WINDOW, INSIDE = 0, 4, 10, 11, 12
+MOST_NAMES = 60
 
 Kind = TypeVar("Kind", bound="Table")
 
 
-class Table:
-    """A table that the program is asked about.
+class Rule(NamedTuple):
+    """A quintuple: in `state`, scanning `read`, the machine writes `write`, moves by `move` (`-`, `0` or `+`) and goes to
+    `next`."""
 
-    Where the program refuses something, a call raises Refused with the program's own line.
-    """
+    state: str
+    read: str
+    write: str
+    move: str
+    next: str
+
+
+class Quadruple(NamedTuple):
+    """A quadruple: in `state`, where the tapes 1, 2 and 3 show `read1` .. (`/` if a tape is not read), the machine does `act1`
+    .. (a symbol to write, or a shift `-`, `0`, `+`) and goes to `next`."""
+
+    state: str
+    read1: str
+    read2: str
+    read3: str
+    act1: str
+    act2: str
+    act3: str
+    next: str
+
+
+class Table:
+    """A table that the program is asked about. Two machines are equal if they have the same entries in the same order."""
 
     HEADS: ClassVar[tuple[str, ...]] = ()
+    ENTRY: ClassVar[str] = "entry"
 
     def __init__(self, table: str | bytes | bytearray) -> None:
-        self.table: str = table if isinstance(table, str) else table.decode()
+        self.table: str = text_of(table, "a table")
 
     @classmethod
     def open(cls: type[Kind], path: str | os.PathLike[str]) -> Kind:
@@ -51,28 +93,58 @@ class Table:
         with open(path, encoding="utf-8", newline="") as file:
             return cls(file.read())
 
+    @classmethod
+    def from_rules(cls: type[Kind], rules: Iterable[Sequence[object]]) -> Kind:
+        """The machine of these entries, each a sequence of fields."""
+        text = io.StringIO()
+        csv.writer(text, lineterminator="\n").writerows(rules)
+        return cls(text.getvalue())
+
+    @property
+    def entries(self) -> tuple[tuple[str, ...], ...]:
+        """The fields of each entry of the table, whether or not they have a meaning."""
+        rows = csv.reader(io.StringIO(self.table.removeprefix("\ufeff"), newline=""))
+        return tuple(tuple(row) for row in rows if row)
+
+    @property
+    def states(self) -> tuple[str, ...]:
+        """The names of the states, in the order of their first appearance."""
+        return tuple(dict.fromkeys(name for entry in self.entries for name in (entry[0], entry[-1])))
+
     def ask(self, words: Iterable[object], *statuses: int, data: str | None = None) -> str:
         """The program's answer to words and this table, as text; a status that isn't one of these is Refused."""
         return checked(
             *answer([str(word) for word in words], self.table if data is None else data), *(statuses or (DONE,))
         )
 
+    def beside(self, second: str) -> str:
+        """The table, the line %, and a second text."""
+        table = self.table if self.table.endswith("\n") else self.table + "\n"
+        return f"{table}%\n{second}"
+
     def with_script(self, script: str | Iterable[str]) -> str:
         """The table, the line %, and a script: its commands as a sequence, or as one text."""
-        script = script if isinstance(script, str) else "".join(f"{line}\n" for line in script)
-        table = self.table if self.table.endswith("\n") else self.table + "\n"
-        return f"{table}%\n{script}"
+        return self.beside(script if isinstance(script, str) else "".join(f"{line}\n" for line in script))
 
-    @staticmethod
-    def window(window: Iterable[int]) -> Window:
-        numbers = tuple(window)
-        if len(numbers) != 4:
-            raise ValueError(f"a window is four numbers, l1, r1, n and r3, and not {len(numbers)}")
-        left, right, history, output = numbers
-        return left, right, history, output
+    def _key(self) -> Hashable:
+        try:
+            return self.entries
+        except csv.Error:
+            return self.table
+
+    def __eq__(self, other: object) -> bool:
+        return isinstance(other, Table) and type(other) is type(self) and self._key() == other._key()
+
+    def __hash__(self) -> int:
+        return hash((type(self), self._key()))
 
     def __repr__(self) -> str:
-        return f"{type(self).__name__}({self.table!r})"
+        try:
+            count, names = len(self.entries), ", ".join(self.states)
+        except (csv.Error, IndexError):
+            return f"{type(self).__name__}({self.table[:40]!r}..)"
+        names = names if len(names) <= MOST_NAMES else names[: MOST_NAMES - 2].rpartition(",")[0] + ", .."
+        return f"{type(self).__name__}({count} {self.ENTRY}{'' if count == 1 else 's'}; {names})"
 
     def _repr_html_(self) -> str:
         heads = "".join(f"<th>{head}</th>" for head in self.HEADS)
@@ -87,6 +159,28 @@ class Machine(Table):
     """A machine, by its table: a quintuple a line, `state,read,write,shift,next`, as docs/use/formats.md has it."""
 
     HEADS = ("state", "read", "write", "move", "next")
+    ENTRY = "quintuple"
+
+    @property
+    def rules(self) -> tuple[Rule, ...]:
+        """The quintuples; an entry of another number of fields is a TypeError."""
+        return tuple(Rule(*entry) for entry in self.entries)
+
+    @property
+    def letters(self) -> str:
+        """The letters of the table in the order of their first appearance, without the blank."""
+        return "".join(it for it in dict.fromkeys(it for rule in self.rules for it in rule[1:3]) if it != BLANK)
+
+    def graph(self) -> networkx.MultiDiGraph:
+        """The machine as a graph of networkx: states are nodes; quintuples are edges with their number from 1, `rule`, and
+        with `read`, `write` and `move`."""
+        import networkx
+
+        graph = networkx.MultiDiGraph()
+        graph.add_nodes_from(self.states)
+        for number, rule in enumerate(self.rules, 1):
+            graph.add_edge(rule.state, rule.next, rule=number, read=rule.read, write=rule.write, move=rule.move)
+        return graph
 
     def check(self) -> str:
         """The verdict on standard form, as the program prints it."""
@@ -108,51 +202,84 @@ class Machine(Table):
         return Machine(self.ask(["standard"]))
 
     def bennett(self) -> str:
-        """The table of Bennett's reversible machine."""
+        """The table of Bennett's reversible machine, as text."""
         return self.ask(["bennett"])
 
     def reversible(self) -> ReversibleMachine:
         """Bennett's reversible machine of this one."""
         return ReversibleMachine(self.bennett())
 
-    def by_itself(self, word: str, steps: int = 1_048_576) -> Outcome:
-        """The machine's own run from a word, of at most so many steps."""
-        return Outcome.read(self.ask(["machine", f"={word}", steps], DONE, STUCK, INSIDE))
+    def erase(self, second: Machine) -> ErasingMachine:
+        """The reversible machine that leaves only its output: this machine's, and then that of `second`, which finds the word
+        again from the output, run backward."""
+        if not isinstance(second, Machine):
+            raise TypeError(f"the second machine is a Machine, and not {type(second).__name__}")
+        return ErasingMachine(self, second)
 
-    def run(self, word: str, window: Iterable[int] | None = None, steps: int | None = None) -> Run:
-        """The run of the machine's circuit, in a window (l1, r1, n, r3) or in one that the program finds, to its exit or of
-        at most so many element steps, which needs a window."""
+    def by_itself(self, word: str, steps: SupportsIndex = MOST_STEPS) -> Outcome:
+        """The machine's own run from a word, of at most so many steps."""
+        return Outcome.read(
+            self.ask(["machine", f"={letters(word)}", whole(steps, "steps", MOST_STEPS)], DONE, STUCK, INSIDE)
+        )
+
+    def trace(self, word: str, steps: SupportsIndex = MOST_STEPS) -> Trace:
+        """The moments of that run."""
+        return Trace(self.ask(["trace", f"={letters(word)}", whole(steps, "steps", MOST_STEPS)], DONE, STUCK, INSIDE))
+
+    def run(self, word: str, window: Iterable[SupportsIndex] | None = None, steps: SupportsIndex | None = None) -> Run:
+        """The run of the machine's circuit, in a window (l1, r1, n, r3) or in an automatic one, to its exit or of at most so
+        many element steps, which needs a window."""
+        asked = f"={letters(word)}"
         if window is None:
             if steps is not None:
                 raise ValueError("a run of so many steps needs a window")
-            return Run.read(self.ask(["run", f"={word}", "auto"], DONE, STUCK, WINDOW))
-        chosen = self.window(window)
-        words = ["run", f"={word}", *chosen, *([] if steps is None else [steps])]
-        return Run.read(self.ask(words, DONE, STUCK, WINDOW, INSIDE), chosen)
+            return Run.read(self.ask(["run", asked, "auto"], DONE, STUCK, WINDOW))
+        chosen = window_of(window)
+        most = [] if steps is None else [whole(steps, "steps", MOST_ELEMENT_STEPS)]
+        return Run.read(self.ask(["run", asked, *chosen, *most], DONE, STUCK, WINDOW, INSIDE), chosen)
 
-    def view(self, word: str, window: Iterable[int], steps: int) -> View:
-        """Every layer after at most so many element steps."""
-        return View.read(self.ask(["view", f"={word}", *self.window(window), steps]).splitlines())
+    def view(self, word: str, window: Iterable[SupportsIndex], steps: SupportsIndex) -> View:
+        """Every layer of that circuit after at most so many element steps."""
+        most = whole(steps, "steps", MOST_ELEMENT_STEPS)
+        return View.read(self.ask(["view", f"={letters(word)}", *window_of(window), most]).splitlines())
 
-    def session(self, word: str, window: Iterable[int], script: str | Iterable[str]) -> Session[View]:
+    def session(self, word: str, window: Iterable[SupportsIndex], script: str | Iterable[str]) -> Session[View]:
         """The answers to a script: its commands as a sequence, or as one text."""
-        words = ["session", f"={word}", *self.window(window)]
+        words = ["session", f"={letters(word)}", *window_of(window)]
         return Session.read(self.ask(words, data=self.with_script(script)), View)
 
-    def compile(self, word: str, window: Iterable[int]) -> str:
-        """The configuration text of the machine's circuit at its start."""
-        return self.ask(["compile", f"={word}", *self.window(window)])
+    def compile(self, word: str, window: Iterable[SupportsIndex]) -> Circuit:
+        """The machine's circuit at its start."""
+        return Circuit(self.ask(["compile", f"={letters(word)}", *window_of(window)]))
 
-    def layout(self, word: str, window: Iterable[int]) -> list[str]:
-        """What that circuit is made of: the lines of `layout`."""
-        return self.ask(["layout", f"={word}", *self.window(window)]).splitlines()
+    def layout(self, word: str, window: Iterable[SupportsIndex]) -> Layout:
+        """What that circuit consists of: modules, columns and lines by name."""
+        return Layout(self.ask(["layout", f"={letters(word)}", *window_of(window)]))
 
 
 class ReversibleMachine(Table):
     """A machine of quadruples, by its table: `state`, what is read on three tapes, what is done there, and `next`, as
-    docs/use/formats.md has it."""
+    docs/use/formats.md has it. Words are one on tape 1, or one on each of the three tapes; each is letters, or Names.
+    """
 
     HEADS = ("state", "read 1", "read 2", "read 3", "act 1", "act 2", "act 3", "next")
+    ENTRY = "quadruple"
+
+    @property
+    def rules(self) -> tuple[Quadruple, ...]:
+        """The quadruples; an entry of another number of fields is a TypeError."""
+        return tuple(Quadruple(*entry) for entry in self.entries)
+
+    def graph(self) -> networkx.MultiDiGraph:
+        """The machine as a graph of networkx: states are nodes; quadruples are edges with their number from 1, `rule`, and
+        with what they `read` and what they do (`act`), each a tuple of three."""
+        import networkx
+
+        graph = networkx.MultiDiGraph()
+        graph.add_nodes_from(self.states)
+        for number, rule in enumerate(self.rules, 1):
+            graph.add_edge(rule.state, rule.next, rule=number, read=rule[1:4], act=rule[4:7])
+        return graph
 
     def verdicts(self) -> str:
         """Whether the machine is deterministic, and reversible, as the program prints it."""
@@ -167,29 +294,88 @@ class ReversibleMachine(Table):
         """The machine that takes the steps of this one back."""
         return ReversibleMachine(self.ask(["inverse"]))
 
-    def moments(self, *words: str, steps: int = 1_048_576) -> list[str]:
-        """The moments of its run from a word on tape 1, or one on each of the three tapes, and how it comes out: the
-        lines of `moments`."""
+    def moments(self, *words: str, steps: SupportsIndex = MOST_STEPS) -> Trace:
+        """The moments of its run from a word on tape 1, or one on each of the three tapes."""
         if len(words) not in (1, 3):
             raise ValueError(f"a run begins with one word, or three, and not {len(words)}")
-        return self.ask(["moments", *(f"={word}" for word in words), steps], DONE, STUCK, INSIDE).splitlines()
+        asked = [f"={letters(word, 'a word')}" for word in words]
+        return Trace(self.ask(["moments", *asked, whole(steps, "steps", MOST_STEPS)], DONE, STUCK, INSIDE))
 
-    def build(self, words: Word | Iterable[Word], window: Iterable[int]) -> str:
-        """The configuration text of its circuit at the start, with a word on tape 1, or one on each of the three tapes, in
-        a window (l1, r1, r2, r3). A word is a text of letters, or Names."""
-        return self.ask(["build", *spelled(words), *self.window(window)])
+    def build(self, words: Word | Iterable[Word], window: Iterable[SupportsIndex]) -> Circuit:
+        """Its circuit at the start, in a window (l1, r1, r2, r3)."""
+        return Circuit(self.ask(["build", *spelled(words), *window_of(window)]))
 
-    def drive(self, words: Word | Iterable[Word], window: Iterable[int], steps: int = MOST_DRIVE_STEPS) -> Run:
+    def drive(
+        self, words: Word | Iterable[Word], window: Iterable[SupportsIndex], steps: SupportsIndex = MOST_DRIVE_STEPS
+    ) -> Run:
         """The run of that circuit, to its exit or of at most so many element steps."""
-        chosen = self.window(window)
-        told = self.ask(["drive", *spelled(words), *chosen, steps], DONE, STUCK, WINDOW, INSIDE)
-        return Run.read(told, chosen)
+        chosen = window_of(window)
+        asked = ["drive", *spelled(words), *chosen, whole(steps, "steps", MOST_DRIVE_STEPS)]
+        return Run.read(self.ask(asked, DONE, STUCK, WINDOW, INSIDE), chosen)
 
-    def look(self, words: Word | Iterable[Word], window: Iterable[int], steps: int) -> Look:
+    def look(self, words: Word | Iterable[Word], window: Iterable[SupportsIndex], steps: SupportsIndex) -> Look:
         """Every layer of that circuit after at most so many element steps."""
-        return Look.read(self.ask(["look", *spelled(words), *self.window(window), steps]).splitlines())
+        most = whole(steps, "steps", MOST_ELEMENT_STEPS)
+        return Look.read(self.ask(["look", *spelled(words), *window_of(window), most]).splitlines())
 
-    def play(self, words: Word | Iterable[Word], window: Iterable[int], script: str | Iterable[str]) -> Session[Look]:
+    def play(
+        self, words: Word | Iterable[Word], window: Iterable[SupportsIndex], script: str | Iterable[str]
+    ) -> Session[Look]:
         """The answers to a script that is played on that circuit: its commands as a sequence, or as one text."""
-        asked = ["play", *spelled(words), *self.window(window)]
+        asked = ["play", *spelled(words), *window_of(window)]
         return Session.read(self.ask(asked, data=self.with_script(script)), Look)
+
+
+class Erasure(NamedTuple):
+    """How an erasing machine runs: `halted`, `stuck` or `running` after `steps` steps; a halted one has what stands on tape 1,
+    `work`, and its `output`, a stuck one its `state`."""
+
+    kind: str
+    steps: int
+    work: str | None = None
+    output: str | None = None
+    state: str | None = None
+
+
+class ErasingMachine(ReversibleMachine):
+    """The reversible machine that `first.erase(second)` gives."""
+
+    def __init__(self, first: Machine, second: Machine) -> None:
+        self.first, self.second = first, second
+        super().__init__(first.ask(["erase"], data=first.beside(second.table)))
+
+    def by_itself(self, word: str, steps: SupportsIndex = MOST_STEPS) -> Erasure:
+        """Its run from a word, of at most so many steps."""
+        asked = ["erase", f"={letters(word)}", whole(steps, "steps", MOST_STEPS)]
+        told = self.ask(asked, DONE, STUCK, INSIDE, data=self.first.beside(self.second.table))
+        (kind, *words), *rest = (line.split(" ") for line in told.splitlines())
+        if kind == "halted":
+            return Erasure(kind, int(words[0]), *(line[1].removeprefix("=") for line in rest))
+        return Erasure(kind, int(words[-1]), state=words[0] if kind == "stuck" else None)
+
+
+class SequentialMachine(Table):
+    """A reversible sequential machine, by its table of moves: `state`, input line, next state, output line, numbers from 1."""
+
+    HEADS = ("state", "input", "next", "output")
+    ENTRY = "move"
+
+    @property
+    def rules(self) -> tuple[tuple[int, ...], ...]:
+        """The moves, each of four numbers."""
+        return tuple(tuple(map(int, entry)) for entry in self.entries)
+
+    @property
+    def states(self) -> tuple[str, ...]:
+        """The numbers of the states, in the order of their first appearance."""
+        return tuple(dict.fromkeys(name for entry in self.entries for name in (entry[0], entry[2])))
+
+    def realise(self, state: SupportsIndex, line: SupportsIndex) -> Circuit:
+        """The machine's bank of rotary elements, in a state, with the signal at an input line."""
+        return Circuit(self.ask(["realise", whole(state, "state", MOST_STEPS, 1), whole(line, "line", MOST_STEPS, 1)]))
+
+
+def generate(increments: SupportsIndex) -> Run:
+    """The run of a machine that adds one so many times, from 1 to 4, in its own window."""
+    status, text = answer(["generate", str(whole(increments, "increments", 4, 1))])
+    return Run.read(checked(status, text, DONE).partition("\n")[2])

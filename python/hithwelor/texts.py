@@ -11,6 +11,8 @@ from collections.abc import Iterable, Iterator, Sequence
 from dataclasses import dataclass, field
 from typing import Any, ClassVar, Generic, TypeVar, overload
 
+from .arguments import Window
+
 STATUSES = {
     2: "usage",
     3: "text",
@@ -23,9 +25,6 @@ STATUSES = {
 }
 
 BLANK = "_"
-
-# A window of the three tapes: l1, r1, n, r3.
-Window = tuple[int, int, int, int]
 
 
 class Refused(ValueError):
@@ -126,7 +125,8 @@ def tapes_html(tapes: Iterable[Tape]) -> str:
 @dataclass(frozen=True)
 class Outcome:
     """How a machine runs by itself: `kind` is `halted`, `stuck` or `running`, after `steps` steps. A halted one has an
-    `output`; a stuck one its `state` and the `letter` that it scans."""
+    `output`, if it was printed; a stuck one its `state` and the `letter` that it scans, or of a machine of quadruples the
+    `symbols` under its three heads."""
 
     kind: str
     steps: int
@@ -134,14 +134,18 @@ class Outcome:
     state: str | None = None
     letter: str | None = None
     text: str = field(default="", repr=False)
+    symbols: tuple[str, ...] = field(default=(), repr=False)
 
     @classmethod
     def read(cls, text: str) -> Outcome:
-        words = text.split("\n")[0].split(" ")
-        if words[0] == "stuck":
-            return cls("stuck", int(words[3]), state=words[1], letter=words[2], text=text)
-        output = text.split("\n")[1].removeprefix("output =") if words[0] == "halted" else None
-        return cls(words[0], int(words[1]), output=output, text=text)
+        first, _, rest = text.partition("\n")
+        kind, *words = first.split(" ")
+        if kind == "stuck":
+            state, *symbols, steps = words
+            letter = symbols[0] if len(symbols) == 1 else None
+            return cls(kind, int(steps), None, state, letter, text, () if letter else tuple(symbols))
+        output = rest.split("\n")[0].removeprefix("output =") if kind == "halted" and rest else None
+        return cls(kind, int(words[0]), output=output, text=text)
 
 
 @dataclass(frozen=True)
@@ -197,7 +201,8 @@ class Run:
             left, right, history, output_room = map(int, told["window"].split(" "))
             window = left, right, history, output_room
         if window is None:
-            raise ValueError("a run tells its window, or it is given")
+            first, second, third = (it.positions for it in tapes)
+            window = -first[0], first[-1], second[-1], third[-1]
         quadruples = told.get("quadruple")
         output = told.get("output")
         return cls(
