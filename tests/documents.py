@@ -2,9 +2,9 @@
 
 In each page of the root, of docs/, of examples/, of the folders in them, and of notebooks/, each line of a code block that
 begins with `$ ` is a command, and the lines up to the next one, or to the end of the block, are what it prints. The
-commands are `cat FILE`, `printf 'TEXT'`, `./workbench WORDS`, `./try WORDS`, and chains of them by `|`, with `< FILE`, and
-`echo $?` for the exit status of the command before. The last of a chain may be `cksum`, `head -n N` or `tail -n N`. Files
-are named from the top of the repository. A block of another language (as ```sh) is no example and is passed over.
+commands are `cat FILE`, `printf 'TEXT'`, `./workbench WORDS`, `./try WORDS`, `./hithwelor ARGUMENTS`, and chains of them by
+`|`, with `< FILE`, and `echo $?` for the exit status of the command before. The last of a chain may be `cksum`, `head -n N`,
+`tail -n N` or `grep PATTERN`. Files are named from the top of the repository. `./hithwelor` chooses what answers it. A block of another language (as ```sh) is no example and is passed over.
 
 In a table of four columns whose second cell is a command of the program, the third cell has lines of its output, in
 their order. In the man page, docs/use/workbench.1, the blocks from .EX to .EE are read as above, and each quoted command
@@ -24,9 +24,10 @@ from concurrent.futures import ThreadPoolExecutor
 from places import TOP
 
 MAN_PAGE = "docs/use/workbench.1"
-PROGRAMS = ["./workbench", "./try"]
+PEOPLE = "./hithwelor"
+PROGRAMS = ["./workbench", "./try", PEOPLE]
 FROM_OUTSIDE = [7, 8, 9]
-FILTERS = ["cksum", "head", "tail"]
+FILTERS = ["cksum", "head", "tail", "grep"]
 STATUS = "echo $?"
 # The fewest runs for which another unproved build is worth its time.
 LEAST_SHARE = 40
@@ -235,8 +236,9 @@ def answers_by(program):
 
     def answer(job):
         words, data = job
+        command = words[0] if words[0] == PEOPLE else program or words[0]
         ran = subprocess.run(
-            [program or words[0], *words[1:]], input=data, stdout=subprocess.PIPE, stderr=subprocess.DEVNULL, cwd=TOP
+            [command, *words[1:]], input=data, stdout=subprocess.PIPE, stderr=subprocess.DEVNULL, cwd=TOP
         )
         return ran.stdout, ran.returncode
 

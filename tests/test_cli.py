@@ -3,6 +3,7 @@ forms taken as they are; windows that are the least.
 
 `--drawn N` draws so many machines, and `--seed S` others.
 """
+import json
 import random
 
 import inputs
@@ -197,3 +198,103 @@ def test_states_keep_the_names_that_the_user_gave(tmp_path):
 def test_machines_of_other_programs_are_read(name, word, output):
     status, text, err = called("run", example(name), word)
     assert status == 0 and text.endswith(b"output " + output + b"\n") and "is read as a table" in err
+
+
+def debugged(lines, *words):
+    """What the debugger says to lines that are typed, without what it says at first."""
+    status, text, err = called("session", *words, "-i", data="".join(f"{line}\n" for line in lines).encode())
+    assert status == 0, err
+    return text.decode().splitlines()
+
+
+def places(lines):
+    return [line for line in lines if line.startswith(("at ", "left "))]
+
+
+def test_the_debugger_goes_forward_and_back():
+    path = example("increment.csv")
+    lines = debugged(["next", "next 3", "prev 3", "", "back", "go", "rev"], path, "1011")
+    found = places(lines)
+    assert found[0] == "at 4872.w steps 9292" and found[2] == found[0] and found[3] == "at 0.w steps 0"
+    assert found[4] == found[3] and found[5].startswith("left ") and found[6] == found[3]
+    assert "tape 1 work    from   0: [_] 1  0  1  1  _ " in lines
+
+
+def test_what_was_done_is_a_script_that_session_plays(tmp_path):
+    """The place after each command is that of the script, whatever went on between."""
+    path, script = example("increment.csv"), str(tmp_path / "script.txt")
+    typed = [
+        "step 5000",
+        "break b state A3",
+        "go",
+        "next 2",
+        "prev",
+        "break element 0",
+        "drop b",
+        "rev",
+        f"save {script}",
+    ]
+    found = places(debugged(typed, path, "1011"))
+    status, text, _ = called("session", path, "1011", script)
+    assert status == 0 and places(text.decode().splitlines()) == found
+
+
+def test_the_debugger_says_what_is_wrong_and_goes_on():
+    typed = ["nonsense", "step x", "break b state Nowhere", "drop c", "break x", "step 1"]
+    lines = debugged(typed, example("increment.csv"), "1")
+    told = [line for line in lines if line.startswith("error: ")]
+    assert len(told) == 5 and "no state" in told[2] and places(lines)[-1].endswith("steps 1")
+
+
+def test_the_debugger_takes_quadruples():
+    lines = debugged(["break state L1", "go", "breaks", "view"], example("adder.csv"), "11", "110", "")
+    assert "b1 state L1" in lines and "quadruple L1" in lines
+
+
+JSON = [
+    (["run", "increment.csv", "1011"], {"output": "1100", "elements": 14136, "window": [0, 5, 11, 5], "status": 0}),
+    (["machine", "stuck.csv", "1"], {"outcome": "stuck", "state": "Go", "letter": "1", "steps": 1, "status": 10}),
+    (["trace", "stuck.csv", "1"], {"outcome": "stuck", "letter": "1", "meaning": "stuck"}),
+    (["drive", "adder.csv", "11", "110", ""], {"quadruple_steps": 16, "exit": {"kind": "end"}}),
+    (["view", "increment.csv", "1", "--at", "999"], {"stage": "compute", "has_left": False}),
+    (["check", "least.csv"], {"states": 3, "symbols": 1, "quintuples": 2}),
+    (["reversible", "adder.csv"], {"deterministic": True, "reversible": True}),
+    (["step", "across.txt"], {"version": 1, "steps": 1, "place": "0.w", "has_left": True}),
+    (["moments", "counter.csv", "110"], {"outcome": "halted", "steps": 13}),
+    (["erase", "least.csv", "least.csv", ""], {"outcome": "halted", "output": "", "work": ""}),
+]
+
+
+@pytest.mark.parametrize("words, told", JSON, ids=[" ".join(words) for words, _ in JSON])
+def test_answers_as_json(words, told):
+    words = [example(word) if "." in word else word for word in words]
+    status, text, _ = called(*words, "--json")
+    found = json.loads(text)
+    assert {name: found[name] for name in told} == told and found["status"] == status
+
+
+def test_json_is_read_of_every_drawn_answer(ask, pytestconfig, tmp_path):
+    """Nothing that the program prints is without a reading."""
+    draw, number = draws(pytestconfig)
+    for _ in range(number):
+        path = written(tmp_path, inputs.drawn_table(draw))
+        for words in (["machine", "10"], ["bennett"], ["compile", "1"], ["layout", "1"]):
+            status, text, _ = called(words[0], path, *words[1:], "--json")
+            assert text == b"" or json.loads(text)["status"] == status
+        for command in ("run", "trace"):
+            status, text, _ = called(command, path, "10", "--steps", "30", "--json")
+            assert text == b"" or json.loads(text)["status"] == status
+
+
+WHOLE = [
+    ("session", "least-session.txt", ["", "--window", "0,2,2,1"]),
+    ("erase", "not-twice.txt", []),
+    ("farm", "two-boards.txt", []),
+]
+
+
+@pytest.mark.parametrize("command, name, words", WHOLE, ids=[command for command, _, _ in WHOLE])
+def test_a_file_with_its_parts_is_taken_whole(ask, command, name, words):
+    with open(example(name), "rb") as file:
+        exact = ask([command, *(["=", "0", "2", "2", "1"] if words else [])], file.read())
+    assert exact[0] == 0 and called(command, example(name), *words)[:2] == exact

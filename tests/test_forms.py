@@ -6,13 +6,14 @@ limits of their numbers, the commands that read nothing and those that take name
 it, and what ./workbench and ./try say to words that have no form, the names that are completed, and the list of commands of
 the man page.
 """
+import os
 import re
 import subprocess
 
 import places
 import pytest
 from hithwelor.cli_explain import usage_fault
-from hithwelor.forms import commands, forms, numbers
+from hithwelor.forms import commands, forms, numbers, options, parts_of, twins, uses
 from people import called
 from places import TOP, text_of
 
@@ -242,3 +243,35 @@ def test_the_names_are_completed(script, own, begin):
 
 def test_the_man_page_describes_each_command():
     assert described(text_of(MAN_PAGE)) == NAMES
+
+
+@pytest.mark.slow
+@pytest.mark.parametrize("command, shown, printed", parts_of("example"), ids=[it[1] for it in parts_of("example")])
+def test_the_examples_of_the_help_print_what_is_shown(answering, command, shown, printed):
+    path = os.pathsep.join([TOP, os.environ["PATH"]])
+    ran = places.run(["bash", "-c", shown], path=path, env={**os.environ, "PATH": path})
+    assert ran.stdout == printed.replace("\\n", "\n") + "\n", ran.stderr
+
+
+def test_each_command_has_its_help_and_two_examples():
+    listed = [command for command, _, _ in parts_of("example")]
+    for command in uses():
+        status, text, _ = called("help", command)
+        assert status == 0 and called(command, "--help")[1] == text and listed.count(command) == 2
+        told = text.decode()
+        assert told.startswith(f"usage: hithwelor {command} ") and all(
+            f"--{it}" in told for it in uses()[command].options
+        )
+        page = re.search(r"^More: (\S+)$", told, flags=re.M)[1].partition("#")
+        assert os.path.isfile(os.path.join(TOP, page[0]))
+        heads = [
+            re.sub(r"[^a-z0-9 -]", "", it.lower()).replace(" ", "-")
+            for it in re.findall(r"^#+ (.*)$", text_of(page[0]), flags=re.M)
+        ]
+        assert not page[2] or page[2] in heads, page[2]
+
+
+def test_the_table_says_what_each_command_takes():
+    assert set(uses()) == set(commands()) and set(twins().values()) <= set(commands())
+    for it in uses().values():
+        assert set(it.options) <= set(options())

@@ -74,7 +74,7 @@ def openers(text):
 
 
 def test_each_shown_command_has_its_link(texts):
-    """As many, in their order, as the page shows; what a filter does behind the program, the page leaves out."""
+    """As many, in their order, as the page shows of exact forms; what a filter does behind the program, the page leaves out."""
     for page in documents.pages():
         path = re.sub(r"README\.md$", "index.md", page)[:-3] + ".html"
         if path in texts:
@@ -86,7 +86,7 @@ def test_each_shown_command_has_its_link(texts):
 def shown(page):
     """The commands that a page shows, blocks and rows in the order in which they stand, that run the program."""
     examples = [it for block in documents.examples_of(page) for it in block]
-    return [it for it in examples if documents.has_program(it.command)]
+    return [it for it in examples if documents.has_program(it.command) and documents.PEOPLE not in it.command]
 
 
 ANSWERED = "document.getElementById('k-said')?.textContent.startsWith('status')"

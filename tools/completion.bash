@@ -5,32 +5,32 @@
 
 _hithwelor_options() {
     case "$1" in
-    run) echo "--window --left --right --history --output --steps --element-steps --names --as --blank --halt --verbose --help -h" ;;
-    machine) echo "--steps --names --as --blank --halt --verbose --help -h" ;;
-    trace) echo "--steps --names --as --blank --halt --verbose --help -h" ;;
-    view) echo "--at --window --left --right --history --output --steps --names --as --blank --halt --verbose --help -h" ;;
-    session) echo "--window --left --right --history --output --steps --names --as --blank --halt --verbose --help -h" ;;
-    compile) echo "--window --left --right --history --output --steps --names --as --blank --halt --verbose --help -h" ;;
-    layout) echo "--window --left --right --history --output --steps --names --as --blank --halt --verbose --help -h" ;;
-    step) echo "--as --verbose --help -h" ;;
-    back) echo "--as --verbose --help -h" ;;
-    mirror) echo "--as --verbose --help -h" ;;
-    migrate) echo "--as --verbose --help -h" ;;
-    plan) echo "--as --verbose --help -h" ;;
-    farm) echo "--as --verbose --help -h" ;;
-    check) echo "--names --as --blank --halt --verbose --help -h" ;;
-    standard) echo "--names --as --blank --halt --verbose --help -h" ;;
-    bennett) echo "--names --as --blank --halt --verbose --help -h" ;;
-    inverse) echo "--names --as --blank --halt --verbose --help -h" ;;
-    reversible) echo "--names --as --blank --halt --verbose --help -h" ;;
-    erase) echo "--steps --names --as --blank --halt --verbose --help -h" ;;
-    realise) echo "--as --verbose --help -h" ;;
-    generate) echo "--as --verbose --help -h" ;;
-    drive) echo "--window --left --right --history --output --steps --element-steps --names --as --blank --halt --verbose --help -h" ;;
-    look) echo "--at --window --left --right --history --output --steps --names --as --blank --halt --verbose --help -h" ;;
-    play) echo "--window --left --right --history --output --steps --names --as --blank --halt --verbose --help -h" ;;
-    moments) echo "--steps --names --as --blank --halt --verbose --help -h" ;;
-    build) echo "--window --left --right --history --output --steps --names --as --blank --halt --verbose --help -h" ;;
+    run) echo "--window --left --right --history --output --steps --element-steps --names --as --blank --halt --json --verbose --help -h" ;;
+    machine) echo "--steps --names --as --blank --halt --json --verbose --help -h" ;;
+    trace) echo "--steps --names --as --blank --halt --json --verbose --help -h" ;;
+    view) echo "--at --window --left --right --history --output --steps --names --as --blank --halt --json --verbose --help -h" ;;
+    session) echo "--interactive -i --window --left --right --history --output --steps --names --as --blank --halt --json --verbose --help -h" ;;
+    compile) echo "--window --left --right --history --output --steps --names --as --blank --halt --json --verbose --help -h" ;;
+    layout) echo "--window --left --right --history --output --steps --names --as --blank --halt --json --verbose --help -h" ;;
+    step) echo "--as --json --verbose --help -h" ;;
+    back) echo "--as --json --verbose --help -h" ;;
+    mirror) echo "--as --json --verbose --help -h" ;;
+    migrate) echo "--as --json --verbose --help -h" ;;
+    plan) echo "--as --json --verbose --help -h" ;;
+    farm) echo "--as --json --verbose --help -h" ;;
+    check) echo "--names --as --blank --halt --json --verbose --help -h" ;;
+    standard) echo "--names --as --blank --halt --json --verbose --help -h" ;;
+    bennett) echo "--names --as --blank --halt --json --verbose --help -h" ;;
+    inverse) echo "--names --as --blank --halt --json --verbose --help -h" ;;
+    reversible) echo "--names --as --blank --halt --json --verbose --help -h" ;;
+    erase) echo "--steps --names --as --blank --halt --json --verbose --help -h" ;;
+    realise) echo "--as --json --verbose --help -h" ;;
+    generate) echo "--as --json --verbose --help -h" ;;
+    drive) echo "--window --left --right --history --output --steps --element-steps --names --as --blank --halt --json --verbose --help -h" ;;
+    look) echo "--at --window --left --right --history --output --steps --names --as --blank --halt --json --verbose --help -h" ;;
+    play) echo "--interactive -i --window --left --right --history --output --steps --names --as --blank --halt --json --verbose --help -h" ;;
+    moments) echo "--steps --names --as --blank --halt --json --verbose --help -h" ;;
+    build) echo "--window --left --right --history --output --steps --names --as --blank --halt --json --verbose --help -h" ;;
     esac
 }
 

@@ -12,7 +12,7 @@ from . import cli_input, version
 from .cli_args import read_arguments, use_of
 from .cli_engine import Engine, Progress
 from .cli_errors import explained_exactly
-from .cli_run import REFUSALS, answer
+from .cli_run import REFUSALS, answer, debugged
 from .cli_usage import fault_of, forms_shown, looks_exact
 from .faults import STOPPED, Stop
 from .forms import commands, is_exact, uses
@@ -53,6 +53,8 @@ def answered(words: list[str]) -> int:
     arguments = read_arguments(words[0], words[1:])
     if "help" in arguments.given:
         return written(DONE, help_of(words[0]).encode())
+    if "interactive" in arguments.given:
+        return debugged(arguments, engine)
     status, text = answer(arguments, engine)
     if "verbose" in arguments.given:
         print(f"note: answered by {engine.name}", file=sys.stderr)

@@ -8,7 +8,7 @@ import re
 from dataclasses import dataclass, field
 from typing import NoReturn
 
-from .cli_input import exists
+from .cli_input import exists, read_bytes, split_parts
 from .faults import Stop
 from .cli_usage import fault_of_number
 from .forms import Use, commands, forms_of, is_number, options, twins, uses
@@ -84,8 +84,21 @@ def read_arguments(command: str, words: list[str]) -> Arguments:
     rest = [*read.pop("rest"), *behind]
     found = Arguments(command, use, given={name: value for name, value in read.items() if value is not None})
     if "help" not in found.given:
-        found.named = matched(use, rest)
+        names = [it for it in use.arguments.split() if it != "SCRIPT" or "interactive" not in found.given]
+        found.named = matched(use, without_parts(names) if has_parts(use, rest) else names, rest)
     return found
+
+
+def has_parts(use: Use, rest: list[str]) -> bool:
+    """Whether a command of several files is given one that has them all, with lines % between them."""
+    if not use.arguments.endswith(("SCRIPT", "SCHEDULE", "[WORD]")) or not rest or not os.path.isfile(rest[0]):
+        return False
+    return split_parts(read_bytes(rest[0])) is not None
+
+
+def without_parts(names: list[str]) -> list[str]:
+    """The names of a command's arguments where the first file has all parts."""
+    return [name.rstrip(".") if at == 0 else name for at, name in enumerate(names) if at == 0 or "WORD" in name]
 
 
 def use_of(command: str) -> Use:
@@ -105,14 +118,8 @@ def use_of(command: str) -> Use:
     raise Stop(f"there is no command {command}" + (f"; did you mean {close[0]}?" if close else ""), usage="")
 
 
-def names_of(use: Use) -> list[str]:
-    """The names of a command's arguments, in order: in [] where one may be missing, with .. where it may be repeated."""
-    return use.arguments.split()
-
-
-def matched(use: Use, given: list[str]) -> dict[str, list[str]]:
-    """What stands for each name of a command's arguments."""
-    names = names_of(use)
+def matched(use: Use, names: list[str], given: list[str]) -> dict[str, list[str]]:
+    """What stands for each name of a command's arguments: in [] where one may be missing, with .. where it may be repeated."""
     least = sum(not it.startswith("[") for it in names)
     repeated = any(it.endswith("..") for it in names)
     check_order(use, names, given)
@@ -134,7 +141,8 @@ def matched(use: Use, given: list[str]) -> dict[str, list[str]]:
 
 
 def hint_of(missing: str) -> str:
-    return "; '' is the empty word" if missing == "WORD" else ""
+    hints = {"WORD": "; '' is the empty word", "SCRIPT": "; -i debugs without one"}
+    return hints.get(missing, "")
 
 
 def check_order(use: Use, names: list[str], given: list[str]) -> None:

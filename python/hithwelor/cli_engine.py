@@ -8,7 +8,7 @@ import subprocess
 import sys
 import threading
 import time
-from typing import Callable
+from typing import Any, Callable
 
 from . import answers
 from .faults import Stop
@@ -69,6 +69,15 @@ class Engine:
             raise Stop(str(fault), NO_ENGINE) from None
 
 
+def bar_of(what: str) -> Any:
+    """tqdm's bar for work of unknown length; None where tqdm isn't installed."""
+    try:
+        from tqdm import tqdm
+    except ImportError:
+        return None
+    return tqdm(desc=what, bar_format="{desc} .. {elapsed}", leave=False)
+
+
 class Progress:
     """On a terminal, what is being done and for how many seconds; elsewhere nothing. `with Progress("running"): ..`"""
 
@@ -81,11 +90,16 @@ class Progress:
         began = time.monotonic()
         if self.over.wait(PATIENCE):
             return
-        while True:
-            print(f"\r{self.what} .. {time.monotonic() - began:.0f} s ", end="", file=sys.stderr, flush=True)
-            if self.over.wait(0.5):
-                print("\r\033[K", end="", file=sys.stderr, flush=True)
-                return
+        bar = bar_of(self.what)
+        while not self.over.wait(0.5):
+            if bar:
+                bar.refresh()
+            else:
+                print(f"\r{self.what} .. {time.monotonic() - began:.0f} s ", end="", file=sys.stderr, flush=True)
+        if bar:
+            bar.close()
+        else:
+            print("\r\033[K", end="", file=sys.stderr, flush=True)
 
     def __enter__(self) -> Progress:
         if self.is_shown:

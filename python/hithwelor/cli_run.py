@@ -10,7 +10,9 @@ from dataclasses import dataclass, field
 from . import cli_errors, cli_input
 from .cli_args import Arguments, whole
 from .cli_engine import Ask, Progress
-from .cli_input import Input, Wanted, bytes_of, open_input
+from .cli_input import Input, Wanted, open_input
+from .cli_json import as_json
+from .cli_session import Debugger, debug, states_of
 from .cli_window import Found, Refusal, Window, least_window
 from .faults import Stop
 from .forms import forms_of, options, twins, uses
@@ -50,6 +52,7 @@ class Translation:
         self.command = arguments.command
         self.values: dict[str, int] = {}
         self.found: Found | None = None
+        self.script: bytes | None = None
 
     def wanted(self) -> Wanted:
         given = self.arguments.given
@@ -77,8 +80,14 @@ class Translation:
         paths = self.arguments.files()
         data = cli_input.read_bytes(paths[0]) if paths else b""
         parts = cli_input.split_parts(data) if self.arguments.use.kind != "circuit" else None
-        for number, path in enumerate(paths):
-            own = (parts[0] if parts else data) if number == 0 else None
+        pieces = [(path, None if number else data) for number, path in enumerate(paths)]
+        if parts:
+            pieces[0] = (paths[0], parts[0])
+            if self.command == "erase":
+                pieces.insert(1, (paths[0], parts[1]))
+            else:
+                self.script = parts[1]
+        for path, own in pieces:
             it = open_input(path, self.wanted(), own)
             self.inputs.append(it)
             self.to_kind(it)
@@ -114,6 +123,8 @@ class Translation:
             return text
         if "SCRIPT" in named:
             return ended(first) + b"%\n" + script_of(named["SCRIPT"][0])
+        if self.script is not None:
+            return ended(first) + b"%\n" + self.script
         if "SCHEDULE" in named:
             boards = b"".join(it.data + b"%\n" for it in self.inputs)
             return boards + script_of(named["SCHEDULE"][0])
@@ -258,18 +269,39 @@ def with_names(table: str, it: Input) -> str:
     return "".join(f"{','.join([shown[row[0]], *row[1:-1], shown[row[-1]]])}\n" for row in rows)
 
 
-def answer(arguments: Arguments, ask: Ask) -> tuple[int, bytes]:
-    """The status and the text of a command; Stop where the program refuses."""
+def question_of(arguments: Arguments, ask: Ask) -> Question:
+    """What is asked of the program; Stop where it refuses something on the way."""
     translation = Translation(arguments, ask)
     try:
-        question = translation.question()
+        return translation.question()
     except Refusal as refusal:
         question = translation.asked(refusal.words, b"")
         raise cli_errors.explained(question.words, refusal.status, refusal.text, question) from None
-    if "verbose" in arguments.given:
-        say(f"exactly: {' '.join(question.words)}")
-    with Progress("running"):
-        status, text = ask(question.words, question.data)
+
+
+def debugged(arguments: Arguments, ask: Ask) -> int:
+    """Debugs a circuit in the terminal; gives the status."""
+    question = question_of(arguments, ask)
+    table, is_quadruples = ended(question.data), question.inputs[0].kind == "quadruples"
+    status, text = ask(question.words, table + b"%\n")
     if status in REFUSALS:
         raise cli_errors.explained(question.words, status, text, question)
-    return status, text
+    states = states_of(ask, table, is_quadruples)
+    return debug(Debugger(ask, question.words, table, states))
+
+
+def answer(arguments: Arguments, ask: Ask) -> tuple[int, bytes]:
+    """The status and the text of a command; Stop where the program refuses."""
+    question = question_of(arguments, ask)
+    if "verbose" in arguments.given:
+        say(f"exactly: {' '.join(question.words)}")
+    try:
+        with Progress("running"):
+            status, text = ask(question.words, question.data)
+    except KeyboardInterrupt:
+        if question.found:
+            say(f"known: the machine's own run is {question.found.outcome}")
+        raise
+    if status in REFUSALS:
+        raise cli_errors.explained(question.words, status, text, question)
+    return status, as_json(question.words, status, text) if "json" in arguments.given else text

@@ -18,7 +18,7 @@ BUNDLES = {
     "machine": ["names", "as", "blank", "halt"],
     "window": ["window", "left", "right", "history", "output", "steps"],
 }
-ALWAYS = ["as", "verbose", "help"]
+ALWAYS = ["as", "json", "verbose", "help"]
 
 
 @dataclass(frozen=True)
