@@ -4,7 +4,9 @@
 // The worker has one request at a time. Requests and answers are numbered, and a request that is aborted ends its worker:
 // no answer is left for a later request.
 import {moduleOf} from "./hithwelor.mjs";
-import {NoMemory, bytesOf, decoder, listed} from "./values.mjs";
+import {NoMemory, Refused, bytesOf, decoder, listed} from "./values.mjs";
+
+const FAULTS = {NoMemory, RangeError, TypeError};
 
 // Has `heard` called with each message of a worker, and `failed` if it fails or ends.
 function listen(worker, heard, failed) {
@@ -31,9 +33,20 @@ export class Client {
   }
 
   // The promise of status and text, as bytes.
-  answerBytes(words, input = "", {signal} = {}) {
+  async answerBytes(words, input = "", options = {}) {
+    const {status, text} = await this.#ask({words: listed(words), input: bytesOf(input, "the input"), isBytes: true}, options);
+    return {status, text};
+  }
+
+  // The promise of what a call of a Machine, Circuit, .. of this text returns; circuits and machines as their texts.
+  async call(kind, text, name, args = [], options = {}) {
+    const {value} = await this.#ask({call: {kind, text, name, args: [...args]}}, options);
+    return value;
+  }
+
+  #ask(message, {signal} = {}) {
     return new Promise((done, fail) => {
-      const request = {words: listed(words), input: bytesOf(input, "the input")};
+      const request = {message};
       if (this.#isClosed) throw new Error("the client is closed");
       if (signal?.aborted) {
         fail(signal.reason);
@@ -73,7 +86,7 @@ export class Client {
     try {
       if (!this.#worker) this.#start();
       this.#worker.ref?.();
-      this.#worker.postMessage({number, words: request.words, input: request.input, isBytes: true});
+      this.#worker.postMessage({number, ...request.message});
     } catch (fault) {
       this.#settle(request, () => request.fail(fault));
     }
@@ -85,12 +98,13 @@ export class Client {
     listen(worker, message => this.#heard(worker, message), fault => this.#failed(worker, fault));
   }
 
-  #heard(worker, {number, status, text, fault, name}) {
-    const request = this.#asked;
-    if (worker !== this.#worker || request?.number !== number) return;
+  #heard(worker, message) {
+    const request = this.#asked, {fault, name, refused} = message;
+    if (worker !== this.#worker || request?.number !== message.number) return;
     this.#settle(request, () => {
-      if (fault === undefined) request.done({status, text});
-      else request.fail(name === "NoMemory" ? new NoMemory(fault) : new Error(fault));
+      if (fault === undefined) request.done(message);
+      else if (refused) request.fail(new Refused(refused.status, refused.text));
+      else request.fail(new (FAULTS[name] ?? Error)(fault));
     });
   }
 

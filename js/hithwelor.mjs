@@ -3,9 +3,9 @@
 // prints. Nothing is computed here.
 import {Workbench} from "./core.mjs";
 import {machineClasses} from "./machines.mjs";
-import {NoMemory, Refused, Tape, bytesOf, decoder, joined} from "./values.mjs";
+import {Layout, NoMemory, Refused, Tape, Trace, bytesOf, decoder, joined} from "./values.mjs";
 
-export {NoMemory, Refused, Tape};
+export {Layout, NoMemory, Refused, Tape, Trace};
 
 const OUT_OF_MEMORY = 9;
 
@@ -44,7 +44,7 @@ export function workbenchOf(compiled) {
     return {status, text: decoder.decode(text)};
   }
 
-  return {answer, answerBytes, ...machineClasses(answer), NoMemory, Refused, Tape, module: compiled,
+  return {answer, answerBytes, ...machineClasses(answer), Layout, NoMemory, Refused, Tape, Trace, module: compiled,
           memory: () => bench.memory()};
 }
 

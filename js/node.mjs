@@ -2,7 +2,7 @@
 import {readFile} from "node:fs/promises";
 import {moduleOf as fetched, workbenchOf} from "./hithwelor.mjs";
 
-export {NoMemory, Refused, Tape} from "./hithwelor.mjs";
+export {Layout, NoMemory, Refused, Tape, Trace} from "./hithwelor.mjs";
 
 // The module: a compiled one, its bytes, a Response, or its address; without any, the module beside this file.
 export async function moduleOf(source = new URL("hithwelor.wasm", import.meta.url)) {

@@ -64,6 +64,12 @@ export function counted(text) {
   return number;
 }
 
+// A word of letters.
+export function lettered(word) {
+  if (typeof word === "string") return `=${word}`;
+  throw new TypeError(`the word is a string of letters, and not ${Array.isArray(word) ? "a list" : typeof word}`);
+}
+
 export const windowWords = window => {
   const numbers = Array.from(window);
   if (numbers.length !== 4) throw new RangeError(`a window is four numbers, l1, r1, n and r3, and not ${numbers.length}`);
@@ -119,13 +125,82 @@ export function readTape(line) {
                    symbols: found[4].split(" ").slice(1)});
 }
 
+// How a machine runs by itself. A trace's last line has no output; a machine of quadruples is stuck at three symbols.
 export function readOutcome(text) {
-  const [first, second] = text.split("\n"), words = first.split(" ");
-  if (words[0] === "stuck") {
-    return {kind: "stuck", steps: counted(words[3]), output: null, state: words[1], letter: words[2], text};
+  const [first, second] = text.split("\n"), [kind, ...words] = first.split(" ");
+  const none = {kind, steps: counted(words.at(-1)), output: null, state: null, letter: null, symbols: [], text};
+  if (kind === "stuck") {
+    const symbols = words.slice(1, -1);
+    return {...none, state: words[0], ...(symbols.length === 1 ? {letter: symbols[0]} : {symbols})};
   }
-  const output = words[0] === "halted" ? behind(second, "output =") : null;
-  return {kind: words[0], steps: counted(words[1]), output, state: null, letter: null, text};
+  return {...none, output: kind === "halted" && second?.startsWith("output =") ? behind(second, "output =") : null};
+}
+
+// A line of `trace` or `moments`: its tapes are `from F head H cells C:` and so many symbols, each of which may be any word.
+function readMoment(line) {
+  let [steps, state, ...rest] = line.split(" ");
+  const tapes = [];
+  while (rest[0] === "from" || rest[0] === "tape") {
+    const number = rest[0] === "tape" ? Number(rest[1]) : 1, from = rest[0] === "tape" ? rest.slice(2) : rest;
+    const end = 6 + parseInt(from[5]);
+    tapes.push(new Tape({number, first: Number(from[1]), head: Number(from[3]), symbols: from.slice(6, end)}));
+    rest = from.slice(end);
+  }
+  return {steps: counted(steps), state, tapes, tape: tapes[0], rule: rest.length ? Number(rest[1]) : null};
+}
+
+// The moments of a run and how it ends: an iterable of moments, each read when it is asked for.
+export class Trace {
+  constructor(text) {
+    this.text = text;
+    const lines = linesOf(text);
+    this.outcome = readOutcome(lines.pop());
+    Object.defineProperty(this, "lines", {value: lines});
+  }
+
+  get length() {
+    return this.lines.length;
+  }
+
+  at(place) {
+    const line = this.lines.at(place);
+    if (line === undefined) throw new RangeError(`the trace has ${this.length} moments, and none at ${place}`);
+    return readMoment(line);
+  }
+
+  *[Symbol.iterator]() {
+    for (const line of this.lines) yield readMoment(line);
+  }
+}
+
+const MODULE = /^module (\d+) (?:control|tape (\d) cell (-?\d+)) from (\d+) columns (\d+) lines (\d+)$/;
+const numbered = text => text === undefined ? null : Number(text);
+
+// What a circuit consists of: its modules; and by a module's kind (`control`, `tape 1`, ..) the names of columns and of lines.
+export class Layout {
+  constructor(text) {
+    const [first, ...rest] = linesOf(text);
+    Object.assign(this, {elements: Number(first.split(" ")[1]), modules: [], columns: {}, lines: {}, text});
+    for (const line of rest) {
+      const module = MODULE.exec(line), named = /^(column|line) \d+ of (control|tape \d) (.*)$/.exec(line);
+      if (module) {
+        const [number, tape, cell, from, columns, lines] = module.slice(1).map(numbered);
+        this.modules.push({number, kind: tape === null ? "control" : `tape ${tape}`, tape, cell, first: from, columns, lines});
+      } else if (named?.[1] === "column") (this.columns[named[2]] ??= []).push(named[3]);
+      else if (named) {
+        const both = /^in (.*) out (.*)$/.exec(named[3]);
+        (this.lines[named[2]] ??= []).push(both ? [both[1], both[2]] : [named[3], named[3]]);
+      }
+    }
+  }
+
+  // Where an element is: its module, its column and row in the module's bank, and what that column stands for.
+  spot(element) {
+    const module = this.modules.findLast(it => it.first <= element);
+    if (!module || !(element < this.elements)) throw new RangeError(`the circuit has ${this.elements} elements, and no element ${element}`);
+    const column = Math.floor((element - module.first) / (module.lines + 1));
+    return {module, column, row: (element - module.first) % (module.lines + 1), name: this.columns[module.kind][column]};
+  }
 }
 
 export function readExit(words) {
@@ -144,6 +219,8 @@ export function readRun(text, window) {
     else told.set(line.split(" ", 1)[0], line.slice(line.indexOf(" ") + 1));
   }
   if (told.has("window")) window = told.get("window").split(" ").map(Number);
+  // A generated run tells no window: it is the one that is shown.
+  window ??= [0 - tapes[0].first, ...tapes.map(it => it.positions.at(-1))];
   const quadruple = told.get("quadruple"), output = told.get("output");
   return {window, elements: counted(told.get("elements")), exit: readExit(told.get("exit") ?? "inside"),
           steps: counted(told.get("steps")), quadrupleSteps: quadruple ? counted(behind(quadruple, "steps ")) : null, tapes,

@@ -5,7 +5,7 @@ import fs from "node:fs";
 import test from "node:test";
 import vm from "node:vm";
 import {connect} from "../client-node.mjs";
-import {load} from "../node.mjs";
+import {Refused, load} from "../node.mjs";
 
 const table = fs.readFileSync(new URL("../../examples/increment.csv", import.meta.url), "utf8");
 const long = ["run", "=1011", "auto"], MOST = 30, ROUNDS = 25, LATER = 3;
@@ -43,6 +43,19 @@ test("a request that waits is aborted, and one that was aborted before isn't sen
   const last = client.answer(long, table);
   client.close();
   await assert.rejects(last, /closed/);
+});
+
+test("a client calls a machine, and hands its refusals over", async () => {
+  const client = await connect();
+  const run = await client.call("Machine", table, "run", ["1011", [0, 5, 11, 5]]);
+  assert.deepEqual([run.output, run.tapes[2].word, run.steps], ["1100", "1100", 2507884]);
+  assert.deepEqual(await client.call("Machine", table, "states"), ["S", "Go", "Add", "Home", "Halt"]);
+  const circuit = await client.call("Machine", table, "compile", ["1", [0, 2, 6, 2]]);
+  assert.equal(await client.call("Circuit", circuit, "place"), "0.w");
+  await assert.rejects(client.call("Machine", table, "run", ["x"]), fault => fault instanceof Refused && fault.status === 5);
+  await assert.rejects(client.call("Machine", table, "run", [["1"]]), TypeError);
+  await assert.rejects(client.call("Machine", table, "run", ["1011"], {signal: AbortSignal.timeout(1)}), {name: "TimeoutError"});
+  client.close();
 });
 
 test("answers that node:vm's timeout cuts off leave every later answer right", async () => {
