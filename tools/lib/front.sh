@@ -11,7 +11,16 @@ has_python() {
     [ -d "$packages/hithwelor" ] && python3 -c 'import sys; sys.exit(sys.version_info < (3, 9))' 2>/dev/null
 }
 
-# Python's own part of the command.
+# The Python package's command. Status 97: Python is too old, or missing.
+by_package() {
+    command -v python3 >/dev/null && [ -d "$packages/hithwelor" ] || return 97
+    PYTHONPATH=$packages${PYTHONPATH:+:$PYTHONPATH} python3 -B -c 'import sys
+if sys.version_info < (3, 9): sys.exit(97)
+from hithwelor.__main__ import command
+command()' "$@"
+}
+
+# A part of the package.
 by_python() {
     PYTHONPATH=$packages${PYTHONPATH:+:$PYTHONPATH} python3 -B -m "$@"
 }

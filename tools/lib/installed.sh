@@ -25,10 +25,9 @@ choose_engine() {
     fi
 }
 
-if has_python; then
-    export PYTHONPATH=$packages${PYTHONPATH:+:$PYTHONPATH} PYTHONDONTWRITEBYTECODE=1
-    exec python3 -m hithwelor "$@"
-fi
+by_package "$@"
+status=$?
+[ "$status" = 97 ] || exit "$status"
 if [[ $# = 1 && $1 = --version ]]; then
     printf 'hithwelor %s\n' "$(<"$library/version")"
     exit 0

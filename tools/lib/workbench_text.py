@@ -14,10 +14,11 @@ from dataclasses import dataclass
 from repository import TOP
 
 sys.path.append(os.path.join(TOP, "python"))
+from hithwelor.answers import Unavailable, answer
 from hithwelor.faults import Fault
 from hithwelor.texts import Tape, View
 
-WORKBENCH = os.path.join(TOP, "workbench")
+MODULE = os.path.join(TOP, "bin", "hithwelor")
 BUILT = os.path.join(TOP, "crates", "bn_main", "out", "bn_main")
 SIDES = "nesw"
 GREATEST_STEPS = 2**62
@@ -57,8 +58,8 @@ def parser_of(description, **more):
     parser.add_argument(
         "--program",
         metavar="PATH",
-        default=WORKBENCH,
-        help="the program to run; without it, the proved one, which ./workbench builds where it must",
+        help="the program to run; without it, what answers ./try: the proved program where it is current, else the module "
+        "under Node.js; no proof is started",
     )
     return parser
 
@@ -98,31 +99,43 @@ def name_of(path):
 
 
 def program_behind(path):
-    """The program itself in place of the script ./workbench, where it is proved and that of the sources that stand: a picture of
-    many frames then waits for one look at the sources, and not for one a frame."""
-    if path != WORKBENCH:
+    """The program of a path; without one, that which answers: the proved program where it is current, else bin/hithwelor, the
+    same code under Node.js. No proof is started."""
+    if path:
         return path
-    found = subprocess.run([os.path.join(TOP, "tools", "program")], stdout=subprocess.PIPE, text=True)
-    return found.stdout.strip() or path
+    why = ""
+    for words in ([], ["--module"]):
+        ran = subprocess.run([os.path.join(TOP, "tools", "program"), *words], capture_output=True, text=True)
+        if ran.returncode == 0:
+            return ran.stdout.strip()
+        why = ran.stderr.strip().removeprefix("tools/program: ")
+    raise Fault(f"nothing here can answer: the proved program isn't built of these sources, and {why}")
 
 
 class Program:
-    """The program, by its path."""
+    """The program, by its path; without one it is chosen at the first run."""
 
-    def __init__(self, path=WORKBENCH):
+    def __init__(self, path=None):
         self.path = path
+
+    def answer(self, words, data):
+        """The status and the bytes of one run. One process of Node.js is kept for all runs of the module."""
+        self.path = program_behind(self.path)
+        try:
+            if self.path == MODULE:
+                return answer(words, data)
+            ran = subprocess.run([self.path, *words], input=data, stdout=subprocess.PIPE)
+        except (OSError, Unavailable, MemoryError) as error:
+            raise Fault(f"{self.path}: {getattr(error, 'strerror', None) or error}") from None
+        return ran.returncode, ran.stdout
 
     def run(self, words, data, statuses=(0,)):
         """The text that one run prints. A refusal, or a status that isn't wanted, is a fault."""
-        self.path = program_behind(self.path)
-        try:
-            ran = subprocess.run([self.path, *words], input=data, stdout=subprocess.PIPE)
-        except OSError as error:
-            raise Fault(f"{self.path}: {error.strerror}") from None
-        text = ran.stdout.decode("utf-8", errors="replace")
-        if ran.returncode not in statuses:
+        status, printed = self.answer(words, data)
+        text = printed.decode("utf-8", errors="replace")
+        if status not in statuses:
             said = text.splitlines()[0] if text.strip() else "nothing"
-            raise Fault(f"./workbench {' '.join(words)} says: {said} (status {ran.returncode})")
+            raise Fault(f"./workbench {' '.join(words)} says: {said} (status {status})")
         return text
 
 
@@ -135,12 +148,8 @@ def program_at_hand():
 
 
 def has_command(path, words, data=b""):
-    """Whether the program knows these words: an older one says `usage`. What ./workbench says beside is dropped."""
-    try:
-        ran = subprocess.run([path, *words], input=data, stdout=subprocess.PIPE, stderr=subprocess.DEVNULL)
-    except OSError as error:
-        raise Fault(f"{path}: {error.strerror}") from None
-    return ran.stdout != b"usage\n"
+    """Whether the program knows these words: an older one says `usage`."""
+    return Program(path).answer(words, data)[1] != b"usage\n"
 
 
 @dataclass(frozen=True)
