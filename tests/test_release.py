@@ -106,18 +106,17 @@ def test_a_version_that_isnt_told():
 
 
 def first_commands():
-    """The commands of README's 'Try it' that `./try` answers, each with its output."""
+    """README's commands that `./try` and `./hithwelor` answer, each with its output."""
     with open(os.path.join(TOP, "README.md"), encoding="utf-8") as file:
-        part = file.read().partition("\n## Try it\n")[2].partition("\n## ")[0]
-    blocks = re.findall(r"^```\n\$ (.*)\n((?:.*\n)*?)```", part, flags=re.M)
-    return [(command, output) for command, output in blocks if "./try" in command]
+        blocks = re.findall(r"^```\n\$ (.*)\n((?:.*\n)*?)```", file.read(), flags=re.M)
+    return [(command, output) for command, output in blocks if command.startswith(("./try", "./hithwelor"))]
 
 
 def test_the_archive_by_its_own_readme(released, tmp_path):
     with tarfile.open(only(released, "hithwelor-dev-linux-x86_64.tar.gz")) as file:
         file.extractall(tmp_path)
     top = tmp_path / "hithwelor-dev"
-    assert first_commands()
+    assert {command.split()[0] for command, _ in first_commands()} == {"./try", "./hithwelor"}
     has_program = (top / "crates" / "bn_main" / "out" / "bn_main").exists()
     if not has_program and not shutil.which("node", path="/usr/bin:/bin"):
         pytest.skip("neither the proved program nor a node of the system stands here")
@@ -131,7 +130,8 @@ def test_the_archive_by_its_own_readme(released, tmp_path):
             env={"PATH": "/usr/bin:/bin", "HOME": "/nonexistent", "LC_ALL": "C.UTF-8"},
         )
         assert (ran.returncode, ran.stdout) == (0, output), ran.stderr
-        assert ("answered by the proved program" if has_program else "answered by the module") in ran.stderr
+        way = "answered by the proved program" if has_program else "answered by the module"
+        assert way in ran.stderr or command.startswith("./hithwelor")
 
 
 # ---- the Python package

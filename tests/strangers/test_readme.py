@@ -27,6 +27,7 @@ def shown(page):
 
 
 TRIED = [it for it in shown("README.md") if it[0].startswith("./try")]
+TYPED = [it for it in shown("README.md") if it[0].startswith("./hithwelor")]
 PLACES = ["clean clone", "cp -r", "git archive", "tar xm"]
 
 
@@ -60,6 +61,10 @@ def holds(folder, path, way, commands=TRIED, seconds=SECONDS, limit=60):
 
 def test_try_it_with_node_alone(place, machine, node):
     holds(place, machine(node=node), BY_MODULE)
+
+
+def test_try_it_with_node_and_python(place, machine, node, python):
+    holds(place, machine(node=node, python=python), "", TYPED)
 
 
 def test_try_it_on_the_path_that_is_here(place):
@@ -106,7 +111,8 @@ def test_an_installed_prefix(place, machine, node, tmp_path):
     prefix = str(tmp_path / "prefix")
     ran = run(["make", "install", f"PREFIX={prefix}"], path=machine(lacks=["rt"], node=node), cwd=place)
     assert ran.returncode == 0, ran.stderr
-    command = [(it.replace("./try", f"{prefix}/bin/hithwelor"), output) for it, output in TRIED]
+    installed = f"{prefix}/bin/hithwelor"
+    command = [(re.sub(r"\./(try|hithwelor)", installed, it), output) for it, output in [*TYPED, *TRIED]]
     holds(os.path.join(prefix, "share", "doc", "hithwelor"), machine(node=node), "", command)
     ran = run(["make", "uninstall", f"PREFIX={prefix}"], path=machine(lacks=["rt"], node=node), cwd=place)
     assert ran.returncode == 0 and not os.path.exists(prefix)
