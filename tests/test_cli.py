@@ -189,7 +189,7 @@ def test_the_inverse_of_quintuples_is_that_of_bennetts_machine(ask):
 def test_states_keep_the_names_that_the_user_gave(tmp_path):
     path = written(tmp_path, b"go,0,0,+,go\ngo,1,1,+,rej.1\ngo,_,_,0,done\n")
     status, text, err = called("machine", path, "01")
-    assert (status, text) == (10, b"stuck rej.1 _ 3\n") and "brought into it by `standard`" in err
+    assert (status, text) == (10, b"stuck rej.1 _ 3\n") and "brought into standard form" in err
     status, text, _ = called("run", path, "01")
     assert status == 10 and b"exit stuck rej.1 _\n" in text
 
@@ -197,7 +197,7 @@ def test_states_keep_the_names_that_the_user_gave(tmp_path):
 @pytest.mark.parametrize("name, word, output", [("swap.jff", "ab", b"=ba"), ("parity.yaml", "101", b"=1010")])
 def test_machines_of_other_programs_are_read(name, word, output):
     status, text, err = called("run", example(name), word)
-    assert status == 0 and text.endswith(b"output " + output + b"\n") and "is read as a table" in err
+    assert status == 0 and text.endswith(b"output " + output + b"\n") and "read as a table of quintuples" in err
 
 
 def debugged(lines, *words):

@@ -16,6 +16,7 @@ TWICE = b"S,_,_,+,A\n\nA,0,0,+,A\nA,_,_,0,H\nA,0,1,+,A\n"
 LOOP = b"S,_,_,+,A\nA,0,0,-,B\nB,_,_,+,A\nA,_,_,0,F\n"
 BLANK = b"A,B,B,+,A\nA,1,B,0,H\n"
 LAST = b"A,1,1,+,H\nH,_,_,-,A\nH,1,1,0,X\nA,_,_,0,A\n"
+TWO_LAST = b"A,1,1,+,H\nH,_,_,-,A\nH,1,1,0,X\nH,0,1,0,Y\nA,_,_,0,A\n"
 
 
 @pytest.fixture
@@ -211,9 +212,27 @@ def test_a_blank_that_is_another_letter(put):
 
 
 def test_a_state_that_halts_and_is_left(put):
-    err = refused("check", put(LAST), status=4, told=["line 1: A,1,1,+,H", "no quintuple leaves X: --halt X"])
+    err = refused("check", put(TWO_LAST), status=4, told=["line 1: A,1,1,+,H", "no quintuple leaves X, Y: --halt X"])
     halt = re.search(r"--halt (\S+)", err)[1]
-    assert called("standard", put(LAST), "--halt", halt)[0] == 0
+    assert called("standard", put(TWO_LAST), "--halt", halt)[0] == 0
+    assert "halts in `X`" in called("standard", put(LAST))[2]
+
+
+MEANT = [("circuit", "compile"), ("debug", "session"), ("reverse", "inverse"), ("undo", "back"), ("simulate", "run")]
+
+
+@pytest.mark.parametrize("word, command", MEANT)
+def test_what_someone_might_type_leads_to_a_command(word, command):
+    err = refused(word, example("increment.csv"), "1", status=2, told=[f"did you mean {command}"])
+    assert f"more: hithwelor help {command}" in err
+
+
+def test_how_a_run_ended_is_told(put):
+    path = example("stuck.csv")
+    status, _, err = called("run", path, "1")
+    assert status == 10 and f"nothing is for state Go and 1; hithwelor trace {path} 1 prints the way there" in err
+    status, _, err = called("run", example("increment.csv"), "1011", "--history", "9")
+    assert status == 11 and "the head of tape 2 left the window to the right; --history gives more cells" in err
 
 
 def test_standard_is_named_where_it_takes_the_machine():

@@ -12,11 +12,11 @@ from . import cli_input, version
 from .cli_args import read_arguments, use_of
 from .cli_engine import Engine, Progress
 from .cli_errors import explained_exactly
-from .cli_run import REFUSALS, answer, debugged
+from .cli_run import REFUSALS, answer, debugged, tell_ending
 from .cli_usage import fault_of, forms_shown, looks_exact
 from .faults import STOPPED, Stop
-from .forms import commands, is_exact, uses
-from .cli_help import exact_help, help_of, summary
+from .forms import commands, is_exact, options, uses
+from .cli_help import exact_help, help_of, option_help, summary
 
 OWN = {"sweep": "hithwelor.sweep.command", "plot": "hithwelor.plot"}
 HELPING = ("--help", "-h", "help")
@@ -58,7 +58,10 @@ def answered(words: list[str]) -> int:
     status, text = answer(arguments, engine)
     if "verbose" in arguments.given:
         print(f"note: answered by {engine.name}", file=sys.stderr)
-    return written(status, text)
+    code = written(status, text)
+    if "json" not in arguments.given:
+        tell_ending(status, text, arguments)
+    return code
 
 
 def help_for(names: list[str]) -> str:
@@ -69,6 +72,8 @@ def help_for(names: list[str]) -> str:
         return exact_help()
     if names[0] in OWN:
         return f"hithwelor {names[0]} --help prints its options\n"
+    if names[0].lstrip("-") in options() and names[0] not in uses():
+        return option_help(names[0].lstrip("-"))
     return help_of(use_of(names[0]).command)
 
 

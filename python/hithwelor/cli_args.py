@@ -11,7 +11,7 @@ from typing import NoReturn
 from .cli_input import exists, read_bytes, split_parts
 from .faults import Stop
 from .cli_usage import fault_of_number
-from .forms import Use, commands, forms_of, is_number, options, twins, uses
+from .forms import Use, commands, forms_of, is_number, options, parts_of, twins, uses
 
 # What the names of arguments mean, for messages.
 MEANINGS = {
@@ -114,6 +114,12 @@ def use_of(command: str) -> Use:
         raise Stop(f"commands are written in small letters: {command.lower()}", usage=command.lower())
     if command.startswith("-"):
         raise Stop(f"{command} is no option here: the command comes first", usage="")
+    meant = next((parts[1] for parts in parts_of("meant") if command.lower() in parts[0].split()), "")
+    if meant:
+        what = f" ({uses()[meant].what})" if meant in uses() else ""
+        raise Stop(
+            f"there is no command {command}; did you mean {meant}{what}?", usage=meant if meant in uses() else ""
+        )
     close = difflib.get_close_matches(command, [*uses(), "sweep", "plot", "help"], 1, 0.6)
     raise Stop(f"there is no command {command}" + (f"; did you mean {close[0]}?" if close else ""), usage="")
 

@@ -76,7 +76,10 @@ def wrong_kind(use: Use, it: Input) -> Stop:
         return Stop(f"{it.name}: {what}; {use.command} takes {wanted}", 3, remedy)
     fitting = [name for name, other in uses().items() if other.kind == it.kind]
     fitting += [name for name in twins() if it.kind == "quadruples"]
-    twin = {"reversible": "hithwelor bennett FILE | hithwelor reversible -"}.get(use.command, "")
+    circuit = "hithwelor session FILE WORD -i steps a machine forward and back; hithwelor compile FILE WORD prints its circuit"
+    twin = {"reversible": "hithwelor bennett FILE | hithwelor reversible -", "step": circuit, "back": circuit}.get(
+        use.command, ""
+    )
     remedy = (
         twin if it.kind == "quintuples" and twin else f"{it.kind} are taken by: {', '.join(dict.fromkeys(fitting))}"
     )

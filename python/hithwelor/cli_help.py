@@ -139,3 +139,16 @@ def exact_help(command: str = "") -> str:
         "",
     ]
     return "\n".join(lines)
+
+
+def option_help(name: str) -> str:
+    """An option, and the commands that take it."""
+    takers = [use.command for use in uses().values() if name in use.options]
+    option = options()[name]
+    shown = f"--{name}" + (f" {option.letter}" if option.takes_value else "")
+    lines = [
+        shown,
+        wrapped(f"  {option.what} (default: {option.default})", 2),
+        wrapped(f"  taken by: {', '.join(takers)}", 2),
+    ]
+    return "\n".join([*lines, ""])

@@ -179,7 +179,7 @@ def converted(name: str, kind: str, data: bytes, wanted: Wanted) -> Input:
         table, names = table_of(read_machine(text_of(data), name, kind), name, wanted.halt or None)
     except Fault as fault:
         raise Stop(str(fault), TEXT) from None
-    notes = [f"{name} is {FOREIGN[kind]}; it is read as a table of quintuples, which tools/import prints"]
+    notes = [f"{FOREIGN[kind]}, read as a table of quintuples"]
     notes += renaming(names)
     return Input(name, "quintuples", table.encode(), records_of(table), notes)
 
@@ -193,12 +193,12 @@ def renaming(names: dict[str, str]) -> list[str]:
 def tidy_circuit(it: Input) -> Input:
     """A circuit text whose lines end in byte 10, the last one too."""
     if b"\r" in it.data:
-        it.notes.append(f"{it.name}: lines end in CR LF; converted to LF")
+        it.notes.append("lines end in CR LF; converted to LF")
         it.data = it.data.replace(b"\r\n", b"\n").replace(b"\r", b"\n")
     if it.data.startswith(b"\xef\xbb\xbf"):
         it.data = it.data[3:]
     if it.data and not it.data.endswith(b"\n"):
-        it.notes.append(f"{it.name}: the last line has no newline; added")
+        it.notes.append("the last line has no newline; added")
         it.data += b"\n"
     return it
 
@@ -209,16 +209,16 @@ def tidy_table(it: Input, wanted: Wanted) -> Input:
     mark = delimiter_of(text)
     rows = records_of(text, mark)
     if mark != ",":
-        it.notes.append(f"{it.name}: fields are separated by {'semicolons' if mark == ';' else 'tabs'}; converted")
+        it.notes.append(f"fields are separated by {'semicolons' if mark == ';' else 'tabs'}; converted")
     kept = [(line, row) for line, row in rows if not is_comment(row)]
     if len(kept) < len(rows):
-        it.notes.append(f"{it.name}: lines that begin with # are left out")
+        it.notes.append("lines that begin with # are left out")
     if kept and is_header(kept[0][1]):
-        it.notes.append(f"{it.name}: record 1 looks like a header (line {kept[0][0]}); left out")
+        it.notes.append(f"record 1 looks like a header (line {kept[0][0]}); left out")
         kept = kept[1:]
     trimmed = [(line, [field.strip(" \t") for field in row]) for line, row in kept]
     if trimmed != kept:
-        it.notes.append(f"{it.name}: spaces around fields are left out")
+        it.notes.append("spaces around fields are left out")
     it.rows = trimmed
     if it.kind != "sequential":
         convert_moves(it)
@@ -226,6 +226,8 @@ def tidy_table(it: Input, wanted: Wanted) -> Input:
         convert_blank(it, wanted.blank)
         if wanted.halt:
             put_halting_last(it, wanted.halt)
+        elif it.kind == "quintuples":
+            choose_halting(it)
     if it.notes:
         it.data = csv_of(it.rows)
     return it
@@ -259,7 +261,7 @@ def convert_moves(it: Input) -> None:
     for number, at in places:
         row = it.rows[number][1]
         row[at] = MOVES.get(row[at], row[at])
-    it.notes.append(f"{it.name}: moves are + - 0 here; this table uses {' and '.join(strange)}: converted")
+    it.notes.append(f"moves are + - 0 here; this table uses {' and '.join(strange)}: converted")
 
 
 def convert_names(it: Input) -> None:
@@ -271,7 +273,7 @@ def convert_names(it: Input) -> None:
     for _, row in it.rows:
         if len(row) > 1:
             row[0], row[-1] = changed[row[0]], changed[row[-1]]
-    it.notes += [f"{it.name}: {note}" for note in renaming(changed)]
+    it.notes += renaming(changed)
 
 
 def symbol_fields(it: Input) -> range:
@@ -291,7 +293,7 @@ def convert_blank(it: Input, blank: str) -> None:
         for _, row in it.rows:
             for at in fields:
                 row[at] = "_" if at < len(row) and row[at] == blank else row[at]
-        it.notes.append(f"{it.name}: `{blank}` is the blank; written `_`")
+        it.notes.append(f"`{blank}` is the blank; written `_`")
     elif not blank and it.rows and "_" not in letters:
         used = dict.fromkeys(letter for letter in letters if letter not in "/+-0" or letter == "0")
         likely = next((letter for letter in ("B", "b", "#", "⊔", "□", "~", ".") if letter in used), "LETTER")
@@ -300,6 +302,17 @@ def convert_blank(it: Input, blank: str) -> None:
             MACHINE,
             f"name the letter that stands for the blank: --blank {likely}; where the blank isn't used, --blank _",
         )
+
+
+def choose_halting(it: Input) -> None:
+    """Where the last record's next state is left by another record, takes the one state that no record leaves for the halting one."""
+    leaving = {row[0] for _, row in it.rows}
+    ends = list(dict.fromkeys(row[-1] for _, row in it.rows if row[-1] not in leaving))
+    if len(ends) == 1 and it.rows[-1][1][-1] in leaving and all(len(row) == 5 for _, row in it.rows):
+        try:
+            put_halting_last(it, ends[0])
+        except Stop:
+            pass
 
 
 def put_halting_last(it: Input, halt: str) -> None:
@@ -312,7 +325,7 @@ def put_halting_last(it: Input, halt: str) -> None:
     if at == 0 and it.rows[0][1][0] != it.rows[1][1][0]:
         raise Stop(f"{it.place(1)}: the first record alone leads to `{halt}`, and it has to be the last", MACHINE)
     it.rows.append(it.rows.pop(at))
-    it.notes.append(f"{it.name}: the machine halts in `{halt}`; a record that leads there is put last")
+    it.notes.append(f"halts in `{halt}`, so a record that leads there is put last")
 
 
 def split_parts(data: bytes) -> tuple[bytes, bytes] | None:

@@ -4,6 +4,7 @@ What the program prints is printed as it is. Everything else, as the window that
 """
 from __future__ import annotations
 
+import re
 import sys
 from dataclasses import dataclass, field
 
@@ -17,7 +18,7 @@ from .cli_window import Found, Refusal, Window, least_window
 from .faults import Stop
 from .forms import forms_of, options, twins, uses
 
-DONE, MACHINE, WORD, INSIDE = 0, 4, 5, 12
+DONE, MACHINE, STUCK, INSIDE = 0, 4, 10, 12
 REFUSALS = range(2, 10)
 MOST_STEPS = {"drive": 2**61}
 PARTS = ("SCRIPT", "SCHEDULE")
@@ -92,11 +93,12 @@ class Translation:
             self.inputs.append(it)
             self.to_kind(it)
         for it in self.inputs:
-            for note in it.notes:
-                say(note)
-        for it in self.inputs:
-            if it.kind == "quintuples" and self.needs_standard():
-                to_standard_form(it, self.ask)
+            try:
+                if it.kind == "quintuples" and self.needs_standard():
+                    to_standard_form(it, self.ask)
+            finally:
+                if it.notes:
+                    say(f"{it.name}: {'; '.join(it.notes)}")
 
     def to_kind(self, it: Input) -> None:
         """Chooses the command for the kind of machine that was read; a fault where it fits none."""
@@ -252,10 +254,7 @@ def to_standard_form(it: Input, ask: Ask) -> None:
     if made != DONE:
         raise Refusal(["standard"], made, table)
     demand = text.decode(errors="replace").strip().removeprefix("machine: ")
-    say(
-        f"{it.name}: not in standard form ({demand}); brought into it by `standard`, which takes the machine to start on "
-        "the first letter"
-    )
+    it.notes.append(f"brought into standard form ({demand}) by `standard`: the machine starts on the first letter")
     it.data = with_names(table.decode(), it).encode()
 
 
@@ -286,6 +285,12 @@ def debugged(arguments: Arguments, ask: Ask) -> int:
     status, text = ask(question.words, table + b"%\n")
     if status in REFUSALS:
         raise cli_errors.explained(question.words, status, text, question)
+    if "-" in arguments.files():
+        # The table was on standard input, so the commands are typed at the terminal itself.
+        try:
+            sys.stdin = open("/dev/tty", encoding="utf-8")
+        except OSError:
+            raise Stop("with the machine on standard input, -i needs a terminal: name a file", usage=None) from None
     states = states_of(ask, table, is_quadruples)
     return debug(Debugger(ask, question.words, table, states))
 
@@ -305,3 +310,22 @@ def answer(arguments: Arguments, ask: Ask) -> tuple[int, bytes]:
     if status in REFUSALS:
         raise cli_errors.explained(question.words, status, text, question)
     return status, as_json(question.words, status, text) if "json" in arguments.given else text
+
+
+def tell_ending(status: int, text: bytes, arguments: Arguments) -> None:
+    """Says what a run that is stuck, or has no room, means."""
+    found = re.search(r"^(?:exit )?stuck (.*)$", text.decode(errors="replace"), flags=re.M)
+    if status == STUCK and found and arguments.command in ("run", "machine", "drive"):
+        state, *rest = found[1].split(" ")
+        letters = rest if found[0].startswith("exit") else rest[:-1]
+        told = " ".join(letters)
+        way = " ".join(["trace", *arguments.files(), *(it or "''" for it in arguments.named.get("WORD", []))])
+        say(f"stuck: nothing is for state {state} and {told}; hithwelor {way} prints the way there")
+    room = re.search(r"^exit window (\d) (left|right)$", text.decode(errors="replace"), flags=re.M)
+    if room:
+        option = {"1 left": "--left", "1 right": "--right", "2 right": "--history", "3 right": "--output"}
+        more = option.get(f"{room[1]} {room[2]}")
+        say(
+            f"the head of tape {room[1]} left the window to the {room[2]}"
+            + (f"; {more} gives more cells" if more else "")
+        )

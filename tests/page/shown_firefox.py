@@ -80,9 +80,7 @@ def check_drawn(page, program, count):
         )
     page.ask("(document.getElementById('g-tab-machine').click(), document.getElementById('g-find').click(), 0)")
     found = "document.getElementById('g-found').textContent"
-    count.hold(
-        comes(page, f"{found}.startsWith('Complete: ')"), f"Firefox: of a column it finds {page.ask(found)!r}"
-    )
+    count.hold(comes(page, f"{found}.startsWith('Complete: ')"), f"Firefox: of a column it finds {page.ask(found)!r}")
     page.ask("document.getElementById('g-link').click(), 0")
     comes(page, "location.hash.startsWith('#design=')")
     page.visit(f"file://{PAGE}{page.ask('location.hash')}")

@@ -113,7 +113,7 @@ def test_an_installed_prefix(place, machine, node, tmp_path):
     assert ran.returncode == 0, ran.stderr
     installed = f"{prefix}/bin/hithwelor"
     command = [(re.sub(r"\./(try|hithwelor)", installed, it), output) for it, output in [*TYPED, *TRIED]]
-    holds(os.path.join(prefix, "share", "doc", "hithwelor"), machine(node=node), "", command)
+    holds(os.path.join(prefix, "share", "doc", "hithwelor"), machine(lacks=["rt"], node=node), "", command)
     ran = run(["make", "uninstall", f"PREFIX={prefix}"], path=machine(lacks=["rt"], node=node), cwd=place)
     assert ran.returncode == 0 and not os.path.exists(prefix)
 
