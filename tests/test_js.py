@@ -59,6 +59,9 @@ window.here = new Machine(table).run("").text;
 const worker = new Worker("./worker.mjs", {type: "module"});
 worker.onmessage = event => { window.there = event.data.text ?? event.data.fault; };
 worker.postMessage({number: 1, words: ["run", "=", "auto"], input: table});
+import {connect} from "./client.mjs";
+const client = await connect(), aborted = client.answer(["run", "=", "auto"], table, {signal: AbortSignal.timeout(0)});
+window.asked = await aborted.catch(() => client.answer(["run", "=", "auto"], table)).then(it => it.text, String);
 </script>"""
 BROWSERS = {
     "Chromium": (browser_at_hand, Browser, lambda it, address: it.call("Page.navigate", url=address)),
@@ -238,6 +241,6 @@ def test_it_answers_in_a_page_and_in_a_worker(name, address, any_node):
     with kind(path) as browser:
         go(browser, address)
         until = time.monotonic() + PATIENCE
-        while not browser.ask("window.there") and time.monotonic() < until:
+        while not (browser.ask("window.there") and browser.ask("window.asked")) and time.monotonic() < until:
             time.sleep(0.2)
-        assert [browser.ask(f"window.{place}") for place in ("here", "there")] == [wanted, wanted]
+        assert [browser.ask(f"window.{place}") for place in ("here", "there", "asked")] == [wanted] * 3
