@@ -15,6 +15,8 @@ PARTS = [
     "embed/single.mjs",
     "js/command.mjs",
     "js/core.mjs",
+    "js/explain.mjs",
+    "js/explanations.mjs",
     "page/src",
 ]
 MADE = ["page/hithwelor.html", "bin/hithwelor", "js/hithwelor.wasm"]

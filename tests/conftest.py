@@ -232,7 +232,8 @@ def asks(pytestconfig, request):
 
     def ask(words, data):
         words = [os.path.abspath(named), *map(str, words)]
-        ran = subprocess.run(words, input=data, stdout=subprocess.PIPE, stderr=subprocess.PIPE)
+        quiet = {**os.environ, "HITHWELOR_QUIET": "1"}
+        ran = subprocess.run(words, input=data, stdout=subprocess.PIPE, stderr=subprocess.PIPE, env=quiet)
         assert ran.stderr == b"", ran.stderr
         return ran.returncode, ran.stdout
 

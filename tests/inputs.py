@@ -462,7 +462,8 @@ def by_program(program):
     """Answers by the program, a process each."""
 
     def ask(words, data):
-        ran = subprocess.run([program, *words], input=data, stdout=subprocess.PIPE, stderr=subprocess.PIPE)
+        quiet = {**os.environ, "HITHWELOR_QUIET": "1"}
+        ran = subprocess.run([program, *words], input=data, stdout=subprocess.PIPE, stderr=subprocess.PIPE, env=quiet)
         if ran.stderr:
             raise RuntimeError(f"on standard error: {ran.stderr[:80]!r}")
         return ran.returncode, ran.stdout.decode("ascii")

@@ -1,8 +1,11 @@
 """What is said on standard error to words and inputs that are wrong, and what is completed."""
+import json
 import os
+import re
 
 import places
 import pytest
+from hithwelor.cli_errors import base
 from places import run
 
 
@@ -54,13 +57,21 @@ def test_a_folder_as_input_is_told(tried, clone):
 
 def test_a_full_device_as_output_is_told(clone, machine, any_node):
     ran = run(["bash", "-c", "./try generate 1 > /dev/full"], path=machine(node=any_node), cwd=clone)
-    assert ran.returncode == 8 and "try: status 8: the output was not taken whole" in ran.stderr
+    assert ran.returncode == 8 and "error: the output was not taken whole" in ran.stderr
 
 
 def test_without_python_a_refusal_is_told_in_short(clone, machine, any_node):
     ran = run([os.path.join(clone, "try"), "check"], path=machine(node=any_node), input="S,_,_,R,T\n")
     assert (ran.returncode, ran.stdout) == (3, "text: record 1 field 4 shift\n")
-    assert ran.stderr.splitlines()[-1] == "try: status 3: the input has a fault in its form"
+    assert ran.stderr.splitlines()[-2] == "error: field 4 of record 1 is not a move"
+
+
+def test_node_and_python_explain_alike(any_node):
+    """The command of Node.js alone, and the package without its inputs, say the same of every refusal that help.md shows."""
+    shown = re.findall(r"^((?:text|machine|word|size): .*)$", places.text_of("docs/use/help.md"), flags=re.M)
+    script = "import {explained} from './js/explain.mjs'; for (const it of JSON.parse(process.argv[1])) console.log(explained('check', 3, it));"
+    ran = run([any_node, "--input-type=module", "-e", script, json.dumps(shown)])
+    assert ran.stdout.split("\n\n")[: len(shown)] == ["error: {}\nhelp: {}".format(*base(it, "check")) for it in shown]
 
 
 def test_what_comes_by_a_pipe_or_a_file_is_explained_alike(tried, tmp_path):

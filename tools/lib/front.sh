@@ -31,6 +31,8 @@ choose_engine() {
         engine=("$program")
     elif find_fault_of_module && [ -z "$fault" ]; then
         engine=(node "$top/bin/hithwelor")
+        # Node.js explains a refusal by itself, in fewer words than the package does.
+        ! command -v python3 >/dev/null || export HITHWELOR_QUIET=1
     else
         return 1
     fi
@@ -54,7 +56,7 @@ show_help() {
 explain() {
     if has_python; then
         by_python hithwelor.cli_explain "$@" >/dev/null
-    else
+    elif [ "${engine[0]-}" != node ] || [ -n "${HITHWELOR_QUIET-}" ]; then
         say "status $1: $(sed -n "s/^status	$1	[^	]*	\([^	]*\).*/\1/p" "$tables/forms.tsv")"
     fi
 }

@@ -19,6 +19,7 @@ choose_engine() {
         engine=("$library/hithwelor")
     elif version=$(node --version 2>/dev/null) && [[ $version =~ ^v([0-9]+)\. ]] && ((BASH_REMATCH[1] >= 18)); then
         engine=(node "$library/hithwelor.js")
+        ! command -v python3 >/dev/null || export HITHWELOR_QUIET=1
     else
         fault="what is installed here needs Node.js 18 or later, and ${version:-none} is on the path"
         return 1
