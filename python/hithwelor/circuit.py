@@ -49,7 +49,8 @@ class Plan(NamedTuple):
 class Circuit:
     """A circuit with its signal, by its configuration text (docs/use/formats.md).
 
-    A faulty text is Refused at the first call that asks the program. Two circuits are equal if their texts are.
+    A faulty text is Refused, with status 3, at the first call that asks the program, and a ValueError at the first field. Steps
+    are element steps, of which a circuit counts at most 2^62. Two circuits are equal if their texts are; a loop gives elements.
     """
 
     HEAD = re.compile(

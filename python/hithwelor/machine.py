@@ -156,7 +156,13 @@ class Table:
 
 
 class Machine(Table):
-    """A machine, by its table: a quintuple a line, `state,read,write,shift,next`, as docs/use/formats.md has it."""
+    """A machine, by its table: a quintuple a line, `state,read,write,shift,next`, as docs/use/formats.md has it.
+
+    A window is (l1, r1, n, r3): cells left and right of position 0 on the work tape, and right of it on the history and on the
+    output tape. Steps are the machine's own in `by_itself` and `trace`, and element steps elsewhere. The `status` of a Refused is
+    3 for a faulty table, 4 for a machine that is not in standard form (which all but `standard` and `rules` need), 5 for a word
+    with another letter, and 6 for a word that does not fit its window or a circuit of more than 4,194,304 elements.
+    """
 
     HEADS = ("state", "read", "write", "move", "next")
     ENTRY = "quintuple"
@@ -217,13 +223,13 @@ class Machine(Table):
         return ErasingMachine(self, second)
 
     def by_itself(self, word: str, steps: SupportsIndex = MOST_STEPS) -> Outcome:
-        """The machine's own run from a word, of at most so many steps."""
+        """The machine's own run from a word, of at most so many steps: `halted`, `stuck`, or `running` after them."""
         return Outcome.read(
             self.ask(["machine", f"={letters(word)}", whole(steps, "steps", MOST_STEPS)], DONE, STUCK, INSIDE)
         )
 
     def trace(self, word: str, steps: SupportsIndex = MOST_STEPS) -> Trace:
-        """The moments of that run."""
+        """The moments of that run: a sequence, one longer than the steps made."""
         return Trace(self.ask(["trace", f"={letters(word)}", whole(steps, "steps", MOST_STEPS)], DONE, STUCK, INSIDE))
 
     def run(self, word: str, window: Iterable[SupportsIndex] | None = None, steps: SupportsIndex | None = None) -> Run:
@@ -239,12 +245,15 @@ class Machine(Table):
         return Run.read(self.ask(["run", asked, *chosen, *most], DONE, STUCK, WINDOW, INSIDE), chosen)
 
     def view(self, word: str, window: Iterable[SupportsIndex], steps: SupportsIndex) -> View:
-        """Every layer of that circuit after at most so many element steps."""
+        """Every layer of that circuit after at most so many element steps: place, module, quadruple, three tapes, and what the
+        machine itself does."""
         most = whole(steps, "steps", MOST_ELEMENT_STEPS)
         return View.read(self.ask(["view", f"={letters(word)}", *window_of(window), most]).splitlines())
 
     def session(self, word: str, window: Iterable[SupportsIndex], script: str | Iterable[str]) -> Session[View]:
-        """The answers to a script: its commands as a sequence, or as one text."""
+        """The answers to a script, its commands as a sequence or as one text: `step E`, `back E`, `go E`, `rev E`,
+        `break LABEL state NAME`, `break LABEL element K`, `drop LABEL`, `view`. A faulty command is Refused with its number.
+        """
         words = ["session", f"={letters(word)}", *window_of(window)]
         return Session.read(self.ask(words, data=self.with_script(script)), View)
 
@@ -259,7 +268,12 @@ class Machine(Table):
 
 class ReversibleMachine(Table):
     """A machine of quadruples, by its table: `state`, what is read on three tapes, what is done there, and `next`, as
-    docs/use/formats.md has it. Words are one on tape 1, or one on each of the three tapes; each is letters, or Names.
+    docs/use/formats.md has it.
+
+    Words are one on tape 1, or one on each of the three tapes; each is letters, or Names. A window is (l1, r1, r2, r3): cells
+    left and right of position 0 on tape 1, and right of it on tapes 2 and 3. The `status` of a Refused is 3 for a faulty table,
+    4 for a machine that is not deterministic, reversible and uniform, 5 for a word with another symbol, and 6 for a word that
+    does not fit its window or a circuit of more than 4,194,304 elements.
     """
 
     HEADS = ("state", "read 1", "read 2", "read 3", "act 1", "act 2", "act 3", "next")
