@@ -190,6 +190,7 @@ class Node(Engine):
     def close(self) -> None:
         self.closed = True
         self.end()
+        atexit.unregister(self.close)
 
     @property
     def is_closed(self) -> bool:
