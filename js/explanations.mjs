@@ -47,6 +47,7 @@ export const EXPLANATIONS = [
   ["size: symbols (\\d+) (\\d+)", "tape {1} has {2} symbols, more than 4,001", "write each symbol as two of a smaller alphabet"],
   ["size: word needs (\\d+)", "the word needs {1} cells right of the start", "--right {1} or more"],
   ["size: word (\\d+) needs (\\d+)", "the word on tape {1} needs {2} cells right of the start", "give its tape {2} cells or more"],
+  ["size: names", "the tapes have more than 77 symbols, so no window is found for words of names", "--window l1,r1,r2,r3 names one"],
   ["size: elements (\\d+)", "the circuit would have {1} elements, more than 4,194,304", "ask for fewer cells, or give the machine fewer states or symbols"],
   ["size: quintuples (\\d+)", "the table would have {1} quintuples, more than 4,000", "give the machine fewer quintuples or letters"],
   ["size: quadruples (\\d+)", "the machine would have {1} quadruples, more than 20,000", "give the machines fewer quintuples"],

@@ -146,6 +146,16 @@ def test_the_rest_of_the_window_is_found(ask):
     assert (status, text) == ask(["run", "=1011", "1", "8", "16", "8"], table) and err == ""
 
 
+def test_words_of_names_have_a_window_too(ask, tmp_path):
+    table = b"S,_,/,/,_,0,0,M\nM,/,/,/,+,0,0,A\nA,one,/,/,one,0,0,B\nB,/,/,/,+,0,0,C\nC,_,/,/,_,0,0,F\n"
+    path = written(tmp_path, table, "names.csv")
+    status, text, err = called("run", path, "one", "--names")
+    window = window_told(err)
+    assert status == 0 and (status, text) == ask(["drive", ":one", *window, str(2**61)], table)
+    assert window == ["0", "2", "0", "0"]
+    assert called("run", path, "two", "--names")[0] == 5
+
+
 CIRCUITS = ["two-elements.txt", "two-columns.txt", "across.txt"]
 
 

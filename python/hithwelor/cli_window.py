@@ -4,6 +4,8 @@
 """
 from __future__ import annotations
 
+import csv
+import io
 import re
 from dataclasses import dataclass
 from typing import Callable
@@ -16,7 +18,10 @@ MOST_TRACED = 46_603
 FIRST_MOMENTS = 256
 GREATEST = 1_048_576
 HEADS = re.compile(rb" head (-?\d+)")
-TAPES = 3
+TAPES, FIELDS = 3, 8
+SIZE = 6
+# The letters that stand for symbols with names; ~ stands for a name that no symbol has.
+LETTERS = [chr(code) for code in range(ord("0"), ord("~")) if chr(code) != "_"]
 Window = tuple[int, int, int, int]
 
 
@@ -78,9 +83,36 @@ def lengths_of(words: list[str]) -> list[int]:
     return counts + [0] * (TAPES - len(counts))
 
 
+def spelled(table: bytes, words: list[str]) -> tuple[bytes, list[str]]:
+    """The table and the words with a letter in place of each symbol, since `moments` takes words of letters alone; as they are
+    where no word has names. A name that no symbol has stays, and is refused."""
+    if not any(word.startswith(":") for word in words):
+        return table, words
+    rows = [row for row in csv.reader(io.StringIO(table.decode(errors="surrogateescape"), newline="")) if row]
+    symbols = {row[at] for row in rows if len(row) == FIELDS for at in range(1, 7) if row[at] not in ("/", "_")}
+    letters = dict(zip(sorted(symbols), LETTERS))
+    if len(letters) < len(symbols):
+        raise Refusal(["moments", *words], SIZE, b"size: names\n")
+    for row in rows:
+        for at in range(1, 7) if len(row) == FIELDS else ():
+            row[at] = row[at] if is_move(row, at) else letters.get(row[at], row[at])
+    made = io.StringIO()
+    csv.writer(made, lineterminator="\n").writerows(rows)
+    lists = [list(word[1:]) if word[0] == "=" else [it for it in word[1:].split(",") if word != ":"] for word in words]
+    return made.getvalue().encode(errors="surrogateescape"), [
+        "=" + "".join(letters.get(it, "~") for it in names) for names in lists
+    ]
+
+
+def is_move(row: list[str], at: int) -> bool:
+    """Whether a field of a quadruple is a move: an act on a tape that isn't read."""
+    return at > TAPES and row[at - TAPES] == "/"
+
+
 def window_of_quadruples(ask: Ask, table: bytes, words: list[str], steps: int, say: Say) -> Found:
     """The window of the circuit of quadruples: where the heads come on each tape, and the words."""
     limit, lengths = min(FIRST_MOMENTS, steps), lengths_of(words)
+    table, words = spelled(table, words)
     while True:
         status, text = asked(ask, ["moments", *words, str(limit)], table)
         if status != INSIDE or limit >= steps:
