@@ -142,6 +142,9 @@ def test_the_rest_of_the_window_is_found(ask):
         "11",
         "5",
     ]
+    assert called("run", example("increment.csv"), "1011", "--window", "auto") == called(
+        "run", example("increment.csv"), "1011"
+    )
     status, text, err = called("run", example("increment.csv"), "1011", "--window", "1,8,16,8")
     assert (status, text) == ask(["run", "=1011", "1", "8", "16", "8"], table) and err == ""
 

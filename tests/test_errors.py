@@ -164,6 +164,8 @@ def test_arguments_that_are_wrong(words, told):
 def test_files_that_are_absent():
     refused("run", "nofile.csv", "1", status=2, told=["there is no file nofile.csv"])
     refused("run", os.path.dirname(example("x")), "1", status=2, told=["is a folder: name a file in it"])
+    refused("run", example("incremnt.csv"), "1", status=2, told=[f"did you mean {example('increment.csv')}?"])
+    refused("run", "nowhere/x.csv", "1", status=2, told=["there is no folder nowhere either"])
 
 
 def test_a_window_that_is_too_small():

@@ -110,3 +110,24 @@ def test_without_node_the_command_tells_what_is_missing(clone, machine, any_pyth
 def test_help_is_completed_in_bash():
     script = 'source tools/completion.bash; COMP_WORDS=(./try he) COMP_CWORD=1; _hithwelor; echo "${COMPREPLY[*]}"'
     assert run(["bash", "-c", script], cwd=places.TOP).stdout == "help\n"
+
+
+ASKING = [
+    "./hithwelor run examples/increment.csv 1011",
+    "./try check < examples/least.csv",
+    "tools/draw < examples/two-elements.txt",
+    "tools/import --standard examples/swap.jff",
+    "tools/layers =1011 0 5 11 5 2000 < examples/increment.csv",
+]
+
+
+@pytest.mark.parametrize("command", ASKING)
+def test_nothing_starts_a_proof(clone, machine, any_node, any_python, tmp_path, command):
+    """By the module where the proved program isn't built, with the toolchain at hand or not; without Node.js a line says so."""
+    called = tmp_path / "called"
+    path = machine(node=any_node, python=any_python, rt=f"#!/bin/sh\necho >{called}\nexit 1\n")
+    ran = run(["bash", "-c", command], path=path, cwd=clone)
+    assert ran.returncode == 0 and ran.stdout and not called.exists(), ran.stderr
+    ran = run(["bash", "-c", command], path=machine(python=any_python), cwd=clone)
+    assert ran.returncode in (1, 2) and ran.stdout == "" and "node" in ran.stderr.splitlines()[-1].lower()
+    assert "Traceback" not in ran.stderr

@@ -6,6 +6,7 @@ changed is said in a note each.
 from __future__ import annotations
 
 import csv
+import difflib
 import io
 import os
 import re
@@ -94,9 +95,19 @@ def read_bytes(path: str) -> bytes:
     except IsADirectoryError:
         raise Stop(f"{path} is a folder: name a file in it") from None
     except FileNotFoundError:
-        raise Stop(f"there is no file {path}") from None
+        raise Stop(f"there is no file {path}{similar(path)}") from None
     except OSError as error:
         raise Stop(f"{path} can't be read: {cause(error)}", READ_FAULT) from None
+
+
+def similar(path: str) -> str:
+    """A file of the same folder whose name is like a path's, as a question; nothing where there is none."""
+    folder, name = os.path.split(path)
+    try:
+        close = difflib.get_close_matches(name, os.listdir(folder or "."), 1, 0.7)
+    except OSError:
+        return f"; there is no folder {folder} either" if folder else ""
+    return f"; did you mean {os.path.join(folder, close[0])}?" if close else ""
 
 
 def text_of(data: bytes) -> str:

@@ -185,7 +185,7 @@ class Translation:
         """The numbers of the window: those that are given, and the least for the others."""
         names, given = {"left": "l1", "right": "r1", "history": "n", "output": "r3"}, self.arguments.given
         chosen = {letter: self.arguments.number(name, letter) for name, letter in names.items()}
-        if "window" in given:
+        if given.get("window", "auto") != "auto":
             listed = given["window"].replace(" ", ",").split(",")
             if len(listed) != 4:
                 raise Stop(
