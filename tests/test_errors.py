@@ -6,6 +6,7 @@ import re
 
 import pytest
 from people import called, example
+from places import TOP
 
 pytestmark = pytest.mark.usefixtures("answering")
 CIRCUIT = b"rotary 1\r\nelements 1\r\nstart 0.n\r\nend 0.w\r\nsteps 0\r\nat 0.n\r\ne 0 H - - - -\r\n"
@@ -124,6 +125,13 @@ def test_ends_of_lines_in_a_circuit(put):
     assert out == called("step", "1", data=CIRCUIT.replace(b"\r", b""))[1]
     told = ["lines end in CR LF", "hithwelor step FILE"]
     by_the_exact_form("step", "1", status=3, text=b"text: line 1 syntax\n", data=CIRCUIT, told=told)
+
+
+def test_a_machine_of_two_tapes():
+    path = os.path.join(TOP, "tests", "machines", "jflap", "two-tapes.jff")
+    refused(
+        "run", path, "1", status=3, told=["two-tapes.jff: the machine has 2 tapes, and only one-tape machines are read"]
+    )
 
 
 USAGE = [

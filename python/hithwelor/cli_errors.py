@@ -33,6 +33,12 @@ SHOWN = {
     "sequential": "a table of a sequential machine (4 fields)",
     "circuit": "a circuit (a configuration text)",
 }
+SEVERAL = {
+    "quintuples": "quintuples",
+    "quadruples": "quadruples",
+    "sequential": "sequential machines",
+    "circuit": "circuits",
+}
 DONE, NO_MEMORY = 0, 9
 
 
@@ -81,7 +87,9 @@ def wrong_kind(use: Use, it: Input) -> Stop:
         use.command, ""
     )
     remedy = (
-        twin if it.kind == "quintuples" and twin else f"{it.kind} are taken by: {', '.join(dict.fromkeys(fitting))}"
+        twin
+        if it.kind == "quintuples" and twin
+        else f"{SEVERAL[it.kind]} are taken by: {', '.join(dict.fromkeys(fitting))}"
     )
     return Stop(f"{it.name} is {shown}; {use.command} takes {wanted}", 3, remedy)
 
@@ -124,7 +132,7 @@ def fields(found: re.Match[str], question: Question, cause: str, remedy: str) ->
     if record > len(it.rows):
         return cause, remedy
     row, wanted = it.rows[record - 1][1], uses()[question.command].kind
-    cause = f"{it.place(record)}: {len(row)} fields, where {SHOWN.get(wanted, wanted)} is needed"
+    cause = f"{it.place(record)}: {len(row)} field{'s' if len(row) != 1 else ''}, where {SHOWN.get(wanted, wanted)} is needed"
     others = {5: "quintuples", 8: "quadruples", 4: "sequential"}
     kind = others.get(len(row), "")
     if row[0].lstrip().startswith("#"):
