@@ -21,16 +21,18 @@ export function renderBank(f) {
   put("map", mapPicture(run, {bank: f.bank, row: f.row, moment: f.moment, hasLeft, width: widthOf("map"), height: MAP_HEIGHT}));
   put("controlsaid", sayControl(controlSaid(run, f)));
   if (!f.bank) {
-    put("what", "fetching the way of the signal …");
+    put("what", "Loading the path of the signal …");
     return;
   }
-  const {bank} = f, bars = run.bankBars(bank, f.e);
+  // A module that was opened by hand, or the one in which the signal is.
+  const opened = state.module === null || state.module === f.bank.number ? null : run.layout.banks[state.module], bank = opened ?? f.bank, bars = run.bankBars(bank, f.e);
   const size = `${bank.columns} columns of ${bank.rows} rows, ${number(bank.count)} elements`;
   put("where", escaped(bankName(bank)[0].toUpperCase() + bankName(bank).slice(1))
     + ` <span class="quiet state" title="${size}">${escaped(markSaid(bank, bars))}</span>`);
-  put("what", moveWords(f, hasLeft));
-  const trail = f.move.from !== null ? run.trail(f.e, f.move.from, MOST_TRAIL) : [f.at.place];
-  const view = viewOf(f), width = widthOf("bankbox"), place = f.at.place;
+  put("what", opened ? `Opened by hand; the signal is in ${escaped(bankName(f.bank))}. ⊡ follows it again.` : moveWords(f, hasLeft));
+  const trail = opened ? [] : f.move.from !== null ? run.trail(f.e, f.move.from, MOST_TRAIL) : [f.at.place], place = opened ? -1 : f.at.place;
+  const middle = 4 * (bank.base + Math.max(0, bars ? markedIn(bank, bars) : 0) * (bank.rows + 1));
+  const view = viewOf({bank, at: opened ? {place: middle} : f.at}), width = widthOf("bankbox");
   if (view.needsMap) {
     const height = Math.min(58, Math.max(34, bank.rows * 1.6));
     put("overview", overviewPicture(run, {bank, bars, place, trail, width, height, seen: view}));
@@ -56,9 +58,9 @@ function moveWords(f, hasLeft) {
   if (hasLeft) return escaped(exitWords(run.outcome.exit, nameOf));
   const entry = f.move.from !== null ? run.placeAt(f.move.from)?.place : f.row >= 0 ? f.at.place : null;
   const row = entry === null || entry === undefined ? -1 : lineInto(run.layout, entry);
-  if (row < 0) return "on its way";
+  if (row < 0) return "passing through";
   const line = `<b>${escaped(lineSaid(run.layout, f.bank, row).words)}</b>`;
-  if (f.row >= 0) return line + " · about to come in";
+  if (f.row >= 0) return line + " · signal entering";
   if (f.move.from === null || f.move.to === null) return line;
   return line + ` · step ${number(f.e - f.move.from)} of ${number(f.move.to - f.move.from)}`;
 }
@@ -67,10 +69,10 @@ function moveWords(f, hasLeft) {
 function markSaid(bank, bars) {
   if (!bars) return "";
   const column = markedIn(bank, bars);
-  if (column < 0) return "no mark: on its way";
+  if (column < 0) return "no marked column: the signal is inside";
   if (bank.kind === "control") return `state ${column + 1} of ${bank.columns}`;
   const {letter, hasHead} = cellState(current.run.layout, bank, column);
-  return `holds ${letter === "_" ? "a blank" : letter}${hasHead ? " and the head" : ""}`;
+  return `holds ${letter === "_" ? "a blank" : letter}${hasHead ? ", and the head is here" : ""}`;
 }
 
 // Which part of the bank is seen, how large; and whether the whole in little is wanted beside it.
@@ -108,6 +110,23 @@ function followed(bank, place, pitch, columns, rows) {
   if (r - y < Math.min(1.5, rows / 4)) y = r - rows * .55;
   else if (r - y > rows - 2.5) y = r - rows * .4;
   return {x, y};
+}
+
+// ---- another module
+
+// Opens a module, or follows the signal again where it is open already.
+/** @type {(number: number) => void} */
+export function openModule(number) {
+  state.module = state.module === number ? null : number;
+  state.zoom = null;
+  redraw(false);
+}
+// The module beside the one that is shown, or the first one of the next tape.
+/** @type {(direction: number, isTape: boolean) => void} */
+export function nextModule(direction, isTape) {
+  const {run} = current, bank = run.layout.banks[state.module ?? seen.view?.bank ?? 0];
+  const near = isTape ? run.layout.banks.find(it => (it.tape ?? 0) === (bank.tape ?? 0) + direction) : run.layout.banks[bank.number + direction];
+  if (near && near.number !== state.module) openModule(near.number);
 }
 
 // ---- larger, smaller, another part

@@ -33,7 +33,7 @@ function tapeOf(tape, {from, head, written}, {first, many}) {
 }
 // What one cell holds. A letter has one byte, so its place is known; a number of the history may have more.
 /** @type {(tape: number, told: Told, cell: number) => string} */
-function symbolAt(tape, {from, written}, cell) {
+export function symbolAt(tape, {from, written}, cell) {
   const at = cell - from;
   if (at < 0) return "_";
   return (tape === HISTORY + 1 ? written.split(" ")[at] : written[2 * at]) ?? "_";
@@ -71,7 +71,7 @@ async function readLines(lines) {
 }
 
 /** @implements {Moment} */
-class ToldMoment {
+export class ToldMoment {
   stage = /** @type {Stage} */ ("compute");
   /** @type {string | null} */ state = null;
   /** @type {number | null} */ rule = null;
@@ -90,7 +90,7 @@ class ToldMoment {
 export class Early extends Moments {
   circuit = {count: 0};
   /** @type {string[][]} */ quadruples = [];
-  lacking = "the circuit is looked for …";
+  lacking = "Building the circuit …";
   isWhole = true;
   isSmall = true;
   /** @param {AskedEarly} asked @param {Read[]} lines */

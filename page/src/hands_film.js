@@ -47,7 +47,7 @@ async function goToTime(run, time) {
   const isKnown = () => run.isWhole || run.moments.length > time + 1;
   if (!isKnown()) {
     const row = number(Math.floor(time));
-    const told = () => busy(`the program comes to row step ${row}: ${number(run.moments.length)} are known …`);
+    const told = () => busy(`the program runs to quadruple step ${row}: ${number(run.moments.length)} computed …`);
     told();
     await run.moreUntil(() => run !== current.run || wanted.time !== time || isKnown(), told);
     if (wanted.time === time) busy("");

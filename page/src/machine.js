@@ -9,13 +9,15 @@ import {followRun, renderFilm, resetFilm} from "./film.js";
 import {beginHints} from "./hints.js";
 import {redraw} from "./notices.js";
 import {keepPast} from "./past.js";
-import {fetchFrame, pause} from "./play.js";
+import {fetchFrame, goTo, pause} from "./play.js";
 import {readingsOf} from "./reading.js";
+import {LongRun} from "./long.js";
+import {limits} from "./moments.js";
 import {Run} from "./run.js";
 import {busy, byId, current, dialog, escaped, isEarly, isTooLong, nameOf, state, toast} from "./state.js";
 import {put} from "./sizes.js";
 import {blankCandidates, faultOf, freeNames, lettersOf, refusalWords, rulesOf, spelled, statesOf, turned} from "./table.js";
-import {matchOf} from "./texts.js";
+import {matchOf, readRun} from "./texts.js";
 import {answerWords, judgedBy} from "./verdicts.js";
 import {findRun, Refused, widen} from "./window.js";
 import {number} from "./words.js";
@@ -23,7 +25,7 @@ import {number} from "./words.js";
 const MOST_BLANKS = 4, SOUGHT_AFTER = 200, EARLY_AFTER = 150;
 // What of a reading is said at once: the rest is in sight where it is asked for.
 const TOLD_AT_ONCE = /the blank$|halts|stuck| to [!-~]$/;
-export const OWN_WORDS = "Your own machine, run by the program.";
+export const OWN_WORDS = "Your machine.";
 let waiting = null;
 // The text that came as a whole, and is to be read in whatever notation it is; and the one that was made of it, with what stood
 // there before.
@@ -68,7 +70,7 @@ async function rebuild(keep = 0) {
   const edition = ++state.editions, isOld = () => edition !== state.editions;
   state.isMaking = true;
   sought(true);
-  busy("asking the program …");
+  busy("Checking the table …");
   state.names = isTooLong() ? {} : freeNames(state.text, state.names);
   const judged = await judge(state.text, isTooLong() ? state.text : spelled(state.text, state.names), isOld);
   if (isOld()) return;
@@ -172,14 +174,14 @@ async function judge(text, given, isOld) {
 
 // The run in the window that is chosen, or in the one that the program finds.
 async function makeRun(table, isOld) {
-  busy("looking for a window …");
+  busy("Looking for a window …");
   // What is typed meanwhile is another run's.
-  const {word, window} = state, made = {isThere: false, first: Promise.resolve(), early: /** @type {any} */ (null), told: /** @type {RunTold} */ ({rules: [], rows: []})};
+  const {word, window} = state, made = {isThere: false, first: Promise.resolve(), bennett: /** @type {Promise<any>} */ (Promise.resolve(null)), early: /** @type {any} */ (null), told: /** @type {RunTold} */ ({rules: [], rows: []})};
   try {
     const told = own => { made.first = tellEarly({table, word, own, window}, made, isOld); };
     const found = await findRun(table, word, window, told);
-    if (!isOld()) busy("its circuit, and its moments …");
-    const run = Object.assign(await new Run(table, word, found).open(), {told: made.told});
+    if (!isOld()) busy("Building the circuit …");
+    const run = Object.assign(await (await runOf(table, word, found, made)).open(), {told: made.told});
     made.isThere = true;
     return {run, found};
   } catch (fault) {
@@ -189,6 +191,15 @@ async function makeRun(table, isOld) {
     }
     throw fault;
   }
+}
+// A run whose moments are told already, where it is long, or one that asks its circuit for them.
+/** @type {(table: string, word: string, found: Found, made: {first: Promise<any>, bennett: Promise<any>}) => Promise<Run>} */
+async function runOf(table, word, found, made) {
+  const {exit, steps, quadruples} = readRun(found.text);
+  if (found.isOpen || exit !== "end" || steps <= limits.quick) return new Run(table, word, found);
+  await made.first;
+  const bennett = await made.bennett;
+  return bennett?.total === (quadruples ?? 0) + 1 ? new LongRun(table, word, found, bennett) : new Run(table, word, found);
 }
 // While the circuit is looked for the machine by itself is shown, and then Bennett's, which has both layers above the circuit;
 // where another machine is seen, a moment later, since most circuits are found by then. It is waited for the first of them.
@@ -206,7 +217,8 @@ async function tellEarly(asked, made, isOld) {
     if (!isOld() && !made.isThere) showEarly(made.early);
   };
   await tell(ownEarly(asked));
-  tell(bennettEarly(asked)).catch(console.error);
+  made.bennett = bennettEarly(asked).catch(() => null);
+  tell(made.bennett).catch(console.error);
 }
 function showEarly(early) {
   if (current.run === early.run) return;
@@ -225,7 +237,7 @@ function showAny({run, found}, e) {
   document.body.classList.toggle("early", run.circuit.count === 0);
   state.breaks = state.breaks.filter(it => it.kind !== "state" || run.states.includes(it.state));
   stale(false);
-  Object.assign(state, {e: Math.max(0, Math.min(e, run.end)), cell: null, zoom: null, span: null});
+  Object.assign(state, {e: Math.max(0, Math.min(e, run.end)), cell: null, module: null, zoom: null, span: null});
   resetFilm();
   showOutcome();
   chips();
@@ -239,8 +251,10 @@ function showRun(made, keep) {
   state.isMaking = false;
   sought(false);
   busy("");
-  showAny(made, stepKept(run, keep));
-  fetchFrame(1);
+  const e = stepKept(run, keep);
+  showAny(made, e);
+  if (e && e === keep && run instanceof LongRun) run.locateStep(e).then(() => { if (run === current.run) goTo(e); }).catch(console.error);
+  else fetchFrame(1);
   followRun(run).then(isWhole => { if (isWhole && run === current.run && !Number.isFinite(run.end)) openWider(run); }).catch(console.error);
   beginHints();
 }
@@ -248,7 +262,7 @@ function showRun(made, keep) {
 // A long run has left its window, so it is shown anew in a wider one.
 async function openWider(run) {
   if (!(await widen(run)) || run !== current.run) return;
-  toast("The work tape had too few cells for this run: it is opened again with more.");
+  toast("The work tape had too few cells for this run; it is opened again with more.");
   typed(0);
 }
 
@@ -266,14 +280,14 @@ export function stale(it) {
   document.body.classList.toggle("stale", it && Boolean(current.run));
   document.body.classList.toggle("empty", !current.run);
   if (!current.run) {
-    put("rule", '<p class="head">Nothing runs yet.</p><p class="more">What stands below the table says why. As soon as it is a '
-      + "machine, its run is shown here, its circuit at the right, and the whole of its time below.</p>");
+    put("rule", '<p class="head">No run yet.</p><p class="more">The message below the table says why. Once the table '
+      + "is a machine, its run appears here, its circuit on the right and its time line below.</p>");
   }
   if (!it) return;
   pause();
   if (current.run) {
     setTimeout(() => {
-      if (document.body.classList.contains("stale")) busy("still shown: the last machine that ran");
+      if (document.body.classList.contains("stale")) busy("Previous run; fix the table");
     }, 0);
   }
 }
@@ -298,17 +312,17 @@ function showFault({fault, also, lines = [], turn, standard, blanks = [], again 
   box.innerHTML = `<span class="fault">${escaped(fault ?? "")}</span>`;
   if (also) box.innerHTML += `<p class="note">${escaped(also)}</p>`;
   if (turn) {
-    box.innerHTML += `<p class="note">The page can turn:</p><ul>${turn.said.map(it => `<li>${escaped(it)}</li>`).join("")}</ul>`;
-    addButton("Turn it so", "main", () => turnTo(turn));
+    box.innerHTML += `<p class="note">The page can convert the table:</p><ul>${turn.said.map(it => `<li>${escaped(it)}</li>`).join("")}</ul>`;
+    addButton("Convert", "main", () => turnTo(turn));
   }
   if (standard) {
     addButton("It starts on the first letter", "main", () => { keepPast(); state.asStandard = true; typed(0); }).title =
-      "The program's `standard` makes an equal machine that starts and halts on the blank before its word. Your names are kept.";
+      "The command `standard` builds an equivalent machine that starts and halts on the blank before its word. Your names are kept.";
   }
   for (const it of blanks.slice(0, MOST_BLANKS)) {
     addButton(`${it} is the blank`, "", () => { state.blank = it; turnTo(turned(state.text, it, state.names)); });
   }
-  if (read) addButton("Read it so", "main", () => { asPasted(); typed(0); }).title = "it is a notation that the page reads";
+  if (read) addButton("Read it", "main", () => { asPasted(); typed(0); }).title = "the page can read this notation";
   if (isLong) addButton("Clear", "", () => { keepPast(); state.text = ""; changed(0); });
   if (again) addButton("Try it again", "main", () => typed(0, state.e));
   markFaults(lines);
@@ -323,11 +337,11 @@ function showVerdict({good = "", isStandard}) {
     const {what, said} = made.reading, standard = isStandard ? [`standard form adds ${count - machine.userRules.length} rules`] : [];
     const told = [...said.filter(it => TOLD_AT_ONCE.test(it)), ...standard].join("; ");
     box.innerHTML = `<span class="note" title="${escaped([...said, ...standard].join("; "))}">Read as ${escaped(what || "a table")}${told ? `: ${escaped(told)}` : ""}</span> `;
-    addButton("undo", "link", undoReading).title = "what was pasted stands there again";
+    addButton("undo", "link", undoReading).title = "restore the pasted text";
     addButton("See", "link", () => showReading(made.reading, isStandard));
   } else if (isStandard) {
-    box.innerHTML = `<span class="note">Brought into standard form, ${count - machine.userRules.length} rules added. `
-      + `Beside each line's number stands its <b class="ruleno">rule's</b>.</span> `;
+    box.innerHTML = `<span class="note">Converted to standard form: ${count - machine.userRules.length} rules added. `
+      + `The second number beside a line is its <b class="ruleno">rule</b>.</span> `;
     addButton("See", "link", showStandard);
     addButton("As typed", "link", () => { keepPast(); state.asStandard = false; typed(0); });
   } else {
@@ -339,15 +353,15 @@ function showVerdict({good = "", isStandard}) {
 }
 // What was turned of what was pasted, and the table that runs.
 function showReading({what, said}, isStandard) {
-  const turned = [...said, ...(isStandard ? ["it starts on its first letter, so it was brought into standard form"] : [])];
+  const turned = [...said, ...(isStandard ? ["the machine starts on the first letter, so it was converted to standard form"] : [])];
   dialog(`<h2>Read as ${escaped(what || "a table")}</h2><ul>${turned.map(it => `<li>${escaped(it)}</li>`).join("")}</ul>
-    <p class="quiet">The table that runs${isStandard ? ", as <code>standard</code> printed it, with your names" : ""}:</p><pre class="listing">${listing()}</pre>`);
+    <p class="quiet">The table that runs${isStandard ? ", as the command <code>standard</code> prints it, with your names" : ""}:</p><pre class="listing">${listing()}</pre>`);
 }
 const listing = () => current.machine.rules.map((it, k) =>
   `${String(k + 1).padStart(3)}  ${escaped(nameOf(it.state))}, ${it.read}, ${it.write}, ${it.shift}, ${escaped(nameOf(it.next))}`).join("\n");
 function showStandard() {
-  dialog('<h2>The same machine in standard form</h2><p class="quiet">What <code>standard</code> printed, with your names. Rule 1 '
-    + `steps onto the word; the last ones go back over it.</p><pre class="listing">${listing()}</pre>`);
+  dialog('<h2>The same machine in standard form</h2><p class="quiet">The output of the command <code>standard</code>, with your names. Rule 1 '
+    + `moves onto the word; the last rules go back over it.</p><pre class="listing">${listing()}</pre>`);
 }
 function showRefusal({reply, message, early}) {
   const words = isCutOff(reply) ? reply.words : refusalWords(reply.text, state.word, current.machine.rules) ?? message;
@@ -385,14 +399,14 @@ export function giveUp() {
     stale(true);
     return;
   }
-  run.lacking = "Stopped: no circuit is looked for.";
+  run.lacking = "Stopped. There is no circuit.";
   settleEarly();
 }
 export function showOutcome() {
   const {run, found} = current, it = found.own, [l1, r1, n, r3] = run.window;
   byId("outcome").textContent = answerWords(judgedBy(it)) + {
-    halted: `${number(it.steps)} steps → ${it.output || "no letter"}`,
-    stuck: `stuck in ${nameOf(it.state)} on ${it.letter === "_" ? "blank" : it.letter} after ${it.steps}`,
+    halted: `${number(it.steps)} steps → ${it.output || "empty output"}`,
+    stuck: `stuck in ${nameOf(it.state)} on ${it.letter === "_" ? "blank" : it.letter} after ${it.steps} steps`,
     running: `runs on; ${n} steps shown`,
   }[it.outcome];
   if (isEarly()) {
@@ -400,7 +414,7 @@ export function showOutcome() {
     byId("size").title = "";
     return;
   }
-  const byHand = state.window ? " · window by hand" : "";
+  const byHand = state.window ? " · window set by hand" : "";
   byId("size").textContent = `${number(run.circuit.count)} elements · ${number(run.layout.banks.length)} modules${byHand}`;
   byId("size").title = `window ${run.window.join(" ")}: work tape from ${-l1} to ${r1}, history to ${n}, output to ${r3}`;
 }

@@ -153,6 +153,9 @@ export class Moments {
   // isn't told.
   /** @type {(moment: Moment) => number | null | undefined} */
   ruleNext({step, stage, rule}) { return stage === "compute" && rule === null ? this.told.rules[step ?? -1] : undefined; }
+  // Whether the element step at which a moment begins is known, and no estimate.
+  /** @type {(q: number) => boolean} */
+  isExact(q) { return q >= 0; }
   /** @type {(e: number) => boolean} */
   isKnown(e) { return this.isWhole || (this.starts.at(-1) ?? 0) > e; }
   // The moments up to a step, up to one of them, or all; false where the asking was stopped.

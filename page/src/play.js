@@ -42,6 +42,8 @@ async function fetchAll() {
   while (wanted) {
     const it = wanted;
     wanted = null;
+    // The step of a long run may be another by now, at the same place of the time line.
+    if (it.run === current.run) it.e = state.e;
     await withWords(it, it.run.ready(it.e, it.direction));
     if (it.run !== current.run) continue;
     redraw(false);
@@ -89,7 +91,7 @@ export async function goToEnd() {
   const {run} = current;
   if (!run) return;
   pause();
-  const told = () => busy(`the program runs to the end: ${number(run.moments.length)} row steps so far …`);
+  const told = () => busy(`the program runs to the end: ${number(run.moments.length)} quadruple steps so far …`);
   if (!Number.isFinite(run.end)) {
     told();
     await run.moreUntil(() => run !== current.run, told);
@@ -103,6 +105,7 @@ export function goToKnown() {
   if (run && !run.isKnown(state.e)) goTo(run.starts.at(-2) ?? 0);
 }
 export function chooseLayer(layer) {
+  if (state.layer !== layer) byId("live").textContent = `Unit of a step: ${{machine: "machine step", quadruple: "quadruple step", module: "module move", element: "element step"}[layer]}.`;
   state.layer = layer;
   pace.owed = 0;
   redraw(false);
@@ -224,10 +227,10 @@ export async function runBreak(direction) {
   pause();
   const {run} = current, way = direction > 0 ? "running on" : "running back";
   busy(`${way} …`);
-  const {step: e, hit: it} = await run.runTo(state.e, direction, state.breaks, q => busy(`${way}: row step ${number(q)} of ${number(run.count - 1)} …`));
+  const {step: e, hit: it} = await run.runTo(state.e, direction, state.breaks, q => busy(`${way}: quadruple step ${number(q)} of ${number(run.count - 1)} …`));
   busy("");
   if (run !== current.run) return;
   goTo(e);
   if (it) hit(it);
-  else toast(direction > 0 ? "No breakpoint on the way: the end." : "No breakpoint on the way back: the start.");
+  else toast(direction > 0 ? "No breakpoint was reached: this is the end." : "No breakpoint was reached: this is the start.");
 }

@@ -151,24 +151,27 @@ export class Run extends Moments {
   // The bars where a piece begins: handed on from a neighbour that is there, else asked of the program.
   /** @type {(c: number, how?: {lane?: number}) => Promise<Uint8Array | null>} */
   async bars(c, how = {}) {
-    const known = this.barsAt.get(c), left = this.barsAt.get(c - 1), right = this.barsAt.get(c + 1);
-    if (known) return known;
-    const before = this.loaded(c - 1), here = this.loaded(c);
-    let bars;
-    if (before && left) {
-      bars = left.slice();
-      for (let k = 0; k < before.places.length - 1; k++) bars[before.places[k] >> 2] = before.places[k] & 1;
-    } else if (here && right) {
-      bars = right.slice();
-      const last = here.places.length - 2;
-      for (let k = last; k >= 0; k--) bars[here.places[k] >> 2] = this.barBefore(here.places[k], here.places[k + 1], here.hasLeft && k === last);
-    } else {
-      const reply = await answer(["step", String(c * this.piece)], this.compiled, how);
-      if (reply.status !== STATUS.done) return null;
-      bars = readBars(reply.text, this.circuit.count);
-    }
-    this.barsAt.set(c, bars);
+    const bars = this.barsAt.get(c) ?? this.handedOn(c) ?? await this.askBars(c, how);
+    if (bars) this.barsAt.set(c, bars);
     return bars;
+  }
+  /** @type {(c: number) => Uint8Array | null} */
+  handedOn(c) {
+    const left = this.barsAt.get(c - 1), right = this.barsAt.get(c + 1), before = this.loaded(c - 1), here = this.loaded(c);
+    if (before && left) {
+      const bars = left.slice();
+      for (let k = 0; k < before.places.length - 1; k++) bars[before.places[k] >> 2] = before.places[k] & 1;
+      return bars;
+    }
+    if (!here || !right) return null;
+    const bars = right.slice(), last = here.places.length - 2;
+    for (let k = last; k >= 0; k--) bars[here.places[k] >> 2] = this.barBefore(here.places[k], here.places[k + 1], here.hasLeft && k === last);
+    return bars;
+  }
+  /** @type {(c: number, how: {lane?: number}) => Promise<Uint8Array | null>} */
+  async askBars(c, how) {
+    const reply = await answer(["step", String(c * this.piece)], this.compiled, how);
+    return reply.status === STATUS.done ? readBars(reply.text, this.circuit.count) : null;
   }
   // Sides n, e, s, w are 0 to 3, so an odd side is one along west and east: a bar that lies is 1.
   /** @type {(place: number, next: number, hasLeft: boolean) => boolean} */

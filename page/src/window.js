@@ -6,8 +6,9 @@ import {answer, isCutOff, LANES, STATUS, stopBusy} from "./answer.js";
 import {matchOf} from "./texts.js";
 
 // How many steps a machine is run by itself, how many are shown of one that runs on, and above how many a run is long.
-const MOST_OWN_STEPS = 100000, SHOWN_STEPS = 40;
-export const longRuns = {above: 200};
+const MOST_OWN_STEPS = 100000, SHOWN_STEPS = 40, MOST_TRACED = 10000;
+// Above how many steps of the machine the window is that of its trace, and above how many the circuit's end isn't asked for at first.
+export const longRuns = {above: 200, open: 2000};
 
 export class Refused extends Error {
   /** @param {Reply} reply */
@@ -33,8 +34,8 @@ export function whole(reply) {
 export async function findRun(table, word, given = null, told = () => {}) {
   const own = await ownRun(table, word), shown = [SHOWN_STEPS, Math.max(word.length, SHOWN_STEPS), SHOWN_STEPS, 1];
   told(own);
-  const isOpen = !given && own.outcome === "halted" && own.steps > longRuns.above;
-  const asked = given ?? (own.outcome === "running" ? shown : isOpen ? longWindow(table, word, own) : null);
+  const isLong = !given && own.outcome === "halted" && own.steps > longRuns.above, isOpen = isLong && own.steps > longRuns.open;
+  const asked = given ?? (own.outcome === "running" ? shown : isLong ? await leastWindow(table, word, own) : null);
   // It may take long, so what is asked of the next machine doesn't queue behind it.
   stopBusy(LANES.long);
   const words = ["run", "=" + word, ...(asked ?? ["auto"]), ...(isOpen ? ["0"] : [])], ran = await answer(words, table, {lane: LANES.long});
@@ -51,6 +52,17 @@ export async function ownRun(table, word) {
 }
 
 // ---- windows of long runs
+
+// The least window in which a machine that halts has room: how far its head goes, a cell of the history for each step, and the output with
+// the cell behind it. This is the only place that finds a window here.
+/** @type {(table: string, word: string, own: Own) => Promise<Window4>} */
+async function leastWindow(table, word, own) {
+  const traced = own.steps <= MOST_TRACED && await answer(["trace", "=" + word, own.steps], table);
+  if (!traced || traced.status !== STATUS.done) return longWindow(table, word, own);
+  const heads = [...traced.text.matchAll(/ head (-?\d+) cells /g)].map(it => Number(it[1]));
+  const [left, right] = heads.reduce(([low, high], it) => [Math.min(low, it), Math.max(high, it)], [0, word.length]);
+  return [0 - left, right, own.steps, (own.output ?? "").length + 1];
+}
 
 // The ends of the work tape that were too near, and were put farther, by machine and word.
 const widened = new Map();

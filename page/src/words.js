@@ -3,7 +3,7 @@ import {minus} from "./state.js";
 import {finalOf, SHIFT_BACK, SHIFT_WORDS, symbolWord} from "./table.js";
 
 export const TAPES = ["", "work", "history", "output"];
-export const STAGES = {compute: "compute, and keep a history", copy: "copy the output", retrace: "retrace, and take the history back"};
+export const STAGES = {compute: "compute and keep a history", copy: "copy the output", retrace: "retrace and clear the history"};
 const numbers = new Intl.NumberFormat("en");
 /** @type {(it: number) => string} */
 export const number = it => numbers.format(it);
@@ -21,7 +21,7 @@ export const countWords = run => run.total || run.isWhole ? number(run.count - 1
 /** @type {(shown: {run: import("./run.js").Run, found: Found}, f: Frame, listed: any, isShort: boolean) => Record<string, string>} */
 export function counterWords({run, found}, {e, q, moment}, {moves, at}, isShort) {
   const steps = found.own.outcome === "running" ? "…" : number(found.own.steps);
-  const element = isShort ? number(e) : `${number(e)} of ${endWords(run)}`;
+  const about = run.isExact(q) ? "" : "≈ ", element = isShort ? about + number(e) : `${about}${number(e)} of ${endWords(run)}`;
   if (!run.layers.includes("quadruple")) return {machine: `${number(e)} of ${steps}`, quadruple: "…", module: "·", element: "…"};
   if (!run.isKnown(e)) return {machine: `… of ${steps}`, quadruple: `… of ${countWords(run)}`, module: "·", element};
   const isWhole = !moves?.list.isPart && (moves?.to ?? 0) > (moves?.from ?? 0), step = moment.step ?? "…";
@@ -41,9 +41,9 @@ export const shortBank = ({kind, tape = 0, cell = 0}) => kind === "control" ? "c
 /** @type {(exit: string | null, name: Naming) => string} */
 export const exitWords = (exit, name) => {
   if (exit === null) return "";
-  if (exit === "end") return "The machine has halted, and the signal has left by the end.";
+  if (exit === "end") return "The machine has halted, and the signal has left by the end port.";
   const stuck = /^stuck (\S+) (\S+)$/.exec(exit);
-  if (stuck) return `Stuck: no rule for ${name(stuck[1])} on ${symbolWord(stuck[2])}.`;
+  if (stuck) return `Stuck: no rule for state ${name(stuck[1])} on ${symbolWord(stuck[2])}.`;
   const window = /^window ([123]) (left|right)$/.exec(exit);
   return window ? `The head of the ${TAPES[Number(window[1])]} tape would leave its window to the ${window[2]}.` : exit;
 };
@@ -53,8 +53,8 @@ export const exitWords = (exit, name) => {
 export function ruleAt(run, q, name) {
   const it = run.moments[q];
   if (it.hasLeft && run.outcome.exit === "end") {
-    const output = run.outcome.output ? `“${run.outcome.output}”` : "(no letter)";
-    return {rule: null, head: "Done.", more: `The word stands again on the work tape, the history is blank, and only the output ${output} is new.`};
+    const output = run.outcome.output ? `“${run.outcome.output}”` : "(empty)";
+    return {rule: null, head: "Done.", more: `The input is back on the work tape and the history is blank. Only the output ${output} is new.`};
   }
   return {compute: computing, copy: copying, retrace: retracing}[it.stage](run, it, name);
 }
@@ -75,32 +75,32 @@ function computing(run, it, name) {
   const scanned = scannedOn(it, 1);
   if (it.rule !== null) {
     const rule = run.rules[it.rule - 1];
-    return {rule: it.rule, head: ruleWords(rule, name), more: `Now: note ${it.rule} in the history, ${SHIFT_WORDS[rule.shift]}.`};
+    return {rule: it.rule, head: ruleWords(rule, name), more: `Now: write ${it.rule} to the history, ${SHIFT_WORDS[rule.shift]}.`};
   }
   // Of a long run that isn't told so far it is looked up.
   const next = run.ruleNext(it), number = next === undefined ? run.rules.findIndex(rule => rule.state === it.state && rule.read === scanned) + 1 : next ?? 0;
   const rule = run.rules[number - 1];
   if (rule) {
-    const does = isKept(rule) ? `leave the ${symbolWord(rule.read)}` : `write ${symbolWord(rule.write)}`;
-    return {rule: number, head: ruleWords(rule, name), more: `Now: ${does}, move on in the history.`};
+    const does = isKept(rule) ? `keep the ${symbolWord(rule.read)}` : `write ${symbolWord(rule.write)}`;
+    return {rule: number, head: ruleWords(rule, name), more: `Now: ${does}, advance the history head.`};
   }
   const state = it.state ?? "";
   if (state === finalOf(run.rules)) {
-    return {rule: null, head: `${name(state)}: the machine halts.`, more: "Its output is copied next, then everything is undone."};
+    return {rule: null, head: `${name(state)}: the machine halts.`, more: "Next its output is copied, then every step is undone."};
   }
-  return {rule: null, head: `Stuck: no rule for ${name(state)} on ${symbolWord(scanned)}.`, more: ""};
+  return {rule: null, head: `Stuck: no rule for state ${name(state)} on ${symbolWord(scanned)}.`, more: ""};
 }
 /** @type {(run: Moments, it: Moment) => RuleSaid} */
 function copying(run, it) {
   const scanned = scannedOn(it, 1), isEnd = scanned === "_";
   /** @type {Record<string, string[]>} */
   const sentences = {
-    "B1'": ["Copy the output: on to the next letter.", "Both heads go right."],
-    B1: isEnd ? ["The end of the output.", "The copy is done; the heads go back."]
-      : [`Copy the letter ${scanned}.`, "It is written on the blank output tape: nothing is forgotten."],
-    "B2'": ["Back to the start of the output.", "Both heads go left."],
-    B2: isEnd ? ["The copy is done.", "Next the history is taken back."]
-      : ["Back over the output.", "Work and output hold the same letter here."],
+    "B1'": ["Copy the output: next letter.", "Both heads move right."],
+    B1: isEnd ? ["The end of the output.", "The copy is complete; the heads move back."]
+      : [`Copy the letter ${scanned}.`, "It is written on a blank cell, so nothing is erased."],
+    "B2'": ["Back to the start of the output.", "Both heads move left."],
+    B2: isEnd ? ["The copy is complete.", "Next the history is cleared."]
+      : ["Back over the output.", "The work tape and the output tape hold the same letter here."],
   };
   const [head, more] = sentences[it.name] ?? ["Copy the output.", ""];
   return {rule: null, head, more};
@@ -109,14 +109,27 @@ function copying(run, it) {
 function retracing(run, it, name) {
   if (it.rule !== null) {
     const rule = run.rules[it.rule - 1], was = rule.read === "_" ? "a blank" : rule.read;
-    const more = isKept(rule) ? `Now: the ${symbolWord(rule.read)} stays as it was.` : `Now: where it wrote ${symbolWord(rule.write)} there was ${was}.`;
+    const more = isKept(rule) ? `Now: keep the ${symbolWord(rule.read)}.` : `Now: replace ${symbolWord(rule.write)} by ${was}, which was there before.`;
     return {rule: it.rule, isBack: true, head: `Undo rule ${it.rule}: back to ${name(rule.state)}.`, more};
   }
   const last = Number(scannedOn(it, 2));
   if (!last) return {rule: null, head: "Back at the start.", more: "The history is blank again."};
-  const more = `Now: take the ${last} out of the history, ${SHIFT_BACK[run.rules[last - 1].shift]}.`;
+  const more = `Now: erase the ${last} from the history, ${SHIFT_BACK[run.rules[last - 1].shift]}.`;
   return {rule: last, isBack: true, head: "Undo the last rule in the history.", more};
 }
+// What changed on the tapes since the moment before; at the start all that is written on them.
+/** @type {(tapes: Tape[], before: Tape[]) => string[]} */
+export function changesOf(tapes, before) {
+  return tapes.flatMap((tape, k) => {
+    const was = before[k], name = capital(TAPES[k + 1]);
+    if (!was) return tape.symbols.some(it => it !== "_") ? [`${name} tape: ${heardOf(tape).symbols.filter(it => it !== "_").map(symbolWord).join(" ")}, head at ${tape.head ?? "no cell"}.`] : [];
+    const cells = tape.symbols.flatMap((it, n) => it === was.symbols[n] ? [] : [`cell ${tape.first + n} is ${symbolWord(it)}`]);
+    const moved = tape.head === was.head ? [] : [`head at ${tape.head ?? "no cell"}`], said = [...cells, ...moved];
+    return said.length ? [`${name} tape: ${said.join(", ")}.`] : [];
+  });
+}
+/** @type {(it: string) => string} */
+const capital = it => it[0].toUpperCase() + it.slice(1);
 // Of a long tape the cells near its head are heard.
 const MOST_HEARD = 120, HEARD_NEAR = 20;
 /** @type {(tape: Tape) => {first: number, symbols: string[]}} */
@@ -128,6 +141,6 @@ export function heardOf({symbols, first, head}) {
 /** @type {(run: Moments, e: number, q: number, name: Naming) => string} */
 export const spoken = (run, e, q, name) => {
   const it = run.moments[q], words = ruleAt(run, q, name);
-  return `${it.stage}, row step ${q} of ${run.count - 1}, element step ${number(e)}. ${words.head} ${words.more} ` +
-    (it.tapes ?? []).map((tape, k) => `${TAPES[k + 1]}: ${heardOf(tape).symbols.map(symbolWord).join(" ")}, head at ${tape.head ?? "no cell"}`).join(". ");
+  return `${it.stage}, quadruple step ${q} of ${run.count - 1}, element step ${number(e)}. ${words.head} ${words.more} ` +
+    changesOf(it.tapes ?? [], run.moments[q - 1]?.tapes ?? []).join(" ");
 };

@@ -92,7 +92,7 @@ def lay(page, limits, above, fragment):
     """Opens a machine by a link, with these bounds for a long run, and waits until all its moments are known."""
     page.visit(f"file://{PAGE}#m=least")
     page.ask(
-        f"Object.assign(bench.limits, {json.dumps(limits)}); bench.longRuns.above = {above}; window.earlier = bench.current.run;"
+        f"Object.assign(bench.limits, {json.dumps(limits)}); Object.assign(bench.longRuns, {{above: {above}, open: {above}}}); window.earlier = bench.current.run;"
         f" location.hash = {json.dumps(fragment)}; 0"
     )
     page.wait(
@@ -118,6 +118,9 @@ def check_pieces(page, program, draw, count):
         ("without a run before", 0, "#t=" + LEFT.replace("+", "%2B").replace("\n", "%0A") + "&w=1"),
     ):
         lay(page, SMALL, above, fragment)
+        page.wait(
+            "(async run => { for (let q = 0; run.locate && q < run.count; q++) await run.locate(q); })(bench.current.run)"
+        )
         told, given, where = told_of(page, program), page.ask(MOMENTS), f"{fragment[:30]}, {name}"
         count.hold(
             given == told.moments,
@@ -226,9 +229,9 @@ def check_cells(page, program, draw, count):
             number = next_quadruple(program.text(["bennett"], told.table), view)
             count.hold(
                 not number
-                or f"row {number[0]} of Bennett's table: {number[1]} [" in said
+                or f"quadruple {number[0]} of Bennett's table: {number[1]} [" in said
                 and said.endswith(f"] {number[2]}")
-                and f"row {number[0]} of" in short,
+                and f"quadruple {number[0]}" in short,
                 f"{fragment}, step {e}: of the control it is said {said!r}, and the quadruple is {number}",
             )
 
@@ -296,7 +299,7 @@ def check_span(page, program, count):
     )
     words = page.ask("document.getElementById('spansaid').textContent")
     count.hold(
-        f"row steps {int(two[0])} to {-int(-two[1] // 1) - 1}" in words, f"of the window {two} is said {words!r}"
+        f"quadruple steps {int(two[0])} to {-int(-two[1] // 1) - 1}" in words, f"of the window {two} is said {words!r}"
     )
     box = page.ask(
         "(box => [box.x, box.y, box.width, box.height])(document.getElementById('film').getBoundingClientRect())"
@@ -442,9 +445,9 @@ def check_firsts(page, program, draw, count):
             )
             first = told.first_change(tape, cell)
             right, words = (
-                (told.end, "never changed")
+                (told.end, "ever changed")
                 if first is None
-                else (told.starts()[first], f"First changed at row step {first},")
+                else (told.starts()[first], f"First changed at quadruple step {first},")
             )
             count.hold(
                 comes(
@@ -467,11 +470,59 @@ def check_firsts(page, program, draw, count):
         page.ask("bench.state.cell = null; document.activeElement.blur(); 0")
 
 
+def check_far(page, program, draw, count):
+    """A run of a thousand moments and half a billion element steps: its time line is there at once, and from any place to another."""
+    page.visit(f"file://{PAGE}#m=palindrome&w={'a' * 22}", "bench.current.run?.circuit.count > 0")
+    told = page.ask(
+        "(run => [run.table, run.words, run.count, run.end, run.isWhole, run.stageParts().length])(bench.current.run)"
+    )
+    table, words, many, end = told[:4]
+    ran = program.text(["run", *words], table)
+    count.hold(
+        f"steps {end}\n" in ran and f"quadruple steps {many - 1}\n" in ran and told[4:] == [True, 3],
+        f"a long run has {many} moments up to step {end}, {told[4:]}",
+    )
+    calls = page.ask("bench.log.length")
+    for q in [many - 1, 1, *(draw.randrange(1, many - 1) for _ in range(4))]:
+        page.ask(f"bench.goTo(bench.current.run.starts[{q}]); 0")
+        here = "bench.current.run.momentIndex(bench.state.e)"
+        count.hold(
+            comes(
+                page, f"{here} === {q} && bench.current.run.isExact({q}) && bench.current.run.placeAt(bench.state.e)"
+            ),
+            f"moment {q} of a long run: the page is at {page.ask(here)}",
+        )
+        e = page.ask("bench.state.e")
+        before, at = (program.text(["view", *words, str(it)], table).splitlines() for it in (max(0, e - 1), e))
+        shown = page.ask(
+            "(it => [`quadruple ${it.name}`, it.tapes.map(one => one.symbols.join(' ')), bench.placeName(bench.current.run.placeAt(bench.state.e).place)])"
+            f"(bench.current.run.moments[{q}])"
+        )
+        tapes = [" ".join(read_tape(line, number, "view").symbols) for number, line in enumerate(at[3:6], 1)]
+        count.hold(
+            shown == [at[2], tapes, at[0].split()[2]],
+            f"moment {q}, step {e}, of a long run shows {shown[0]} at {shown[2]}",
+        )
+        count.hold(q == 0 or at[2:] != before[2:], f"step {e} isn't the first of moment {q}")
+    words_asked = [it.split()[0] for it in page.ask(f"bench.log.slice({calls}).map(it => it.words)")]
+    count.hold("step" not in words_asked, "a long run is run element by element")
+    link = f"#m=palindrome&w={'a' * 22}&e={end // 3}"
+    page.visit(f"file://{PAGE}{link}", "bench.current.run?.circuit.count > 0")
+    right = program.text(["view", *words, str(end // 3)], table).splitlines()[2]
+    count.hold(
+        comes(
+            page,
+            f"bench.state.e === {end // 3} && `quadruple ${{bench.current.run.moments[bench.current.run.momentIndex(bench.state.e)].name}}` === {json.dumps(right)}",
+        ),
+        f"a link to step {end // 3} leads to {page.ask('bench.state.e')}",
+    )
+
+
 def check_long(page, program, draw, count):
     # The hints would stand over what is clicked.
     page.visit(f"file://{PAGE}#m=least")
     page.ask("localStorage.setItem('hithwelor hints', 'seen'); 0")
-    for check in (check_pieces, check_cells, check_control, check_marks, check_firsts):
+    for check in (check_pieces, check_far, check_cells, check_control, check_marks, check_firsts):
         check(page, program, draw, count)
     check_span(page, program, count)
     page.visit(f"file://{PAGE}#m=least")
