@@ -5,9 +5,9 @@ import {busy} from "./state.js";
 
 export const STATUS = {done: 0, usage: 2, text: 3, machine: 4, word: 5, size: 6, noMemory: 9, stuck: 10, window: 11, inside: 12};
 // Each lane has a worker of its own: for what is waited for, for what is waited for at the same time, for what is fetched
-// ahead, and for what takes long, so that a step doesn't queue behind them; and two for the circuit editor, which the workbench
+// ahead, and for what takes long, so that a step doesn't queue behind them; and three for the circuit editor, which the workbench
 // below it doesn't stop.
-export const LANES = {now: 0, beside: 1, ahead: 2, long: 3, design: 4, verdict: 5};
+export const LANES = {now: 0, beside: 1, ahead: 2, long: 3, design: 4, verdict: 5, search: 6};
 /** @type {{words: string, status: number, bytes: number, ms: number, program: number}[]} */
 export const log = [];
 const STOPPED = "stopped";
@@ -17,7 +17,7 @@ const decoder = new TextDecoder();
 /** @typedef {{worker: Worker, waiting: Map<number, (it: any) => void>, count: number, call: (message: any) => Promise<any>,
  *   ready: Promise<void>}} Bench */
 /** @type {(Bench | null)[]} */
-const benches = [null, null, null, null, null, null];
+const benches = [null, null, null, null, null, null, null];
 // What the page was bundled with: the module's bytes, which are unpacked meanwhile, and the worker's text.
 const given = /** @type {{module: Promise<ArrayBuffer>, worker: string}} */ ({});
 /** @type {Promise<WebAssembly.Module> | null} */
@@ -92,7 +92,7 @@ export const isCutOff = reply => Boolean(reply.words);
 /** @type {(status: number, text: string) => string} */
 function cutWords(status, text) {
   if (status === STATUS.noMemory) return "There was no memory for this answer. A shorter word, or a smaller window, needs less.";
-  return status === -1 && text !== STOPPED ? `This answer was cut off: ${text}. The next one begins anew.` : "";
+  return status === -1 && text !== STOPPED ? `This answer was cut off: ${text}. The next one starts afresh.` : "";
 }
 
 /** @type {(lane: number, words: any[], input: string, more?: {reading?: Reading}) => Promise<any>} */
@@ -112,6 +112,14 @@ async function callLane(lane, words, input, more = {}) {
 export async function answer(words, input = "", {lane = LANES.now} = {}) {
   const reply = await callLane(lane, words, input);
   return {status: reply.status, text: reply.text, words: reply.words};
+}
+// A search in a worker: the text that was found, or null. Nothing of the program is asked.
+/** @type {(message: any) => Promise<string | null>} */
+export async function askSearch(message) {
+  const bench = benches[LANES.search] ?? beginBench(LANES.search);
+  await bench.ready;
+  const it = await bench.call({kind: "search", ...message});
+  return it.kind === "found" ? it.found : null;
 }
 // The places of the signal that a script is answered with, read in the worker: at most so many, where the banks begin
 // at these elements and have so many rows.

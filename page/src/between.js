@@ -35,8 +35,8 @@ export function betweenWords(list) {
   return list.map(({tape, cell, symbol, hasHead, was, hadHead}) => {
     const where = `${TAPES[tape]} cell ${minus(cell)}`;
     if (symbol === "?") return `The signal is in ${where}.`;
-    if (symbol !== was) return was !== "_" && symbol === "_" ? `Of ${where} the ${symbolWord(was)} is read, and it is blank by now.`
-      : `In ${where} the ${symbolWord(symbol)} is written.`;
-    return hasHead && !hadHead ? `The head has come to ${where}.` : `The head has left ${where}.`;
+    if (symbol !== was) return was !== "_" && symbol === "_" ? `The ${symbolWord(was)} of ${where} has been read; the cell is blank now.`
+      : `${symbolWord(symbol)} has been written to ${where}.`;
+    return hasHead && !hadHead ? `The head has moved to ${where}.` : `The head has left ${where}.`;
   }).join(" ");
 }

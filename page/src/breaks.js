@@ -25,7 +25,7 @@ export function dropBreak(at) {
 
 // The breakpoints as they are listed, and their marks on the film.
 export function chips() {
-  const listed = state.breaks.map((it, k) => `<span>${escaped(breakWords(it))}<button data-drop="${k}" aria-label="take away">×</button></span>`);
+  const listed = state.breaks.map((it, k) => `<span>${escaped(breakWords(it))}<button data-drop="${k}" aria-label="delete">×</button></span>`);
   byId("chips").innerHTML = listed.join("") || '<span class="hint">none yet</span>';
   byId("breakback").disabled = byId("breakon").disabled = !state.breaks.length;
   byId("breaks").classList.toggle("some", state.breaks.length > 0);

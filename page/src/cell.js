@@ -33,7 +33,7 @@ export function renderCell() {
     return made;
   };
   if (first !== null) add(first === undefined ? "When was it first changed?" : "Go there", () => goToFirst(it));
-  add(isBreak ? "Take the breakpoint away" : "Break where it changes", () => toggleBreak({kind: "cell", ...it}));
+  add(isBreak ? "Delete the breakpoint" : "Break where it changes", () => toggleBreak({kind: "cell", ...it}));
   add("×", () => {
     state.cell = null;
     redraw(false);
@@ -41,11 +41,11 @@ export function renderCell() {
 }
 // What is said of the moment at which a cell was first changed, once what the tapes show there is known.
 function changeWords(run, first) {
-  if (first === null) return "It is never changed.";
+  if (first === null) return "Never changed.";
   const at = run.moments[first];
-  if (!at.tapes) return `First changed at row step ${number(first)}, in ${at.stage}.`;
+  if (!at.tapes) return `First changed at quadruple step ${number(first)}, in ${at.stage}.`;
   const rule = at.stage === "compute" ? at.rule ?? Number(at.tapes[1]?.symbols[at.step]) : null;
-  return `First changed at row step ${number(first)}, in ${at.stage}${rule ? `, step ${at.step || 1}, by rule ${rule}` : ""}.`;
+  return `First changed at quadruple step ${number(first)}, in ${at.stage}${rule ? `, step ${at.step || 1}, by rule ${rule}` : ""}.`;
 }
 
 // Goes to the first moment at which a cell is otherwise than at the start; where that isn't known it is looked for.
@@ -54,7 +54,7 @@ export async function goToFirst(it) {
   pause();
   let first = firstOf(run, it);
   if (first === undefined) {
-    const told = q => busy(`${nameOfCell(it)}: looked through to row step ${number(q)} …`);
+    const told = q => busy(`${nameOfCell(it)}: searched to quadruple step ${number(q)} …`);
     told(0);
     first = await run.findFirst(it.tape, it.cell, told);
     busy("");

@@ -7,11 +7,11 @@ import {inTurn} from "./turns.js";
 import {number} from "./words.js";
 
 const COMMAND_PAGE = `<div class="e-left">
-    <label for="k-words">Command: its words, as behind <code>./workbench</code></label>
+    <label for="k-words">Command with its arguments, as after <code>./workbench</code></label>
     <input id="k-words" spellcheck="false" autocapitalize="off" autocomplete="off">
-    <label for="k-input">What it reads</label><textarea id="k-input" spellcheck="false"></textarea>
+    <label for="k-input">Input</label><textarea id="k-input" spellcheck="false"></textarea>
     <button id="k-run" class="main">Run</button>
-    <p class="quiet">Between two commands stands <code>|</code>: the second reads what the first answered.</p></div>
+    <p class="quiet">Separate two commands by <code>|</code>: the second reads the output of the first.</p></div>
   <div class="e-right"><p id="k-said" class="e-said" role="status"></p>
     <pre id="k-text" class="listing k-text" tabindex="0" role="group" aria-label="the answer"></pre></div>`;
 const FIRST = {
@@ -30,7 +30,7 @@ async function run() {
   let reply = {status: STATUS.done, text: part("input").value, words: ""};
   command.calls = [];
   for (const words of stages) {
-    command.calls.push({words, input: reply.text, what: command.calls.length ? "the answer before" : "what is typed"});
+    command.calls.push({words, input: reply.text, what: command.calls.length ? "the previous output" : "the typed input"});
     reply = await answer(words, reply.text);
   }
   const {status} = reply, lines = reply.text.split("\n").length - 1, name = NAMES[status] ? `, ${NAMES[status]}` : "";

@@ -47,8 +47,8 @@ export function controlWords(it) {
   if (it.kind === "end") return "has sent the signal out";
   const tape = `the ${TAPES[it.tape ?? 0]} tape`;
   if (it.kind === "reads") return `${it.state} reads ${tape}`;
-  if (it.kind === "shifts") return `row ${it.quadruple} of the table moves ${tape} ${it.way === "+" ? "right" : "left"}`;
-  return `writes ${tape}, on to ${it.state}`;
+  if (it.kind === "shifts") return `quadruple ${it.quadruple} moves ${tape} ${it.way === "+" ? "right" : "left"}`;
+  return `writes ${tape}, then ${it.state}`;
 }
 /** @type {(it: ControlSaid) => string} */
 export function controlInFull(it) {
@@ -70,9 +70,9 @@ export function controlSaid(run, {e, q, at}) {
   if (at?.hasLeft) return {short: "", full: ""};
   const column = run.markedColumn(run.layout.banks[0], e), state = controlState(run, column);
   const number = quadrupleAt(run, q), row = run.quadruples[number];
-  const words = column === -1 ? "the signal is in it" : state ? controlWords(state) : "";
+  const words = column === -1 ? "the signal is inside" : state ? controlWords(state) : "";
   const full = state ? controlInFull(state) : words;
-  const work = row ? `row ${number + 1} of Bennett's table: ${row[0]} ${actText(row)} ${row[7]}` : "";
-  const place = row && state?.kind !== "shifts" ? `row ${number + 1} of the table` : "";
+  const work = row ? `quadruple ${number + 1} of Bennett's table: ${row[0]} ${actText(row)} ${row[7]}` : "";
+  const place = row && state?.kind !== "shifts" ? `quadruple ${number + 1}` : "";
   return {short: [words, place].filter(Boolean).join(" · "), full: [full, work].filter(Boolean).join(" · ")};
 }

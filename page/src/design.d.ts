@@ -21,8 +21,9 @@ interface Behaviour { states: string[]; inputs: number[]; outputs: number[]; ent
 interface Compared {
   isSame: boolean; inputs: number[]; outputs: number[]; word: number[]; said: string; wanted: number; given: number;
 }
-/** A circuit that is asked for. */
+/** A puzzle: its goal as a table, names for the lines, the least number of elements, and one solution; a puzzle that came by a link has
+    none. */
 interface Puzzle {
-  key: string; title: string; ask: string; table: string; sides: boolean; most: number; hint: string; ins: string[]; outs: string[];
-  solution: {text: string; places: number[][]};
+  key: string; chapter: string; title: string; ask: string; table: string; sides: boolean; most: number; hint: string; ins: string[];
+  outs: string[]; solution?: {text: string; places: number[][]};
 }

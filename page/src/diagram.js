@@ -20,13 +20,13 @@ const DRAWING = `<div class="e-head"><h2>State diagram</h2><p id="d-said" role="
   <div class="e-body"><div class="e-left">
     <div class="row"><label for="d-state">State</label><select id="d-state"></select></div>
     <div id="d-one"><div class="row"><label for="d-name">its name</label><input id="d-name" size="10" spellcheck="false" autocomplete="off"><button id="d-rename">Rename</button></div>
-      <div class="row"><label for="d-kind">it</label><select id="d-kind"><option value="">says nothing</option><option value="accept">accepts</option><option value="reject">rejects</option></select>
+      <div class="row"><label for="d-kind">it</label><select id="d-kind"><option value="">neither</option><option value="accept">accepts</option><option value="reject">rejects</option></select>
       <button id="d-stop">Stop there</button></div></div>
     <div class="row"><label for="d-letter">Letter</label><select id="d-letter"></select><label for="d-other">becomes</label><input id="d-other" size="1" maxlength="2" spellcheck="false" autocomplete="off"><button id="d-change">Change</button></div>
     <p id="d-fault" class="e-fault" role="status"></p>
     <h3 id="d-head"></h3><div id="d-rules"></div><button id="d-add">Add a rule</button></div>
     <div class="e-right"><div id="d-picture" class="e-picture"></div>
-    <p class="e-place">Choose a state by a click or the Tab key and Enter; drag it, or move it by the arrow keys. A click on a label goes to its rule.</p></div></div>`;
+    <p class="e-place">Select a state by a click, or by Tab and Enter. Drag it, or move it with the arrow keys. A click on a label goes to its rule.</p></div></div>`;
 
 // The box is there once the diagram was opened.
 const drawing = /** @type {{box: HTMLDialogElement, chosen: string | null}} */ ({chosen: null});
@@ -149,8 +149,8 @@ function rename() {
   const old = drawing.chosen, made = part("d-name").value.trim();
   fault("");
   if (made === shownName(old)) return;
-  if (!made || /[",\r\n]/.test(made)) return fault("A name is wanted, without commas and quotes.");
-  if (typedStates().some(it => shownName(it) === made)) return fault(`There is a state ${made} already.`);
+  if (!made || /[",\r\n]/.test(made)) return fault("Enter a name without commas and quotes.");
+  if (typedStates().some(it => shownName(it) === made)) return fault(`State ${made} already exists.`);
   const before = shownName(old), names = {...state.names};
   for (const key of Object.keys(names)) if (key === old || names[key] === before) delete names[key];
   const kinds = kindOf(before), text = withState(state.text, old, made);
@@ -167,8 +167,8 @@ function rename() {
 function changeLetter() {
   const old = part("d-letter").value, made = part("d-other").value;
   fault("");
-  if (!/^[^\s",]$/u.test(made)) return fault("One character is wanted; _ is the blank.");
-  if (typedRules().some(it => it.read === made || it.write === made)) return fault(`${made} is a letter of the table already.`);
+  if (!/^[^\s",]$/u.test(made)) return fault("Enter one character; _ is the blank.");
+  if (typedRules().some(it => it.read === made || it.write === made)) return fault(`${made} is already a letter of the table.`);
   const isInWord = state.word.includes(old);
   write(withLetter(state.text, old, made));
   if (isInWord && made !== "_") {

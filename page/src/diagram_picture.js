@@ -287,9 +287,9 @@ function nodeOf(layout, state, {now, stops, chosen, isOpen, mark = _ => ""}) {
   const {R, name, isDense} = layout, [x, y] = layout.places.get(state) ?? [0, 0], half = layout.half(state), text = name(state), isNow = state === now;
   const isFinal = !layout.rules.some(it => it.state === state), short = text.length > layout.mostName ? text.slice(0, layout.mostName - 1) + "…" : text;
   const box = (inset, more) => `x="${n1(x - half + inset)}" y="${n1(y - R * .72 + inset)}" width="${n1(2 * (half - inset))}" height="${n1(R * 1.44 - 2 * inset)}" rx="${n1(R * .72 - inset)}"${more}`;
-  const sign = mark(text), answers = {"✓": ", accepts", "✗": ", rejects"}[sign] ?? "", halts = isFinal ? ", where it halts" : "";
-  const heard = isOpen ? ` tabindex="0" role="button" aria-pressed="${state === chosen}" aria-label="state ${escaped(text)}${halts}${answers}"` : "";
-  const does = isOpen ? "choose it; drag it, or move it by arrow keys" : "a click tells of it; drag it";
+  const sign = mark(text), answers = {"✓": ", accepts", "✗": ", rejects"}[sign] ?? "", halts = isFinal ? ", halting" : "";
+  const heard = ` tabindex="0" role="button"${isOpen ? ` aria-pressed="${state === chosen}"` : ""} aria-label="state ${escaped(text)}${halts}${answers}"`;
+  const does = isOpen ? "select it; drag it, or move it with the arrow keys" : "click for details; drag it";
   return `<g data-state="${escaped(state)}"${heard}><title>${escaped(text)}${halts}${answers}: ${does}</title>`
     + `<rect class="state${isNow ? " now" : ""}${stops.has(state) ? " stop" : ""}${state === chosen ? " chosen" : ""}" ${box(0, "")}/>`
     + (isFinal ? `<rect class="state" ${box(3, ' style="fill:none"')}/>` : "")

@@ -10,7 +10,7 @@ const DESK_OPTIONS = CIRCUITS.map((it, k) => `<option value="${k}">${it.title}</
 const DESK_PAGE = `<div class="e-left">
     <select id="e-examples" aria-label="Circuits to begin with">${DESK_OPTIONS}</select>
     <p id="e-about" class="quiet"></p>
-    <label for="e-text">Moves (state, port, next state, port), or a configuration text</label>
+    <label for="e-text">A table (state, port in, next state, port out), or a configuration text</label>
     <textarea id="e-text" spellcheck="false"></textarea>
     <div id="e-moves"><label for="e-state">in state</label> <input id="e-state" size="2" value="1" inputmode="numeric">
       <label for="e-line">the signal at port</label> <input id="e-line" size="2" value="1" inputmode="numeric"></div>
@@ -96,6 +96,6 @@ export const elementsPage = {
   close: stopDesk,
   keys: {ArrowRight: () => stepDesk(1), ArrowLeft: () => stepDesk(-1), " ": playDesk, Home: rewindDesk},
   stepper: () => desk.stepper,
-  calls: () => [{words: ["step", "1"], input: desk.stepper.text, what: "the circuit's text"},
-    {words: ["back", "1"], input: desk.stepper.text, what: "the circuit's text"}],
+  calls: () => [{words: ["step", "1"], input: desk.stepper.text, what: "the configuration text"},
+    {words: ["back", "1"], input: desk.stepper.text, what: "the configuration text"}],
 };

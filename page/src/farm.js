@@ -12,9 +12,9 @@ const BOARDS = ["rotary 2\nelements 6\nstart 0.w\nend 4.e\nsteps 0\nat 0.w\nc 0 
                 "rotary 1\nelements 1\nstart 0.e\nend 0.w\nsteps 0\nat 0.n\ne 0 V - - 0.n -\n"];
 const SCHEDULE = "+ 1 5\n+ 2 3\n+ 1 10\n- 2 1\n";
 const FARM_PAGE = `<div class="e-left">
-    <label for="f-0">Board 1</label><textarea id="f-0" spellcheck="false"></textarea>
-    <label for="f-1">Board 2</label><textarea id="f-1" spellcheck="false"></textarea>
-    <label for="f-schedule">Schedule: + or -, the board, how many events</label><textarea id="f-schedule"
+    <label for="f-0">Circuit 1</label><textarea id="f-0" spellcheck="false"></textarea>
+    <label for="f-1">Circuit 2</label><textarea id="f-1" spellcheck="false"></textarea>
+    <label for="f-schedule">Schedule, one line an entry: + or -, the circuit, how many events</label><textarea id="f-schedule"
     spellcheck="false"></textarea>
     <p id="f-fault" class="e-fault" role="status"></p></div>
   <div class="e-right two">
@@ -22,11 +22,11 @@ const FARM_PAGE = `<div class="e-left">
     class="e-place"></p></figure>
     <figure><figcaption>Board 2</figcaption><div id="f-room1" class="e-picture"></div><p id="f-place1"
     class="e-place"></p></figure>
-    <div class="f-lists"><div><h3>Schedule</h3><ol id="f-lines"></ol></div><div><h3>What undoes it so far</h3><ol
+    <div class="f-lists"><div><h3>Schedule</h3><ol id="f-lines"></ol></div><div><h3>Undo schedule</h3><ol
     id="f-undoing"></ol></div></div>
     <div class="e-foot"><button id="f-first">To the start</button><button id="f-back">◂ Event</button>
       <button id="f-forth" class="main">Event ▸</button><button id="f-line">Line ▸</button>
-      <button id="f-undo">Go on with what undoes it</button></div>
+      <button id="f-undo">Run the undo schedule</button></div>
     <p id="f-said" class="e-said" role="status"></p></div>`;
 
 // The boards that the schedule begins with, its lines, how many events of it are made, and the first boards of all.
@@ -89,8 +89,8 @@ async function showFarm() {
   farmPart("f-undo").disabled = undoing === "";
   const isFirst = parts.join("%\n") === farm.first, total = totalOf(farm.lines);
   farmPart("f-said").textContent = `Event ${farm.at} of ${total}. `
-    + (isFirst ? "The boards are the first ones, byte for byte."
-    : "An event of one board leaves the other one as it is.");
+    + (isFirst ? "The circuits are the first ones, byte for byte."
+    : "An event of one circuit does not change the other.");
 }
 const goFarm = where => inTurn(async () => {
   farm.at = Math.max(0, Math.min(totalOf(farm.lines), where()));
@@ -113,7 +113,7 @@ async function turnRound() {
 }
 
 export const farmPage = {
-  key: "farm", title: "Two boards",
+  key: "farm", title: "Two circuits",
   make(box) {
     farm.box = box;
     box.innerHTML = FARM_PAGE;
@@ -136,5 +136,5 @@ export const farmPage = {
   keys: {ArrowRight: () => goFarm(() => farm.at + 1), ArrowLeft: () => goFarm(() => farm.at - 1),
     Home: () => inTurn(takeFarm)},
   farm,
-  calls: () => [{words: ["farm"], input: farm.input, what: "the boards, and the front of the schedule"}],
+  calls: () => [{words: ["farm"], input: farm.input, what: "the circuits, and the schedule so far"}],
 };

@@ -95,8 +95,8 @@ export function renderTime(f) {
   it.setAttribute("aria-valuemin", 0);
   it.setAttribute("aria-valuemax", Number.isFinite(run.end) ? run.end : run.starts.at(-1));
   it.setAttribute("aria-valuenow", f.e);
-  it.setAttribute("aria-valuetext", !hasLayer("quadruple") ? `step ${f.e} of ${run.end}, by itself` : run.isKnown(f.e) ? `${f.moment.stage}, row step ${f.q} of ${run.count - 1}`
-    : `element step ${f.e}, which the program runs to`);
+  it.setAttribute("aria-valuetext", !hasLayer("quadruple") ? `step ${f.e} of ${run.end}, by itself` : run.isKnown(f.e) ? `${f.moment.stage}, quadruple step ${f.q} of ${run.count - 1}`
+    : `element step ${f.e}, loading`);
   const values = counterWords(current, f, listed, isPhone());
   for (const button of byId("layers").children) {
     button.setAttribute("aria-pressed", button.dataset.layer === layerNow());

@@ -1,17 +1,22 @@
 // What is done to the circuit: its bank is dragged, made larger and smaller, and an element of it is looked at.
-import {dragBy, lookAt, moveBy, seen, zoomBy} from "./bank.js";
+import {dragBy, lookAt, moveBy, nextModule, openModule, seen, zoomBy} from "./bank.js";
 import {frame} from "./frame.js";
+import {cellModule} from "./layout.js";
 import {closeLens, isLensOpen, openLens} from "./lens.js";
 import {isCommand, on, takeKey} from "./listen.js";
 import {redraw} from "./notices.js";
-import {byId, state} from "./state.js";
+import {byId, current, isEarly, state} from "./state.js";
 
 const LEAST_DRAG = 4, ZOOM = 1.35, WHEEL_ZOOM = 1.15;
 /** @type {Record<string, () => void>} */
 const BANK_KEYS = {
   ArrowLeft: () => moveBy(-1, 0), ArrowRight: () => moveBy(1, 0),
   ArrowUp: () => moveBy(0, -1), ArrowDown: () => moveBy(0, 1),
-  "+": () => zoomBy(ZOOM), "-": () => zoomBy(1 / ZOOM), 0: fitBank,
+  "+": () => zoomBy(ZOOM), "-": () => zoomBy(1 / ZOOM), 0: fitBank, Enter: lookAtElement,
+};
+/** @type {Record<string, () => void>} */
+const MAP_KEYS = {
+  ArrowLeft: () => nextModule(-1, false), ArrowRight: () => nextModule(1, false), ArrowUp: () => nextModule(-1, true), ArrowDown: () => nextModule(1, true), Escape: fitBank,
 };
 
 export function onCircuit() {
@@ -23,6 +28,18 @@ export function onCircuit() {
   on("bank", "keydown", event => {
     const act = BANK_KEYS[event.key];
     if (!act || isCommand(event) || event.shiftKey && event.key !== "+") return;
+    takeKey(event);
+    act();
+  });
+  on("map", "click", event => {
+    const it = event.target.closest("[data-bank],[data-cell]");
+    if (!it || isEarly()) return;
+    const {bank, tape, cell} = it.dataset, number = bank ? Number(bank) : cellModule(current.run.layout, Number(tape), Number(cell))?.number;
+    if (number !== undefined) openModule(number);
+  });
+  on("map", "keydown", event => {
+    const act = MAP_KEYS[event.key];
+    if (!act || isCommand(event) || isEarly() || event.key === "Escape" && state.module === null) return;
     takeKey(event);
     act();
   });
@@ -62,7 +79,22 @@ function onBank() {
     if (it) openLens({kind: "element", element: Number(it.dataset.element)}, [x, y]);
   });
 }
+// Details of the element before which the signal is, or of the one in the middle of what is seen.
+function lookAtElement() {
+  const here = byId("bank").querySelector(".element.now") ?? middleElement();
+  if (!here) return;
+  const box = here.getBoundingClientRect();
+  openLens({kind: "element", element: Number(/** @type {any} */ (here).dataset.element)}, [box.x + box.width / 2, box.y + box.height / 2]);
+}
+function middleElement() {
+  const box = byId("bank").getBoundingClientRect(), far = it => {
+    const {x, y, width, height} = it.getBoundingClientRect();
+    return Math.hypot(x + width / 2 - box.x - box.width / 2, y + height / 2 - box.y - box.height / 2);
+  };
+  return [...byId("bank").querySelectorAll("[data-element]")].sort((a, b) => far(a) - far(b))[0];
+}
 function fitBank() {
+  state.module = null;
   state.zoom = null;
   redraw(false);
 }

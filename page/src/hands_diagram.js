@@ -12,5 +12,13 @@ export function onDiagram() {
     draw: () => redraw(false),
     click: (/** @type {string} */ it, /** @type {number[]} */ place) => openLens({kind: "state", state: it}, place),
   });
+  byId("diagram").addEventListener("keydown", event => {
+    const it = /** @type {any} */ (event.target).closest("[data-state]");
+    if (!it || event.key !== "Enter" && event.key !== " ") return;
+    event.preventDefault();
+    event.stopPropagation();
+    const box = it.getBoundingClientRect();
+    openLens({kind: "state", state: it.dataset.state}, [box.x + box.width / 2, box.y + box.height / 2]);
+  });
   byId("larger").onclick = () => { pause(); openDiagram(); };
 }

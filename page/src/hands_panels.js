@@ -34,16 +34,16 @@ async function share() {
   history.replaceState(null, "", linkOf());
   try {
     await navigator.clipboard.writeText(location.href);
-    toast("Copied: a link with this machine, word and step.");
+    toast("Link copied, with machine, word and step.");
   } catch {
-    toast("The link is in the address bar: machine, word and step.");
+    toast("The link is in the address bar.");
   }
 }
 function savePicture() {
   const {run} = current;
   if (!run) return;
   pause();
-  const row = `row step ${number(run.momentIndex(state.e))} of ${number(run.count - 1)}`;
+  const row = `quadruple step ${number(run.momentIndex(state.e))} of ${number(run.count - 1)}`;
   const element = isEarly() ? "" : `, element step ${number(state.e)} of ${endWords(run)}`;
   openPicture(`Hithwelor · word ${state.word || "empty"} · ${row}${element}`);
 }

@@ -1,16 +1,16 @@
-// Three short hints at a first visit, each at its place. That they were seen is kept in the browser; where nothing can
+// Four short hints at a first visit, each at its place. That they were seen is kept in the browser; where nothing can
 // be kept, none is shown.
 import {stepSentence} from "./glossary.js";
 import {byId, state} from "./state.js";
 
 const KEPT_AS = "hithwelor hints", HINT_GAP = 10;
 const HINTS = [
-  {at: "#stages", words: "A step that forgets what was there costs heat, and can't be taken back. This machine forgets nothing: it keeps a " +
-    "history, copies its output, and takes every step back."},
-  {at: "#play", words: "Play it, and play it back: space and shift space. → and ← make one step; beside them you choose what a step is. " +
+  {at: "#stages", words: "A step that erases information dissipates heat and can't be undone. This machine erases nothing: it keeps a " +
+    "history, copies its output, and undoes every step."},
+  {at: "#play", words: "Space plays forward, Shift Space backward; → and ← make one step. Choose the unit of a step beside the buttons. " +
     `Now it is a ${stepSentence("quadruple")}`},
-  {at: ".editor", words: "Paste or type a machine of your own here, in a book's notation too. What the program says of it stands below."},
-  {at: "#map", words: "The same step in the circuit. A click on a state, a cell or an element tells what it is; ? says what is seen."},
+  {at: ".editor", words: "Paste or type a machine here, in a textbook's notation too. The program's verdict appears below."},
+  {at: "#map", words: "The same step in the circuit. Click a state, a cell or an element for details; ? describes each panel."},
 ];
 let shownHint = -1;
 
@@ -33,10 +33,17 @@ export function beginHints() {
 export function endHints() {
   if (!byId("hint")) return;
   byId("hint").remove();
+  markTarget(null);
   keepSeen();
+}
+/** @type {(it: Element | null) => void} */
+function markTarget(it) {
+  for (const one of document.querySelectorAll(".hinted")) if (one !== it) one.classList.remove("hinted");
+  it?.classList.add("hinted");
 }
 function showHint(k) {
   byId("hint")?.remove();
+  markTarget(null);
   shownHint = k;
   if (k >= HINTS.length) {
     keepSeen();
@@ -46,7 +53,7 @@ function showHint(k) {
   box.id = "hint";
   box.setAttribute("aria-label", `Hint ${k + 1} of ${HINTS.length}`);
   box.innerHTML = `<p>${HINTS[k].words}</p><p class="row"><span class="quiet">${k + 1} of ${HINTS.length}</span>
-    <button id="hintend">${isLast ? "Close" : "No more"}</button>
+    <button id="hintend">${isLast ? "Close" : "Skip"}</button>
     ${isLast ? "" : '<button id="hintnext" class="main">Next</button>'}</p>`;
   document.querySelector("header")?.after(box);
   byId("hintend").onclick = endHints;
@@ -56,7 +63,7 @@ function showHint(k) {
   };
   placeHint();
 }
-// Beside what it is about, within the window.
+// Above the time line, below what it is about, so that it covers nothing of that; a frame marks what it is about.
 export function placeHint() {
   const box = byId("hint");
   if (!box) return;
@@ -65,8 +72,9 @@ export function placeHint() {
   const place = it.getBoundingClientRect();
   if (place.top < 0 || place.bottom > innerHeight) it.scrollIntoView({block: "center"});
   const target = it.getBoundingClientRect(), {width, height} = box.getBoundingClientRect();
-  const isRoomBelow = target.bottom + HINT_GAP + height < innerHeight,
-    left = Math.max(HINT_GAP, Math.min(innerWidth - width - HINT_GAP, target.left));
+  const left = Math.max(HINT_GAP, Math.min(innerWidth - width - HINT_GAP, target.left));
+  const above = Math.min(innerHeight, byId("time").getBoundingClientRect().top, target.top > innerHeight / 2 ? target.top : Infinity) - height - HINT_GAP;
   box.style.left = `${left}px`;
-  box.style.top = `${Math.max(HINT_GAP, isRoomBelow ? target.bottom + HINT_GAP : target.top - height - HINT_GAP)}px`;
+  box.style.top = `${Math.max(HINT_GAP, above)}px`;
+  markTarget(it);
 }

@@ -81,19 +81,19 @@ function stateWords(name) {
     const write = it.write === it.read ? "" : `write ${symbolWord(it.write)}, `, then = it.next === name ? "and stay in it" : `then ${nameOf(it.next)}`;
     return `on <b>${escaped(symbolWord(it.read))}</b>: ${escaped(`${write}${SHIFT_WORDS[it.shift]}, ${then}`)}`;
   });
-  const more = rules.length > MOST_RULES ? [`and ${number(rules.length - MOST_RULES)} rules more`] : [];
+  const more = rules.length > MOST_RULES ? [`and ${number(rules.length - MOST_RULES)} more rules`] : [];
   const into = new Set(run.rules.filter(it => it.next === name && it.state !== name).map(it => nameOf(it.state)));
-  const ways = into.size ? `It is come to from ${escaped([...into].join(", "))}.` : "The machine starts in it.";
-  return {title: `State ${nameOf(name)}`, words: [...(shown.length ? shown : ["No rule leaves it: here the machine halts."]), ...more, ways]};
+  const ways = into.size ? `Reached from ${escaped([...into].join(", "))}.` : "The machine starts in this state.";
+  return {title: `State ${nameOf(name)}`, words: [...(shown.length ? shown : ["No rule leaves this state: the machine halts here."]), ...more, ways]};
 }
 const isIn = (it, name) => it.state === name && it.stage !== "copy" && it.rule === null;
 function addMoments(name, add) {
   const {run} = current, e = state.e, at = run.moments.map((it, q) => ({it, q})).filter(({it}) => isIn(it, name));
   const done = at.filter(({q}) => run.starts[q] <= e), last = done.findLast(({q}) => run.starts[q] < e), next = at.find(({q}) => run.starts[q] > e);
   const forth = done.filter(({it}) => it.stage === "compute").length, back = done.length - forth;
-  byId("lenslater").textContent = `So far the machine was in it ${times(forth)}${back ? `, and ${times(back)} on the way back` : ""}.`;
-  if (last) add("lenslast", "◂ The time before", () => { closeLens(); goTo(run.starts[last.q]); });
-  if (next) add("lensnext", "The next time ▸", () => { closeLens(); goTo(run.starts[next.q]); });
+  byId("lenslater").textContent = `Visited ${times(forth)}${back ? `, and ${times(back)} while retracing` : ""}.`;
+  if (last) add("lenslast", "◂ Previous visit", () => { closeLens(); goTo(run.starts[last.q]); });
+  if (next) add("lensnext", "Next visit ▸", () => { closeLens(); goTo(run.starts[next.q]); });
 }
 
 // ---- an element
@@ -101,25 +101,25 @@ function addMoments(name, add) {
 function elementWords({element}) {
   const {run} = current, bank = moduleWith(run.layout, element), {column, row} = placeIn(bank, element), isMark = row === bank.rows;
   const bars = run.bankBars(bank, state.e);
-  const bar = bars?.[element - bank.base], lies = bar === undefined ? "" : bar ? "lies, west to east" : "stands, north to south";
+  const bar = bars?.[element - bank.base], lies = bar === undefined ? "" : bar ? "is lying, west to east" : "is upright, north to south";
   const column_ = `column ${column + 1} of ${bank.columns}, for “${escaped(columnSaid(run, bank, column).words)}”`;
-  const row_ = isMark ? "the mark below it: where its bar lies, that is the module's state"
-    : `in the row of port ${row + 1} of ${bank.rows}: <b>${escaped(lineSaid(run.layout, bank, row).words)}</b>`;
+  const row_ = isMark ? "the bottom of the column: if its bar is lying, the column is marked and is the module's state"
+    : `row ${row + 1} of ${bank.rows}, for the port <b>${escaped(lineSaid(run.layout, bank, row).words)}</b>`;
   const before = run.circuit.bars[element], changed = bar === undefined ? "" : bar === before ? "as at the start" : "turned since the start";
-  return {title: `Element ${number(element)}`, words: [`A rotary element of the module ${escaped(bankName(bank))}: ${column_}, ${row_}.`,
-    lies ? `Its bar ${lies}, ${changed}. Along it the signal goes straight on; across it, it turns right and turns the bar.` : ""].filter(Boolean)};
+  return {title: `Element ${number(element)}`, words: [`A rotary element of the module ${escaped(bankName(bank))}: ${column_}; ${row_}.`,
+    lies ? `Its bar ${lies}, ${changed}. A signal along the bar goes straight on. A signal across the bar turns right, and the bar turns.` : ""].filter(Boolean)};
 }
 // When the signal was there last, and when it comes next.
 async function addVisits(what, add) {
   const {run} = current, e = state.e, isOpen = () => lens.what === what && run === current.run;
-  byId("lenslater").textContent = "When the signal came to it is asked …";
+  byId("lenslater").textContent = "Looking for the signal's visits …";
   const last = await run.runTo(e, -1, [what]), next = isOpen() ? await run.runTo(e, 1, [what]) : null;
   if (!isOpen() || !next) return;
   const isNow = frame().at?.place !== undefined && !frame().at?.hasLeft && (frame().at?.place ?? 0) >> 2 === what.element;
-  const told = [isNow ? "The signal is about to come in." : "", last.hit ? `It came last at element step ${number(last.step)}.` : isNow ? "" : "The signal hasn't been here yet.",
-    next.hit ? `It comes next at ${number(next.step)}.` : "It doesn't come again."];
+  const told = [isNow ? "The signal is about to enter." : "", last.hit ? `Last visit: element step ${number(last.step)}.` : isNow ? "" : "The signal has not been here yet.",
+    next.hit ? `Next visit: element step ${number(next.step)}.` : "The signal does not come again."];
   byId("lenslater").textContent = told.filter(Boolean).join(" ");
-  if (last.hit) add("lenslast", "◂ The time before", () => { closeLens(); goTo(last.step); });
-  if (next.hit) add("lensnext", "The next time ▸", () => { closeLens(); goTo(next.step); });
+  if (last.hit) add("lenslast", "◂ Previous visit", () => { closeLens(); goTo(last.step); });
+  if (next.hit) add("lensnext", "Next visit ▸", () => { closeLens(); goTo(next.step); });
   placeLens();
 }

@@ -19,7 +19,7 @@ export function mapPicture(run, {bank, row, moment, hasLeft: isOut, width, heigh
   });
   if (inControl && row === 0) body += `<path class="tip" d="M13,${height / 2} l-10,-6 v12 z"/>`;
   if (hasLeft) body += `<path class="tip" d="M1,${height / 2} l11,-7 v14 z"/>`;
-  const where = isOut ? "the signal has left" : bank ? `the signal is in ${bankName(bank)}` : "the signal is looked for";
+  const where = isOut ? "the signal has left" : bank ? `the signal is in ${bankName(bank)}` : "the signal is not located yet";
   return svg(width, height, body, "map", `role="img" aria-label="the modules of the circuit: ${escaped(where)}"`);
 }
 

@@ -11,9 +11,9 @@ const GLASS_REST = 300, FIRST_GLASS = 0;
 const GLASS_OPTIONS = CIRCUITS.map((it, k) => `<option value="${k}">${it.title}</option>`).join("");
 const GLASS_PAGE = `<div class="e-left">
     <select id="m-examples" aria-label="Circuits to begin with">${GLASS_OPTIONS}</select>
-    <label for="m-text">Moves (state, port, next state, port), or a configuration text</label>
+    <label for="m-text">A table (state, port in, next state, port out), or a configuration text</label>
     <textarea id="m-text" spellcheck="false"></textarea><p id="m-fault" class="e-fault" role="status"></p>
-    <p class="quiet">In a mirror each wire is turned round, and east and west are exchanged. It is made of the same
+    <p class="quiet">In the inverse circuit each wire is reversed, and east and west are exchanged. It is built from the same
     element,
       so what it does isn't a step back: it is another circuit, going on.</p></div>
   <div class="e-right two">
@@ -21,9 +21,9 @@ const GLASS_PAGE = `<div class="e-left">
       <div class="e-foot"><button id="m-start">To the start</button><button id="m-back">◂ Step back</button>
         <button id="m-forth" class="main">Step ▸</button><button id="m-end">To its end</button></div>
       <p id="m-place" class="e-place"></p></figure>
-    <figure><figcaption>Its mirror</figcaption><div id="m-mirror" class="e-picture"></div>
+    <figure><figcaption>Its inverse circuit</figcaption><div id="m-mirror" class="e-picture"></div>
       <div class="e-foot"><button id="m-mback">◂ Step back</button><button id="m-mforth" class="main">Step of the
-      mirror ▸</button></div>
+      inverse ▸</button></div>
       <p id="m-mplace" class="e-place"></p></figure>
     <p id="m-said" class="e-said" role="status"></p></div>`;
 
@@ -59,13 +59,13 @@ async function compare() {
   const made = glass.mirror.steps(), left = glass.circuit.steps() - made, bars = glass.mirror.bars();
   const before = await answer(["back", String(made)], glass.circuit.text ?? "");
   const isEqual = readConfiguration(before.text).bars.join("") === bars;
-  const atStart = left ? "." : ": at its start. All is undone.";
+  const atStart = left ? "." : ", at its start. Everything is undone.";
   const count = made === 1 ? "one step" : `${made} steps`;
-  glassPart("m-said").textContent = !glass.circuit.steps() ? "Step the circuit; then let its mirror undo what it did."
-    : !made ? `The mirror begins where the circuit stands, after ${glass.circuit.steps()} of its steps.`
-      : left < 0 ? "The mirror has gone on beyond the circuit's start."
-        : isEqual ? `After ${count} of the mirror its bars stand as the circuit's stood ${count} before${atStart}`
-          : "The mirror's bars stand otherwise than the circuit's stood.";
+  glassPart("m-said").textContent = !glass.circuit.steps() ? "Step the circuit, then let its inverse undo the steps."
+    : !made ? `The inverse circuit starts at this configuration, after ${glass.circuit.steps()} steps of the circuit.`
+      : left < 0 ? "The inverse circuit has run beyond the start of the circuit."
+        : isEqual ? `After ${count} of the inverse circuit its bars are those of the circuit ${count} earlier${atStart}`
+          : "The bars of the inverse circuit differ from those of the circuit.";
 }
 
 export function chooseGlass(text) {
@@ -76,7 +76,7 @@ export function chooseGlass(text) {
 }
 
 export const mirrorPage = {
-  key: "mirror", title: "Mirror",
+  key: "mirror", title: "Inverse",
   make(box) {
     glass.box = box;
     box.innerHTML = GLASS_PAGE;
@@ -106,7 +106,7 @@ export const mirrorPage = {
     ArrowUp: () => stepMirror(-1), ArrowDown: () => stepMirror(1),
   },
   steppers: () => [glass.circuit, glass.mirror],
-  calls: () => [{words: ["mirror"], input: glass.circuit.text, what: "the circuit's text"},
-    {words: ["step", String(glass.mirror.steps())], input: glass.made, what: "the mirror's text"},
-                {words: ["back", String(glass.mirror.steps())], input: glass.circuit.text, what: "the circuit's text"}],
+  calls: () => [{words: ["mirror"], input: glass.circuit.text, what: "the configuration text"},
+    {words: ["step", String(glass.mirror.steps())], input: glass.made, what: "the text of the inverse circuit"},
+                {words: ["back", String(glass.mirror.steps())], input: glass.circuit.text, what: "the configuration text"}],
 };

@@ -6,9 +6,9 @@ import {TAPES} from "./words.js";
 
 /** @type {Record<string, string>} */
 const CELL_WORDS = {
-  Rd: "read", SR: "hand the head to the right", SL: "hand the head to the left", TakeR: "take the head from the left",
-  TakeL: "take the head from the right", DoneW: "“written” on its way back", DoneR: "“moved right” on its way back",
-  DoneL: "“moved left” on its way back",
+  Rd: "read", SR: "pass the head to the right", SL: "pass the head to the left", TakeR: "take the head from the left",
+  TakeL: "take the head from the right", DoneW: "“written”, returning", DoneR: "“moved right”, returning",
+  DoneL: "“moved left”, returning",
 };
 /** @type {Record<string, string>} */
 const DONE_WORDS = {DoneW: "has written", DoneR: "has moved right", DoneL: "has moved left"};
@@ -23,7 +23,7 @@ export function lineSaid(layout, bank, row) {
 /** @type {(tape: TapeLayout, row: number) => LineSaid} */
 function cellLine({lines, letters}, row) {
   const name = lines[row], [kind, symbol] = name.split(" "), letter = symbolWord(letters[Number(symbol)]);
-  const words = kind === "W" ? `write ${letter}` : kind === "A" ? `the answer “${letter}” on its way back` : CELL_WORDS[kind];
+  const words = kind === "W" ? `write ${letter}` : kind === "A" ? `the answer “${letter}”, returning` : CELL_WORDS[kind];
   return {name, words, isBack: BACK.test(kind), tape: null};
 }
 /** @type {(layout: Layout, row: number) => LineSaid} */

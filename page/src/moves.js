@@ -44,9 +44,9 @@ function firstRow(list, at) {
   return Math.max(0, Math.min(list.length - MOST_ROWS, Math.floor((at - MOST_ROWS / 2) / ROWS_ON) * ROWS_ON));
 }
 function tableOf({from, to, list}, first) {
-  const head = `<h3><span>For this row</span><span class="quiet">${number(to - from)} element steps</span></h3>`;
+  const head = `<h3><span>Moves of this quadruple</span><span class="quiet">${number(to - from)} element steps</span></h3>`;
   if (list.isPart && !list.length) {
-    return head + `<p class="quiet">${state.playing ? "Stop, or play slower, and they are listed." : "The program lists them …"}</p>`;
+    return head + `<p class="quiet">${state.playing ? "Pause or play slower to list the moves." : "Listing the moves …"}</p>`;
   }
   const shown = list.slice(first, first + MOST_ROWS), behind = list.length - first - shown.length;
   const rows = shown.map((it, k) => {
@@ -55,8 +55,8 @@ function tableOf({from, to, list}, first) {
     return `<tr data-step="${it.step}"><td><i class="m${bank.tape ?? 0}"></i><button class="link">${escaped(shortBank(bank))}</button></td>`
       + `<td>${escaped(line.words)}</td><td class="no">${cost}</td></tr>`;
   });
-  const before = first ? `<p class="quiet">${number(first)} moves before these</p>` : "";
-  const more = [behind ? `${number(behind)} moves behind these` : "", list.isPart ? "the last ones aren't fetched" : ""].filter(Boolean).join("; ");
+  const before = first ? `<p class="quiet">${number(first)} earlier moves</p>` : "";
+  const more = [behind ? `${number(behind)} later moves` : "", list.isPart ? "the last moves are not loaded" : ""].filter(Boolean).join("; ");
   return `${head}${before}<table>${rows.join("")}</table>${more ? `<p class="quiet">${more}</p>` : ""}`;
 }
 function stripOf({from, to, list}) {

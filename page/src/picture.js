@@ -11,7 +11,7 @@ const STAGES = "#filmnames span,#stagenames span", IN_LESSON = [".l-rule", ".tap
 /** @typedef {{key: string, title: string, pictures: string, texts: string}} Part */
 /** @type {Part[]} */
 const PARTS = [
-  {key: "all", title: "all that is seen", pictures: "main .pic,#filmpic .pic", texts: `${AROUND.join()},${STAGES}`},
+  {key: "all", title: "the whole view", pictures: "main .pic,#filmpic .pic", texts: `${AROUND.join()},${STAGES}`},
   {key: "tapes", title: "the three tapes", pictures: "#three .pic", texts: "#three b"},
   {key: "hill", title: "the hill of the history", pictures: "#filmpic .pic", texts: STAGES},
   {key: "diagram", title: "the state diagram", pictures: "#diagram .pic", texts: ""},
@@ -52,7 +52,7 @@ function save(part, made) {
   const {kind, isGrey, family} = chosen, {type, ending} = KINDS[kind];
   const text = pictureOf(part, kind, {isGrey, family, made});
   if (!text) {
-    toast("Nothing is seen of it.");
+    toast("This part is not visible.");
     return;
   }
   const link = document.createElement("a");

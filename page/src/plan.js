@@ -13,7 +13,7 @@ const LEFT = 14, TRACK_HEIGHT = 16, BOX_HEIGHT = 40, HEAD = 22, LEAST_UNIT = 7, 
 const OPTIONS_OF_PLAN = CIRCUITS.map((it, k) => `<option value="${k}">${it.title}</option>`).join("");
 const PLAN_PAGE = `<div class="e-left">
     <select id="l-examples" aria-label="Circuits to begin with">${OPTIONS_OF_PLAN}</select>
-    <label for="l-text">Moves (state, port, next state, port), or a configuration text</label>
+    <label for="l-text">A table (state, port in, next state, port out), or a configuration text</label>
     <textarea id="l-text" spellcheck="false"></textarea><p id="l-fault" class="e-fault" role="status"></p>
     <p class="quiet">Each element has eight places: its outputs n, e, s, w and then its inputs. A wire leads from an
     output up to
@@ -52,7 +52,7 @@ function drawPlan() {
   else room.textContent = `${number(plan.elements)} elements are too many to draw here.`;
   const densest = plan.wires
     ? ` Position ${plan.densest}, which the broken line marks, is covered by ${plan.tracks} of them, `
-      + "so there is no way with fewer." : "";
+      + "so fewer tracks are not possible." : "";
   plannerPart("l-said").textContent = `${number(plan.wires)} wires on ${number(plan.tracks)} tracks.${densest}`;
 }
 function planSvg(plan, bars, width) {
@@ -105,5 +105,5 @@ export const planPage = {
   open: drawPlan,
   close() {},
   keys: {},
-  calls: () => [{words: ["plan"], input: planner.text, what: "the circuit's text"}],
+  calls: () => [{words: ["plan"], input: planner.text, what: "the configuration text"}],
 };

@@ -104,5 +104,5 @@ function addEnds(rules, left, said) {
   if (!missing.length || missing.length > MOST_ADDED) return;
   const next = ["halt", "Halt", "halts", "end-of-run"].find(it => !left.has(it)) ?? "halt.1";
   for (const {state, read} of missing) rules.push({state, read, write: read, shift: "0", next, line: 0});
-  said.push(`where no rule goes on it halts: ${missing.length} ${missing.length === 1 ? "rule" : "rules"} to ${next} added`);
+  said.push(`Added ${missing.length} halting ${missing.length === 1 ? "rule" : "rules"}, to ${next}`);
 }

@@ -25,16 +25,16 @@ const NOT = tableOf("I,_,_,+,Q1 Q1,0,1,+,Q1 Q1,1,0,+,Q1 Q1,_,_,-,Q2 Q2,0,0,-,Q2 
 const told = async (words, input) => (await answer(words, input)).text;
 /** @type {Taken[]} */
 const MACHINES = [
-  {title: "A counter: adds one, and forgets nothing", table: () => COUNTER, words: () => ["110", "", ""]},
-  {title: "An adder: of a and b it leaves a and a + b", table: () => ADDER, words: () => ["11", "110", ""]},
-  {title: "Bennett's machine of the machine that is shown", table: () => told(["bennett"], shownTable()),
+  {title: "A reversible counter: adds one", table: () => COUNTER, words: () => ["110", "", ""]},
+  {title: "A reversible adder: maps a and b to a and a + b", table: () => ADDER, words: () => ["11", "110", ""]},
+  {title: "Bennett's machine of the workbench's machine", table: () => told(["bennett"], shownTable()),
    words: () => [current.run ? current.run.word : "", "", ""]},
-  {title: "The machine that turns each letter and erases its input", table: () => told(["erase"], `${NOT}%\n${NOT}`),
+  {title: "The machine that inverts each letter and erases its input", table: () => told(["erase"], `${NOT}%\n${NOT}`),
    words: () => ["101", "", ""]},
 ];
 const shownTable = () => current.run ? current.run.table : exampleTable("increment");
 
-const SIDES = [["on", "The machine"], ["back", "Its inverse, from where the machine ended"]];
+const SIDES = [["on", "The machine"], ["back", "Its inverse, from the final configuration"]];
 /** @type {(side: string[]) => string} */
 const sideBox = ([key, title]) => `<figure><figcaption>${title}</figcaption>
       <div id="r-${key}" class="e-picture"></div>
@@ -49,10 +49,10 @@ const wordBox = tape => fieldBox(`r-word${tape}`, `Word on the ${TAPES[tape]} ta
 const OPTIONS = MACHINES.map((it, k) => `<option value="${k}">${it.title}</option>`).join("");
 const PAGE = `<div class="e-left">
     <select id="r-examples" aria-label="Machines to begin with">${OPTIONS}</select>
-    <label for="r-table">Rows: state, what is read on three tapes, what is done on them, next state</label>
+    <label for="r-table">Quadruples: state, symbols read on three tapes, symbols written or shifts, next state</label>
     <textarea id="r-table" spellcheck="false"></textarea>
     ${[1, 2, 3].map(wordBox).join("")}
-    ${fieldBox("r-window", "Window", 'size="14" placeholder="as it needs"')}
+    ${fieldBox("r-window", "Window", 'size="14" placeholder="automatic"')}
     <p id="r-fault" class="e-fault" role="status"></p></div>
   <div class="e-right two">${SIDES.map(sideBox).join("")}
     <p id="r-said" class="e-said" role="status"></p><p id="r-circuit" class="e-said" role="status"></p></div>`;
@@ -68,43 +68,43 @@ const part = id => partOf(machine.box ?? document.body, `r-${id}`);
 
 /** @type {Record<string, (it: string[]) => string>} */
 const FAULTS = {
-  domain: ([a, b]) => `Rows ${a} and ${b} begin alike: which comes next isn't told.`,
-  range: ([a, b]) => `Rows ${a} and ${b} end alike: which was before isn't told, so it isn't reversible.`,
-  reads: ([a, b]) => `Rows ${a} and ${b} leave one state and read different tapes, so no circuit is built.`,
-  writes: ([a, b]) => `Rows ${a} and ${b} lead to one state and write different tapes, so no circuit is built.`,
-  silent: ([a]) => `Row ${a} reads no tape and moves no head, so no circuit is built.`,
-  initial: ([a]) => `Row ${a} leads to the state of the first row, so no circuit is built.`,
-  final: ([a]) => `Row ${a} leaves the state to which the last row leads, so no circuit is built.`,
+  domain: ([a, b]) => `Quadruples ${a} and ${b} overlap in domain, so the next step is not unique.`,
+  range: ([a, b]) => `Quadruples ${a} and ${b} overlap in range, so the machine is not reversible.`,
+  reads: ([a, b]) => `Quadruples ${a} and ${b} leave one state and read different tapes, so there is no circuit.`,
+  writes: ([a, b]) => `Quadruples ${a} and ${b} lead to one state and write different tapes, so there is no circuit.`,
+  silent: ([a]) => `Quadruple ${a} reads no tape and shifts no head, so there is no circuit.`,
+  initial: ([a]) => `Quadruple ${a} leads to the initial state, so there is no circuit.`,
+  final: ([a]) => `Quadruple ${a} leaves the final state, so there is no circuit.`,
 };
 /** @type {Record<string, string>} */
-const FIELDS = {name: "names no state", symbol: "is no symbol", shift: "is no move: + is right, - is left, 0 is stay"};
+const FIELDS = {name: "is not the name of a state", symbol: "is not a symbol", shift: "is not a shift: + is right, - is left, 0 is no move"};
 /** @type {(reply: Reply) => string} */
 export function quadrupleFault({status, text, words}) {
   if (words) return words;
   if ([STATUS.done, STATUS.stuck, STATUS.inside, STATUS.window].includes(status)) return "";
-  const [kind, first, ...rest] = text.trim().split(" "), said = `The program says: ${text.trim()}`;
+  const [kind, first, ...rest] = text.trim().split(" "), said = `The program refused: ${text.trim()}`;
   if (kind === "text:") return textFault(text, rest);
   if (kind === "machine:" && FAULTS[first]) return FAULTS[first](rest);
   if (kind === "word:") {
-    return rest.length ? `Letter ${rest[0]} of the word on the ${TAPES[Number(first)]} tape is no symbol there.`
-      : `Letter ${first} of the word is no symbol of the table.`;
+    return rest.length ? `Letter ${rest[0]} of the word on the ${TAPES[Number(first)]} tape is not a symbol of this tape.`
+      : `Letter ${first} of the word is not a symbol of the table.`;
   }
   return kind === "size:" ? sizeFault(first, rest) ?? said : said;
 }
 /** @type {(text: string, rest: string[]) => string} */
 function textFault(text, [record, kind, place, fault]) {
-  if (text.startsWith("text: empty")) return "The table is empty. Type a row a line.";
-  if (kind === "fields") return `Row ${record}: eight fields are wanted.`;
-  if (kind === "field") return `Row ${record}: field ${place} ${FIELDS[fault] ?? fault}.`;
-  return "The table is too long: 20,000 rows at most.";
+  if (text.startsWith("text: empty")) return "The table is empty. Type one quadruple per line.";
+  if (kind === "fields") return `Quadruple ${record}: it must have eight fields.`;
+  if (kind === "field") return `Quadruple ${record}: field ${place} ${FIELDS[fault] ?? fault}.`;
+  return "The table is too long; it may have at most 20,000 quadruples.";
 }
 /** @type {(what: string, rest: string[]) => string | undefined} */
 function sizeFault(what, rest) {
   const last = rest[rest.length - 1], count = number(Number(last));
   return {
-    elements: `The circuit would have ${count} elements, and 4,194,304 are the most.`,
-    word: `A word has ${count} letters, and its tape has fewer cells from cell 1 on.`,
-    symbols: `The ${TAPES[Number(rest[0])]} tape has ${count} symbols, and 4,001 are the most.`,
+    elements: `The circuit would have ${count} elements; the limit is 4,194,304.`,
+    word: `A word has ${count} letters, but its tape has fewer cells from cell 1 on.`,
+    symbols: `The ${TAPES[Number(rest[0])]} tape has ${count} symbols; the limit is 4,001.`,
   }[what];
 }
 
@@ -153,7 +153,7 @@ async function take() {
   Object.assign(machine, {on: fault ? null : sideOf(ran), back: null});
   part("said").textContent = part("circuit").textContent = "";
   if (machine.on?.outcome[0] === "halted") await takeBack(table, machine.on);
-  else if (machine.on) say(machine.on, "Only a run that has halted is taken back here.");
+  else if (machine.on) say(machine.on, "Only a run that has halted is undone here.");
   draw();
   if (machine.on && machine.on.outcome[0] !== "running") await build(table, words, machine.on);
 }
@@ -162,7 +162,7 @@ async function takeBack(table, on) {
   const inverse = await answer(["inverse"], table), words = lastOf(on).tapes.map(wordOn);
   machine.calls.push({words: ["inverse"], input: table, what: "the table"});
   if (words.includes(null)) {
-    say(on, "What it leaves is no word on each tape, with the heads at 0, so its inverse can't begin there.");
+    say(on, "The final tapes are not words with the heads at 0, so the inverse can't start there.");
     return;
   }
   const asked = ["moments", ...words.map(it => "=" + it), String(MOST_MOMENTS)], ran = await answer(asked, inverse.text);
@@ -170,8 +170,8 @@ async function takeBack(table, on) {
   if (quadrupleFault(ran)) return;
   const back = machine.back = sideOf(ran), [kind, steps] = back.outcome;
   const isBack = kind === "halted" && tapesKey(lastOf(back)) === tapesKey(on.moments[0]);
-  say(on, isBack ? `Its inverse comes back to the start in ${number(Number(steps))} steps, and nothing was forgotten.`
-    : "Its inverse doesn't come back to the start.");
+  say(on, isBack ? `The inverse returns to the start in ${number(Number(steps))} steps.`
+    : "The inverse does not return to the start.");
 }
 /** @type {(side: Side) => MomentTold} */
 const lastOf = ({moments}) => moments[moments.length - 1];
@@ -182,7 +182,7 @@ async function build(table, words, on) {
   const typed = part("window").value.trim().split(/[\s,]+/).filter(Boolean);
   const window = typed.length === 4 ? typed : windowOf(on);
   const calls = [["build", ...words, ...window], ["drive", ...words, ...window, MOST_DRIVEN]];
-  part("circuit").textContent = "The circuit is built …";
+  part("circuit").textContent = "Building the circuit …";
   machine.calls.push(...calls.map(it => ({words: it, input: table, what: "the table"})));
   const [built, driven] = await Promise.all([answer(calls[0], table), answer(calls[1], table, {lane: LANES.long})]);
   const fault = quadrupleFault(built) || quadrupleFault(driven);
@@ -190,9 +190,9 @@ async function build(table, words, on) {
 }
 /** @type {(side: Side) => string} */
 function outcomeWords({outcome: [kind, ...rest]}) {
-  if (kind === "halted") return `It halts after ${number(Number(rest[0]))} steps.`;
-  if (kind === "running") return `It runs on: ${number(Number(rest[0]))} steps are shown.`;
-  return `It is stuck in ${rest[0]} on ${rest.slice(1, 4).join(" ")} after ${number(Number(rest[4]))} steps.`;
+  if (kind === "halted") return `Halts after ${number(Number(rest[0]))} steps.`;
+  if (kind === "running") return `Runs on; ${number(Number(rest[0]))} steps are shown.`;
+  return `Stuck in ${rest[0]} on ${rest.slice(1, 4).join(" ")} after ${number(Number(rest[4]))} steps.`;
 }
 /** @type {(it: Outcome, window: string[], on: Side) => string} */
 function drivenWords({elements, exit, steps, quadruples, tapes}, window, on) {
@@ -200,15 +200,15 @@ function drivenWords({elements, exit, steps, quadruples, tapes}, window, on) {
   const made = `${number(steps)} element steps`;
   const rows = quadruples === null ? "" : `; the machine has made ${number(quadruples)} steps by then`;
   const isSame = exit === "end" && tapesKey({tapes}) === tapesKey(lastOf(on));
-  const same = isSame ? " Its cells show the tapes that the machine leaves." : "";
+  const same = isSame ? " Its cells show the final tapes of the machine." : "";
   return `${size}; ${leaving(exit)} after ${made}${rows}.${same}`;
 }
 /** @type {(exit: string | null) => string} */
 function leaving(exit) {
   if (exit === null) return "the signal is still inside";
-  if (exit === "end") return "the signal leaves it by the end";
+  if (exit === "end") return "the signal leaves by the end port";
   const [kind, tape, side] = exit.split(" ");
-  return kind === "stuck" ? "the signal leaves it where the machine is stuck"
+  return kind === "stuck" ? "the signal leaves where the machine is stuck"
     : `the head of the ${TAPES[Number(tape)]} tape would leave its window to the ${side}`;
 }
 
@@ -224,7 +224,7 @@ function drawSide(key, side) {
   const pictures = it ? it.tapes.map((tape, k) => tapePicture(tape, {width, size: CELL, before: before?.tapes[k]})) : [];
   room.innerHTML = pictures.join("");
   const place = it && `moment <b>${number(at)}</b> of ${number(last)} · state <b>${escaped(it.state)}</b>`;
-  part(`${key}-place`).innerHTML = it ? place + (it.row === null ? "" : ` · row ${it.row} is next`) : "";
+  part(`${key}-place`).innerHTML = it ? place + (it.row === null ? "" : ` · quadruple ${it.row} is next`) : "";
   for (const id of ["first", "back"]) part(`${key}-${id}`).disabled = at === 0;
   for (const id of ["forth", "last"]) part(`${key}-${id}`).disabled = at === last;
 }

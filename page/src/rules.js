@@ -46,5 +46,5 @@ function ruleRow(rule) {
   const options = moves.map(([it, words]) => `<option value="${escaped(it)}"${it === rule.shift ? " selected" : ""}>${escaped(words)}</option>`);
   return `<tr data-line="${rule.line}"><td class="no">${rule.line}</td>${input("state", 0, 6, 'list="d-states"')}${input("read", 1, 1)}${input("write", 2, 1)}`
     + `<td><select data-field="3" ${name("move")}>${options.join("")}</select></td>${input("next", 4, 6, 'list="d-states"')}`
-    + `<td><button class="plain" data-field="5" aria-label="take the rule in line ${rule.line} away">×</button></td></tr>`;
+    + `<td><button class="plain" data-field="5" aria-label="delete the rule in line ${rule.line}">×</button></td></tr>`;
 }

@@ -11,8 +11,8 @@ const TITLES = {machine: "the machine", tapes: "the tapes", circuit: "the circui
 // The calls behind each panel: words, an input, and what the input is.
 function callsOf(panel) {
   const {run, found, machine} = current, table = {input: run.table, what: "the table"}, at = String(state.e);
-  const circuit = {input: run.compiled, what: "the circuit's text"};
-  const what = machine.given === state.text ? "the table as it was typed" : "the table as it was typed, its names spelled";
+  const circuit = {input: run.compiled, what: "the configuration text"};
+  const what = machine.given === state.text ? "the table as typed" : "the table as typed, with its names spelled for the program";
   const turned = machine.isStandard ? [{words: ["standard"], input: machine.given, what}] : [];
   const own = [...turned, {words: ["check"], ...table}, {words: ["machine", "=" + run.word, OWN_STEPS], ...table}];
   if (run instanceof Early) return [...own, ...run.calls()];
@@ -33,7 +33,7 @@ export function openSaidOf(panel) {
 // A dialog with these calls and their answers.
 export async function openSaid(title, calls) {
   const replies = [];
-  busy("asking the program …");
+  busy("Loading …");
   for (const it of calls) replies.push(await answer(it.words, it.input));
   busy("");
   const sections = calls.map((it, k) => `<section class="said"><p><code>${escaped(it.words.join(" "))}</code>
@@ -41,9 +41,9 @@ export async function openSaid(title, calls) {
     <p class="row">${["words", "input", "text"].map(what => button(what, k)).join("")}</p>
     <pre class="listing" tabindex="0" role="group"
     aria-label="the text of ${escaped(it.words[0])}">${escaped(front(replies[k].text))}</pre></section>`);
-  dialog(`<h2>What the program said: ${escaped(title)}</h2><p class="quiet">Each picture shows these texts and nothing
+  dialog(`<h2>Program output: ${escaped(title)}</h2><p class="quiet">Each picture shows these outputs and nothing
       else. `
-    + `In a terminal the same words give the same text.</p>${sections.join("")}`);
+    + `In a terminal the same arguments give the same output.</p>${sections.join("")}`);
   for (const it of byId("dialogbody").querySelectorAll("[data-copy]")) {
     const k = Number(it.dataset.call), {words, input} = calls[k];
     const texts = {words: words.join(" "), input, text: replies[k].text};

@@ -64,8 +64,8 @@ function fillSheet(task) {
   const box = byId("sheet"), last = TASKS.length;
   box.innerHTML = `<div class="row top"><h2 tabindex="-1">Exercise ${task.number} · ${escaped(task.title)}</h2><span
       class="mini">
-    <button id="taskback" aria-label="the exercise before" ${task.number === 1 ? "disabled" : ""}>◂</button>
-    <button id="tasknext" aria-label="the next exercise" ${task.number === last ? "disabled" : ""}>▸</button>
+    <button id="taskback" aria-label="previous exercise" ${task.number === 1 ? "disabled" : ""}>◂</button>
+    <button id="tasknext" aria-label="next exercise" ${task.number === last ? "disabled" : ""}>▸</button>
     <button id="taskend">End</button></span></div>${task.ask.map(it => `<p>${escaped(it)}</p>`).join("")}
     <div id="taskfields"></div><p class="row"><button id="taskcheck"
     class="main">${escaped(task.act ?? "Check")}</button>
@@ -113,9 +113,9 @@ async function checkTask() {
   const {task, choice} = sheet;
   if (!task) return;
   const values = Object.fromEntries(task.fields.map(({key}) => [key, byId(`task-${key}`).value]));
-  sayTask("asking the program …", null);
+  sayTask("Checking …", null);
   const {isRight, words, told} = await task.check(values, choice).catch(fault =>
-    ({isRight: false, words: `Not judged. ${fault.message}`, told: ""}));
+    ({isRight: false, words: `Not checked. ${fault.message}`, told: ""}));
   if (sheet.task === task) sayTask(words, isRight, told.trim());
 }
 export const taskAtHand = () => sheet.task?.number ?? null;

@@ -63,7 +63,7 @@ export function renderWhole(stages, time) {
   }
   Object.assign(byId("wholeseen").style, {left: share(from), width: share(to - from)});
   byId("wholenow").style.left = share(Math.min(count, time));
-  const it = byId("whole"), words = `row steps ${number(Math.floor(from))} to ${number(Math.ceil(to) - 1)} of ${number(count - 1)}`;
+  const it = byId("whole"), words = `quadruple steps ${number(Math.floor(from))} to ${number(Math.ceil(to) - 1)} of ${number(count - 1)}`;
   it.setAttribute("aria-valuemin", 0);
   it.setAttribute("aria-valuemax", count - 1);
   it.setAttribute("aria-valuenow", Math.floor(from));
@@ -73,9 +73,9 @@ export function renderWhole(stages, time) {
 // What is said of the window, where it isn't plain.
 export function spanWords(run, stride) {
   const {from, to} = spanOf(), parts = [];
-  if (state.span) parts.push(`row steps ${number(Math.floor(from))} to ${number(Math.ceil(to) - 1)}`);
+  if (state.span) parts.push(`quadruple steps ${number(Math.floor(from))} to ${number(Math.ceil(to) - 1)}`);
   if (stride > 1) parts.push(`one moment in ${number(stride)} is drawn`);
   if (run.isPart) parts.push(`the first ${number(run.moments.length)} moments are shown`);
-  if (!run.isWhole) parts.push(`${number(run.moments.length)}${run.total ? ` of ${number(run.total)}` : ""} moments are known so far`);
+  if (!run.isWhole) parts.push(`${number(run.moments.length)}${run.total ? ` of ${number(run.total)}` : ""} steps computed`);
   return parts;
 }

@@ -7,7 +7,7 @@ export const LAYERS = ["machine", "quadruple", "module", "element"];
 export const state = {
   text: "", names: {}, asStandard: false, blank: null, word: "", window: null, example: null,
   accept: [], reject: [], tried: [], places: {},
-  e: 0, layer: "quadruple", playing: 0, speed: 40, breaks: [], cell: null, zoom: null, span: null, editions: 0,
+  e: 0, layer: "quadruple", playing: 0, speed: 40, breaks: [], cell: null, module: null, zoom: null, span: null, editions: 0,
   middle: "moves", asTyped: false, lesson: null,
 };
 // A table of 4,000 rules, which is the most, has at most so many characters. What is longer has its verdict, and nothing that

@@ -4,7 +4,7 @@ import {toggleBreak} from "./breaks.js";
 import {redraw} from "./notices.js";
 import {byId, current, dialog, escaped, nameOf, state} from "./state.js";
 
-const CHOICES = `<h2>Stop at</h2><p class="quiet">A click on a state, a cell or an element tells of it, and can stop there too.</p>
+const CHOICES = `<h2>Stop at</h2><p class="quiet">A click on a state, a cell or an element shows details, and can set a breakpoint there too.</p>
   <p class="row"><label for="stopstate">state</label> <select id="stopstate"></select><button id="addstate">Stop
   there</button></p>
   <p class="row"><label for="stoptape">tape</label> <select id="stoptape"><option value="1">work</option><option

@@ -193,33 +193,33 @@ export function faultOf(answer, text) {
   if (found) {
     const record = Number(found[1]), number = line(record), place = Number(found[3] ?? 0), given = fields(record)[place - 1] ?? "";
     const words = {
-      fields: `five fields are wanted (state, read, write, move, next); this line has ${fields(record).length}.`,
-      name: `${quoted(given)} can't name a state. A name has letters, digits, ', . or -, 32 at most.`,
-      symbol: lengthOf(given) > 1 ? `${quoted(given)} is no symbol: one character is wanted. Is this a header?` : `${quoted(given)} can't be a symbol.`,
-      shift: `${quoted(given)} is no move: + is right, - is left, 0 is stay.`,
-    }[found[4] ?? found[2]] ?? "the table is too long: 4,000 rules at most.";
+      fields: `a rule has five fields (state, read, write, move, next); this line has ${fields(record).length}.`,
+      name: `${quoted(given)} can't be the name of a state. A name has at most 32 letters, digits, ', . and -.`,
+      symbol: lengthOf(given) > 1 ? `${quoted(given)} is not a symbol; a symbol is one character. Is this a header?` : `${quoted(given)} can't be a symbol.`,
+      shift: `${quoted(given)} is not a move: + is right, - is left, 0 is no move.`,
+    }[found[4] ?? found[2]] ?? "the table is too long; it may have at most 4,000 rules.";
     return {lines: [number], text: `Line ${number}: ${words}`};
   }
-  if (/^text: empty/.test(answer)) return {lines: [], text: "The table is empty. Type a rule a line: state, read, write, move, next."};
+  if (/^text: empty/.test(answer)) return {lines: [], text: "The table is empty. Type one rule per line: state, read, write, move, next."};
   found = /^machine: S1 (\d+) (\d+)/.exec(answer);
   if (found) {
     const [a, b] = [line(Number(found[1])), line(Number(found[2]))], [state, read] = fields(Number(found[1]));
-    return {lines: [a, b], text: `Lines ${a} and ${b} both say what to do in ${state} on ${read}. Only one may.`};
+    return {lines: [a, b], text: `Lines ${a} and ${b} are both for state ${state} on ${read}. Only one rule is allowed.`};
   }
-  if (/^machine: S2/.test(answer)) return {lines: [line(1)], standard: true, text: `Line ${line(1)}: standard form begins on the blank before the word: read _, write _, go right.`};
+  if (/^machine: S2/.test(answer)) return {lines: [line(1)], standard: true, text: `Line ${line(1)}: a machine in standard form starts on the blank before the word: read _, write _, go right.`};
   found = /^machine: S3 (\d+)/.exec(answer);
-  if (found) return {lines: [line(Number(found[1]))], standard: true, text: `Line ${line(Number(found[1]))}: the start state ${fields(1)[0]} comes back here. In standard form it stands in the first rule alone.`};
-  if (/^machine: S4/.test(answer)) return {lines: [line(last())], standard: true, text: `Line ${line(last())}: standard form ends on the blank before the output: read _, write _, stay.`};
+  if (found) return {lines: [line(Number(found[1]))], standard: true, text: `Line ${line(Number(found[1]))}: the start state ${fields(1)[0]} occurs again here. In standard form it occurs only in the first rule.`};
+  if (/^machine: S4/.test(answer)) return {lines: [line(last())], standard: true, text: `Line ${line(last())}: a machine in standard form halts on the blank before the output: read _, write _, stay.`};
   found = /^machine: S5 (\d+)/.exec(answer);
-  if (found) return {lines: [line(Number(found[1]))], standard: true, text: `Line ${line(Number(found[1]))}: the final state ${fields(last())[4]} occurs here too. In standard form it stands in the last rule alone.`};
+  if (found) return {lines: [line(Number(found[1]))], standard: true, text: `Line ${line(Number(found[1]))}: the final state ${fields(last())[4]} occurs here too. In standard form it occurs only in the last rule.`};
   found = /^machine: halting (\d+)/.exec(answer);
   if (found) {
     const number = line(Number(found[1])), final = fields(last())[4];
-    return {lines: [number], text: `Line ${number} leaves ${final}, where the last line halts. Put the line that halts last.`};
+    return {lines: [number], text: `Line ${number} leaves ${final}, the halting state of the last line. Put the line that halts last.`};
   }
   found = /^size: quintuples (\d+)/.exec(answer);
-  if (found) return {lines: [], text: `In standard form it would have ${found[1]} rules, more than 4,000.`};
-  return {lines: [], text: `The program says: ${answer.trim()}`};
+  if (found) return {lines: [], text: `In standard form it would have ${found[1]} rules; the limit is 4,000.`};
+  return {lines: [], text: `The program refused: ${answer.trim()}`};
 }
 
 // A refusal of a word or of its circuit, in words; null where it says something else. Letters are counted from 1.
@@ -230,7 +230,7 @@ export function refusalWords(answer, word, rules) {
   if (told) return `Too large: ${told}. A circuit has at most 4,194,304 elements.`;
   if (!place) return null;
   const letter = letterAt(word, Number(place[1])), known = lettersOf(rules).slice(1).join(" ") || "none";
-  return `Letter ${place[1]}, “${letter}”, isn't in the table. Its letters: ${known}.`;
+  return `Letter ${place[1]}, “${letter}”, is not in the table. Its letters: ${known}.`;
 }
 
 /** @type {Record<string, string>} */

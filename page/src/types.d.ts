@@ -49,7 +49,7 @@ interface Typed {
   text: string; names: Record<string, string>; asStandard: boolean; blank: string | null; word: string;
   window: Window4 | null; example: string | null; accept: string[]; reject: string[]; tried: string[];
   places: Record<string, number[]>; e: number; layer: Layer; playing: number; speed: number; breaks: Break[];
-  cell: Cell | null; zoom: Zoom | null; span: Span | null; editions: number; middle: string; isMaking?: boolean;
+  cell: Cell | null; module: number | null; zoom: Zoom | null; span: Span | null; editions: number; middle: string; isMaking?: boolean;
   asTyped: boolean; lesson: string | null;
 }
 

@@ -8,10 +8,10 @@ import {number} from "./words.js";
 
 const MOST_WORDS = 500;
 const SAYS = {accept: "accepts", reject: "rejects"};
-const VERDICTS_HEAD = '<h2>What the machine answers</h2><p class="quiet">Say which states accept and which reject. A machine '
-  + "comes to rest in the state where it halts, or where no rule goes on; that state is its answer.</p>";
+const VERDICTS_HEAD = '<h2>What the machine answers</h2><p class="quiet">Choose which states accept and which reject. The answer of a machine '
+  + "is the state in which it halts or gets stuck.</p>";
 const TRIED_HEAD = '<thead><tr><th scope="col">word</th><th scope="col">answer</th><th scope="col">steps</th>'
-  + '<th scope="col">at rest in</th><th scope="col">output</th></tr></thead>';
+  + '<th scope="col">last state</th><th scope="col">output</th></tr></thead>';
 
 export const kindOf = name => state.accept.includes(name) ? "accept" : state.reject.includes(name) ? "reject" : null;
 export function setKind(name, kind) {
@@ -57,11 +57,11 @@ export function openVerdicts({kept, told}) {
   }
   const rows = restStates().map(name => `<tr><td>${escaped(name)}</td><td><select data-kind="${escaped(name)}"
     aria-label="what ${escaped(name)} says">${["", "accept", "reject"].map(kind =>
-      `<option value="${kind}"${(kindOf(name) ?? "") === kind ? " selected" : ""}>${SAYS[kind] ?? "says nothing"}</option>`).join("")}</select></td></tr>`);
+      `<option value="${kind}"${(kindOf(name) ?? "") === kind ? " selected" : ""}>${SAYS[kind] ?? "neither"}</option>`).join("")}</select></td></tr>`);
   dialog(`${VERDICTS_HEAD}<div class="v-states" tabindex="0" role="group" aria-label="states"><table>${rows.join("")}</table></div>
-    <p><label for="v-words">Words to try, one a line; an empty line is the empty word</label></p>
+    <p><label for="v-words">Words, one a line; an empty line is the empty word</label></p>
     <textarea id="v-words" rows="5" spellcheck="false" autocomplete="off">${escaped(state.tried.join("\n"))}</textarea>
-    <p class="row"><button id="v-try" class="main">Try them</button><span id="v-said" role="status"></span></p>
+    <p class="row"><button id="v-try" class="main">Run</button><span id="v-said" role="status"></span></p>
     <div id="v-table" class="v-table" tabindex="0" role="group" aria-label="what the words are answered with"></div>`);
   byId("v-try").onclick = () => tryWords(told);
   for (const it of byId("dialogbody").querySelectorAll("[data-kind]")) {
@@ -87,7 +87,7 @@ async function tryWords(told) {
     body.insertAdjacentHTML("beforeend", `<tr data-word="${escaped(word)}"><td>${word === "" ? '<span class="quiet">empty</span>' : `<code>${escaped(word)}</code>`}</td>`
       + [row.words, row.steps, row.rest, row.output].map(it => `<td>${escaped(it)}</td>`).join("") + "</tr>");
   }
-  const many = words.length > MOST_WORDS ? ` The first ${MOST_WORDS} were tried.` : "", count = state.tried.length;
+  const many = words.length > MOST_WORDS ? ` Only the first ${MOST_WORDS} were run.` : "", count = state.tried.length;
   byId("v-said").textContent = `${number(count)} ${count === 1 ? "word" : "words"}: ${counts.accept} accepted, ${counts.reject} rejected.${many}`;
 }
 async function triedWord(table, word) {
@@ -97,10 +97,10 @@ async function triedWord(table, word) {
     const {reply} = own.fault;
     if (!reply) throw own.fault;
     const letter = reply.status === STATUS.word ? /^word: (\d+)/.exec(reply.text)?.[1] : null;
-    const words = isCutOff(reply) ? reply.words : letter ? `letter ${letter} isn't in the table` : reply.text.trim();
+    const words = isCutOff(reply) ? reply.words : letter ? `letter ${letter} is not in the table` : reply.text.trim();
     return {kind: null, words, steps: "", rest: "", output: ""};
   }
-  if (own.outcome === "running") return {kind: null, words: "no answer: it runs on", steps: `more than ${number(own.steps)}`, rest: "", output: ""};
+  if (own.outcome === "running") return {kind: null, words: "no answer: the machine runs on", steps: `more than ${number(own.steps)}`, rest: "", output: ""};
   const {rest, kind} = judgedBy(own), stuck = own.outcome === "stuck" ? `${rest}, on ${symbolWord(own.letter)}` : rest;
   return {kind, words: kind ? SAYS[kind] : "no answer", steps: number(own.steps), rest: stuck, output: own.output ?? ""};
 }

@@ -15,7 +15,7 @@ import {tapePicture} from "./tape_picture.js";
 import {markOf} from "./verdicts.js";
 import {bankName, ruleAt, spoken, TAPES} from "./words.js";
 
-const TAPE_NOTES = ["its own tape", "the rules used", "the copy"];
+const TAPE_NOTES = ["the machine's", "rule numbers", "the copy"];
 const LEAST_DIAGRAM = 104, LOW = 560, LOW_CELL = 25;
 const REST = 350;
 
@@ -93,8 +93,8 @@ function renderItself({moment}, rule) {
   const last = run.moments.findLast(it => it.stage === "compute") ?? moment;
   const stateAt = it => it.state ?? run.rules[it.rule - 1].state;
   const ownState = isOver ? copying?.state ?? last.state : stateAt(moment), shown = isOver ? copying ?? last : moment;
-  const words = isOver ? "<b>By itself</b> it has halted; it can't go back."
-    : `<b>By itself</b>, step ${moment.step}: in <b>${escaped(nameOf(ownState))}</b>`;
+  const words = isOver ? "<b>Alone</b>, the machine has halted; it can't go back."
+    : `<b>Alone</b>, step ${moment.step}: state <b>${escaped(nameOf(ownState))}</b>`;
   const tape = tapePicture({...(shown.tapes ?? moment.tapes)[0], tape: 1}, {width: widthOf("own"), size: 24, isNumbered: false});
   put("own", `<p>${words}</p><div class="${isOver ? "over" : ""}">${tape}</div>`);
   const high = heightOf("diagram"), stops = new Set(breaksOf("state").map(it => it.state));

@@ -1,5 +1,6 @@
 // The page's worker: takes the module that it is given, compiled or as bytes, and answers one call after another.
 import {Workbench} from "../../js/core.mjs";
+import {searched} from "./design/search.js";
 import {boundsOf, readPlaces} from "./places.js";
 
 /** @type {Workbench | null} */
@@ -16,6 +17,10 @@ onmessage = event => {
     if (kind === "module") {
       bench = new Workbench(event.data.module ?? new WebAssembly.Module(event.data.bytes));
       post({kind: "ready", number, ms: spent()});
+      return;
+    }
+    if (kind === "search") {
+      post({kind: "found", number, found: searched(event.data.entries, event.data.count, {sides: event.data.sides})});
       return;
     }
     const {words, input, reading} = event.data;

@@ -32,8 +32,8 @@ function makeWorkshop() {
     `<div role="tabpanel" id="page-${it.key}" class="e-body" aria-labelledby="tab-${it.key}" hidden></div>`);
   workshop.box.innerHTML = `<div class="e-head"><h2>Workshop</h2><div role="tablist"
       aria-label="Pages of the workshop">${tabs.join("")}</div>
-    <span class="mini"><button id="e-picture" title="what is seen, as SVG, PDF or TikZ">Picture</button><button id="e-texts" aria-label="what the program said of this page">Texts</button><button
-    id="e-about-page" aria-label="this page, in words">?</button></span>
+    <span class="mini"><button id="e-picture" title="save the picture as SVG, PDF or TikZ">Picture</button><button id="e-texts" aria-label="program output for this page">Texts</button><button
+    id="e-about-page" aria-label="about this page">?</button></span>
     <button id="e-close" class="plain" aria-label="close the workshop">×</button></div><div
     id="e-sheet"></div>${boxes.join("")}`;
   document.body.append(workshop.box);

@@ -68,12 +68,15 @@ test("the step that is looked for turns a bar, and none before it does", async (
   }
 });
 
-test("each step has two sentences and a thing to try", () => {
+test("each step has two short paragraphs and a thing to try", () => {
   const shown = {run: {end: 1000, moments: [1, 2]}, found: {own: {outcome: "halted"}}};
   for (const it of STEPS) {
     const words = it.words(shown);
     assert.equal(words.length, 2, it.key);
-    for (const one of words) assert.equal((one.match(/[.?!](?= |$)/g) ?? []).length, 1, one);
+    for (const one of words) {
+      const sentences = one.split(/(?<=[.?!]) /);
+      assert.ok(sentences.length <= 3 && sentences.every(said => said.split(" ").length <= 30), one);
+    }
     assert.ok(it.ask.endsWith("."));
   }
   assert.equal(new Set(STEPS.map(it => it.key)).size, STEPS.length);

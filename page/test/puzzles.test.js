@@ -3,7 +3,9 @@ import assert from "node:assert/strict";
 import {test} from "node:test";
 import {behaviour, compared, entriesIn, tableOf} from "../src/design/behaviour.js";
 import {drawingOf} from "../src/design/reading_text.js";
-import {PUZZLES} from "../src/design/puzzles.js";
+import {textOf} from "../src/design/drawing.js";
+import {CHAPTERS, PUZZLES} from "../src/design/puzzles.js";
+import {searched} from "../src/design/search.js";
 import {answer} from "./program.js";
 
 const ask = async (words, input) => ({...answer(words, input), words: ""});
@@ -69,7 +71,8 @@ test("where a table is another one, the inputs that are told show it, and none a
 });
 
 test("each puzzle is a list of JSON with a goal that the program takes and a solution that does it", async () => {
-  assert.ok(PUZZLES.length >= 8);
+  assert.ok(PUZZLES.length >= 16);
+  assert.deepEqual([...new Set(PUZZLES.map(it => it.chapter))], Object.keys(CHAPTERS));
   assert.deepEqual(JSON.parse(JSON.stringify(PUZZLES)), PUZZLES);
   assert.equal(new Set(PUZZLES.map(it => it.key)).size, PUZZLES.length);
   for (const it of PUZZLES) {
@@ -80,8 +83,20 @@ test("each puzzle is a list of JSON with a goal that the program takes and a sol
     const found = await compared(it.solution.text, it.table, {ask, sides: it.sides});
     assert.ok(found.isSame, `${it.key}: ${found.said}`);
     assert.ok(entries.every(one => it.ins[one.input - 1] && it.outs[one.output - 1]), `${it.key}: a port has no name`);
-    // Without its wires it is no solution, but where none are wanted.
-    const bare = it.solution.text.replace(/ \d+\.[nesw](?=[ \n])/g, (word, at) => at > it.solution.text.indexOf("\ne 0") ? " -" : word);
-    if (bare !== it.solution.text) assert.ok(!(await compared(bare, it.table, {ask, sides: it.sides})).isSame, it.key);
+    // Without any one of its wires it is no solution.
+    for (const [out, into] of drawing.targets.entries()) {
+      if (into < 0) continue;
+      const without = textOf({...drawing, targets: drawing.targets.map((old, k) => k === out ? -1 : old)});
+      assert.ok(!(await compared(without, it.table, {ask, sides: it.sides})).isSame, `${it.key} without a wire from ${out}`);
+    }
+  }
+});
+
+test("the search finds a circuit of each puzzle with the least number of elements, and none with fewer", async () => {
+  for (const it of PUZZLES.filter(one => one.most <= 2)) {
+    const found = searched(entriesIn(it.table), it.most, {sides: it.sides});
+    assert.ok(found, it.key);
+    assert.ok((await compared(found, it.table, {ask, sides: it.sides})).isSame, it.key);
+    if (it.most > 1) assert.equal(searched(entriesIn(it.table), it.most - 1, {sides: it.sides}), null, it.key);
   }
 });

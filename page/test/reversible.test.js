@@ -25,12 +25,12 @@ test("what is refused is told in words", () => {
   const said = (words, table) => quadrupleFault({...answer(words, table), words: ""});
   for (const [words, table, right] of [
     [["moments", "=110", 9], counter, /^$/], [["moments", "=", 9], "", /^The table is empty/],
-    [["moments", "=", 9], "S,_,/,/,_,0,0\n", /^Row 1: eight fields/], [["moments", "=", 9], "S,_,/,/,_,0,x,F\n", /^Row 1: field 7 is no move/],
-    [["moments", "=", 9], "S_,_,/,/,_,0,0,F\n", /^Row 1: field 1 names no state/],
-    [["moments", "=", 9], counter + "S,_,/,/,1,0,0,F\n", /^Rows 1 and 9 begin alike/], [["moments", "=", 9], counter + "X,_,/,/,_,0,0,F\n", /^Rows 8 and 9 end alike/],
-    [["moments", "=1x", 9], counter, /^Letter 2 of the word is no symbol/], [["moments", "=1", "=z", "=", 9], adder, /^Letter 1 of the word on the history tape/],
-    [["build", "=", 0, 2, 0, 0], "S,_,/,/,_,0,0,M\nM,/,/,/,0,0,0,F\n", /^Row 2 reads no tape and moves no head/],
-    [["build", "=1", 0, 4000000, 0, 0], counter, /^The program says: usage/], [["build", "=1", 0, 1000000, 1000000, 1000000], counter, /^The circuit would have [\d,]+ elements/],
+    [["moments", "=", 9], "S,_,/,/,_,0,0\n", /^Quadruple 1: it must have eight fields/], [["moments", "=", 9], "S,_,/,/,_,0,x,F\n", /^Quadruple 1: field 7 is not a shift/],
+    [["moments", "=", 9], "S_,_,/,/,_,0,0,F\n", /^Quadruple 1: field 1 is not the name of a state/],
+    [["moments", "=", 9], counter + "S,_,/,/,1,0,0,F\n", /^Quadruples 1 and 9 overlap in domain/], [["moments", "=", 9], counter + "X,_,/,/,_,0,0,F\n", /^Quadruples 8 and 9 overlap in range/],
+    [["moments", "=1x", 9], counter, /^Letter 2 of the word is not a symbol/], [["moments", "=1", "=z", "=", 9], adder, /^Letter 1 of the word on the history tape/],
+    [["build", "=", 0, 2, 0, 0], "S,_,/,/,_,0,0,M\nM,/,/,/,0,0,0,F\n", /^Quadruple 2 reads no tape and shifts no head/],
+    [["build", "=1", 0, 4000000, 0, 0], counter, /^The program refused: usage/], [["build", "=1", 0, 1000000, 1000000, 1000000], counter, /^The circuit would have [\d,]+ elements/],
     [["build", "=111", 0, 2, 0, 0], counter, /^A word has 3 letters/],
   ]) assert.match(said(words, table), right, `${words} of ${table.slice(0, 40)}`);
 });

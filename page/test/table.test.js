@@ -56,7 +56,7 @@ test("a letter that isn't in the table is shown whole, outside the first plane t
   for (const [word, at, letter] of [["1😀1", 2, "😀"], ["1é", 2, "é"], ["x", 1, "x"], ["𝛼𝛽", 1, "𝛼"]]) {
     const {status, text} = answer(["run", `=${word}`, "auto"], table);
     assert.equal(status, 5);
-    assert.equal(refusalWords(text, word, rulesOf(table)), `Letter ${at}, “${letter}”, isn't in the table. Its letters: 0 1.`);
+    assert.equal(refusalWords(text, word, rulesOf(table)), `Letter ${at}, “${letter}”, is not in the table. Its letters: 0 1.`);
   }
   const {text} = answer(["run", "=1011", 900, 1000000, 1000000, 1000000], table);
   assert.match(refusalWords(text, "1011", []), /^Too large: /);
@@ -66,7 +66,7 @@ test("a letter that isn't in the table is shown whole, outside the first plane t
 test("a letter that no table of the erasing machine has is shown whole", () => {
   const input = `${table}%\n${table}`;
   for (const [word, letter] of [["1😀1", "😀"], ["0𝛼𝛽", "𝛼"]]) {
-    assert.equal(eraseFault({...answer(["erase", `=${word}`, 9], input), words: ""}, table, table, word), `Letter 2 of the word, “${letter}”, isn't in the tables.`);
+    assert.equal(eraseFault({...answer(["erase", `=${word}`, 9], input), words: ""}, table, table, word), `Letter 2 of the word, “${letter}”, is not in the tables.`);
   }
 });
 

@@ -170,6 +170,35 @@ def check_keyboard(page, program, count):
     count.hold(page.ask(OPEN), "Escape closes the editor")
 
 
+def check_scrubbed(page, program, count):
+    """The scrubber leads to each step of a run; a part that was saved is kept, and put there again."""
+    open_anew(page)
+    page.ask("(localStorage.removeItem('hithwelor groups'), document.querySelector('[data-begin=column]').click(), 0)")
+    given = text(page)
+    click(page, "#g-far")
+    comes(page, "!document.getElementById('g-text').value.includes('steps 0')", 20)
+    most = page.ask("Number(document.getElementById('g-scrub').max)")
+    last = program.text(["step", "1000"], given)
+    count.hold(f"steps {most}\n" in last, f"the scrubber goes to step {most}")
+    for step in (most // 2, 1, most, 0):
+        page.ask(
+            f"(it => {{ it.value = '{step}'; it.dispatchEvent(new Event('input')); return 0; }})(document.getElementById('g-scrub'))"
+        )
+        right = program.text(["step", str(step)], given)
+        count.hold(
+            comes(page, f"document.getElementById('g-text').value === {json.dumps(right)}", 20),
+            f"scrubbed to step {step}: {text(page)!r}",
+        )
+    page.ask("(document.getElementById('g-canvas').focus(), 0)")
+    strike(page, "a", control=True)
+    page.ask("(document.getElementById('g-keepgroup').click(), document.getElementById('g-clear').click(), 0)")
+    page.ask("(document.querySelector('[data-group]').focus(), 0)")
+    strike(page, "Enter")
+    bars = page.ask("document.querySelectorAll('#g-canvas [data-element]').length")
+    count.hold(bars == 3, f"a part that was saved has {bars} elements")
+    page.ask("(localStorage.removeItem('hithwelor groups'), 0)")
+
+
 def check_texts(page, program, count):
     """What is typed becomes the drawing; a fault stands at its line; a link has all of it."""
     open_anew(page)
@@ -205,7 +234,7 @@ def check_texts(page, program, count):
     count.hold(comes(page, "document.querySelector('#g-lines .fault') !== null", 20), "a fault stands at no line")
     line = page.ask("document.querySelector('#g-lines .fault').textContent")
     count.hold(
-        said(page, "g-textfault") == f"Line {line} isn't the next element.",
+        said(page, "g-textfault") == f"Line {line} is not the next element.",
         f"a fault at line {line}: {said(page, 'g-textfault')!r}",
     )
 
@@ -284,7 +313,11 @@ def check_machine(page, program, count):
     type_text(page, "g-wanted", "1,1,1,1\n2,1,1,1\n")
     click(page, "#g-compare")
     count.hold(
-        comes(page, "document.getElementById('g-compared').textContent.startsWith('Moves 1 and 2 end alike')", 30),
+        comes(
+            page,
+            "document.getElementById('g-compared').textContent.startsWith('Entries 1 and 2 have the same next state')",
+            30,
+        ),
         f"a table that isn't reversible: {said(page, 'g-compared')}",
     )
     check_puzzle(page, count)
@@ -307,8 +340,24 @@ def check_puzzle(page, count):
             page, f"document.getElementById('g-puzzlesaid').className === '{'right' if right else 'fault'}'", 30
         )
         count.hold(judged, f"a puzzle with {len(wires)} wires more: {said(page, 'g-puzzlesaid')}")
+    count.hold(
+        "★★★" in said(page, "g-puzzlesaid"), f"a puzzle with the least number of elements: {said(page, 'g-puzzlesaid')}"
+    )
     kept = page.ask("localStorage.getItem('hithwelor puzzles')")
     count.hold(kept == '{"counter":2}', f"of a puzzle that is solved is kept {kept}")
+    click(page, "#g-tab-puzzles")
+    click(page, "[data-puzzle=third]")
+    click(page, "#g-search")
+    count.hold(
+        comes(page, "document.getElementById('g-puzzlesaid').textContent.startsWith('Found by search')", 60),
+        f"the search says {said(page, 'g-puzzlesaid')}",
+    )
+    click(page, "#g-check")
+    comes(page, "document.getElementById('g-puzzlesaid').className === 'right'", 30)
+    count.hold("solution that was shown" in said(page, "g-puzzlesaid"), f"what was found: {said(page, 'g-puzzlesaid')}")
+    count.hold(
+        page.ask("localStorage.getItem('hithwelor puzzles')") == kept, "what was found by search counts as solved"
+    )
 
 
 def check_many(page, program, count, seed):
@@ -345,7 +394,7 @@ def check_many(page, program, count, seed):
 
 
 def check_design(page, program, seed, count):
-    for check in (check_mouse, check_keyboard, check_texts, check_machine):
+    for check in (check_mouse, check_keyboard, check_scrubbed, check_texts, check_machine):
         check(page, program, count)
         count.hold(not page.faults(), f"{check.__name__}: {page.faults()}")
     check_many(page, program, count, seed)

@@ -104,7 +104,7 @@ class Told:
             near = all(any(cell == head for cell, _ in seen) for seen, head in tapes)
             if not (len(tapes) == 3 and drawn and near and [it[1] for it in tapes] == [it[1] for it in right]):
                 wrong.append(f"the tapes of moment {q} are {json.dumps(tapes)[:300]}")
-            if row != number or said != f"{stage}, row step {q} of {self.end}":
+            if row != number or said != f"{stage}, quadruple step {q} of {self.end}":
                 wrong.append(f"moment {q} has row {row}, and is told as {said!r}, and it is {stage} with row {number}")
         count.hold(not wrong, f"{where}: {len(wrong)} wrong: {'; '.join(wrong[:2])}")
         page.ask("document.querySelector('[data-middle=moves]').click(); 0")
@@ -118,7 +118,7 @@ def check_own(page, program, count):
         page.ask(f"bench.goTo({k}); 0")
         said, cells = page.ask(OWN)
         count.hold(
-            said == f"By itself, step {k}: in {name}" and cells == tape,
+            said == f"Alone, step {k}: state {name}" and cells == tape,
             f"before the circuit, step {k}: {said!r} with {cells!r}, and not {name} with {tape!r}",
         )
     end = page.ask("bench.current.run.end")
@@ -200,7 +200,7 @@ def check_learn_early(page, count):
         )
     page.ask("document.querySelector('#learntrail [data-level=row]').click(); 0")
     count.hold(
-        "looked for" in page.ask("document.getElementById('learnpicture').innerText"),
+        "Building the circuit" in page.ask("document.getElementById('learnpicture').innerText"),
         "before the circuit Learn doesn't say what a row waits for",
     )
     page.ask("letGo('run'); 0")
@@ -251,7 +251,7 @@ def check_too_large(page, program, count):
     page.visit(f"file://{PAGE}{link(m='palindrome', w='a' * TOO_MANY)}", EARLY)
     table = page.ask("bench.current.run.table")
     steps = program.text(["machine", "=" + "a" * TOO_MANY, "100000"], table).split()[1]
-    told = hold_too_large(page, program, ["1", str(TOO_MANY + 3), steps, "2"], count)
+    told = hold_too_large(page, program, ["0", str(TOO_MANY + 1), steps, "2"], count)
     told.hold(page, count, f"{TOO_MANY} letters", [*range(0, told.end, 199), told.end])
     page.ask("bench.state.layer = 'quadruple'; bench.goTo(bench.current.run.end); bench.state.playing = 0; 0")
     page.ask("document.getElementById('playback').click(); 0")

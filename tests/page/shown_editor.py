@@ -102,7 +102,7 @@ def check_verdicts(page, program, draw, count):
             status, said = program.answer(["machine", "=" + it, MOST_OWN_STEPS], table)
             rest, steps, output = rest_of(program, table, final, names, it)
             if status == 5:
-                right = [it, f"letter {said.split()[1]} isn't in the table", "", "", ""]
+                right = [it, f"letter {said.split()[1]} is not in the table", "", "", ""]
             elif status == 12:
                 right = [it, "no answer: it runs on", "more than 100,000", "", ""]
             else:
@@ -403,9 +403,9 @@ def check_changed(page, program, draw, count):
         count.hold(text_shown(page) == texts[1], f"{name}: what was taken back isn't made again")
     refused = [
         ("d-rename", "d-name", "Odd", "There is a state Odd already."),
-        ("d-rename", "d-name", "", "A name is wanted"),
+        ("d-rename", "d-name", "", "Enter a name"),
         ("d-change", "d-other", "1", "a letter of the table already"),
-        ("d-change", "d-other", ",", "One character is wanted"),
+        ("d-change", "d-other", ",", "Enter one character"),
     ]
     page.visit(f"file://{PAGE}{link(t=PARITY, w='1')}")
     page.ask("document.getElementById('larger').click(); 0")

@@ -109,11 +109,11 @@ def check_lens(page, count):
     comes(page, "document.querySelector('#bank .element.now') !== null")
     number = page.ask("document.querySelector('#bank .element.now').dataset.element")
     press(page, "#bank .element.now")
-    comes(page, f"{LENS}.includes('It comes next at')")
+    comes(page, f"{LENS}.includes('Next visit: element step')")
     said = page.ask(LENS)
     count.hold(
         f"Element {int(number):,}" in said
-        and "The signal is about to come in." in said
+        and "The signal is about to enter." in said
         and "Its bar" in said
         and "row " in said,
         f"the lens says of an element {said[:200]!r}",

@@ -13,16 +13,16 @@ PANELS = {
     "Machine": [
         ("heading", "Machine"),
         ("combobox", "Examples"),
-        ("textbox", "The table: a rule a line"),
+        ("textbox", "The table: one rule per line"),
         ("textbox", "Word"),
-        ("button", "take the last change of the machine back"),
-        ("button", "what the program said of the machine"),
-        ("button", "the machine, in words"),
+        ("button", "undo the last change of the machine"),
+        ("button", "program output for the machine"),
+        ("button", "about the machine panel"),
         ("button", "Answers"),
-        ("group", "The machine by itself"),
+        ("group", "The machine alone"),
         ("img", "work tape from cell"),
         ("img", "the state diagram: "),
-        ("button", "the diagram, larger"),
+        ("button", "edit the diagram"),
     ],
     "Bennett's reversible machine": [
         ("heading", "Bennett's reversible machine"),
@@ -33,15 +33,16 @@ PANELS = {
         ("tab", "Moves of the circuit"),
         ("tab", "Bennett's table"),
         ("tabpanel", "Moves of the circuit"),
-        ("button", "what the program said of the tapes"),
-        ("button", "the tapes, in words"),
+        ("button", "program output for the tapes"),
+        ("button", "about the tapes panel"),
     ],
     "Circuit": [
         ("heading", "Circuit"),
-        ("button", "what the program said of the circuit"),
-        ("button", "the circuit, in words"),
+        ("button", "program output for the circuit"),
+        ("button", "about the circuit panel"),
+        ("group", "The modules"),
         ("img", "the modules of the circuit: the signal "),
-        ("group", "The module's elements"),
+        ("group", "The elements of the module"),
         ("img", "the bank of "),
         ("button", "larger"),
         ("button", "smaller"),
@@ -53,31 +54,31 @@ PANELS = {
         ("button", "step back"),
         ("button", "play backward"),
         ("button", "play"),
-        ("button", "step on"),
+        ("button", "step forward"),
         ("button", "to the end"),
-        ("group", "What a step is"),
+        ("group", "Unit of a step"),
         ("slider", "speed"),
-        ("button", "stop at a state, a cell or an element"),
-        ("button", "what the program said of the time line"),
-        ("button", "the time line, in words"),
+        ("button", "add a breakpoint"),
+        ("button", "program output for the time line"),
+        ("button", "about the time line"),
     ],
 }
 IN_DIAGRAM = [
     ("dialog", "State diagram"),
     ("button", "state S"),
-    ("button", "state Halt, where it halts"),
+    ("button", "state Halt, halting"),
     ("combobox", "state of the rule in line 1"),
     ("textbox", "read of the rule in line 1"),
     ("combobox", "move of the rule in line 1"),
-    ("button", "take the rule in line 1 away"),
+    ("button", "delete the rule in line 1"),
     ("combobox", "State"),
     ("button", "Take back"),
 ]
 IN_ANSWERS = [
     ("dialog", "What the machine answers"),
     ("combobox", "what Halt says"),
-    ("textbox", "Words to try"),
-    ("button", "Try them"),
+    ("textbox", "Words, one a line"),
+    ("button", "Run"),
     ("group", "what the words are answered with"),
 ]
 
@@ -132,15 +133,23 @@ def live_regions(page):
     )
 
 
-def spoken(program, table, words, e):
-    """What has to be told of a step, by `view`."""
+def spoken(program, table, words, e, start):
+    """What has to be told of a step, by `view`: on each tape what has changed since the moment before, which ends at a step."""
     view = program.text(["view", *words, str(e)], table).splitlines()
-    lines = [f"{view[6].split()[1]}, row step ", f" element step {e:,}."]
-    for number, line in enumerate(view[3:6], 1):
-        tape = read_tape(line, number, "view")
-        lines.append(
-            f"{['work', 'history', 'output'][number - 1]}: {' '.join(WORDS.get(it, it) for it in tape.symbols)}, head at {tape.head}"
-        )
+    lines = [f"{view[6].split()[1]}, quadruple step ", f" element step {e:,}."]
+    before = program.text(["view", *words, str(start - 1)], table).splitlines() if start else None
+    for number, name in enumerate(("Work", "History", "Output"), 1):
+        tape = read_tape(view[number + 2], number, "view")
+        if before:
+            was = read_tape(before[number + 2], number, "view")
+            pairs = enumerate(zip(was.symbols, tape.symbols), tape.first)
+            said = [f"cell {cell} is {WORDS.get(new, new)}" for cell, (old, new) in pairs if old != new]
+            said += [f"head at {tape.head}"] * (tape.head != was.head)
+        else:
+            written = [it for it in tape.symbols if it != "_"]
+            said = [" ".join(written), f"head at {tape.head}"] if written else []
+        if said:
+            lines.append(f"{name} tape: {', '.join(said)}.")
     return lines
 
 
@@ -166,7 +175,7 @@ def check_panels(page, count):
         "(run => [run.momentIndex(bench.state.e), run.moments.length - 1, run.moments[run.momentIndex(bench.state.e)].stage])(bench.current.run)"
     )
     count.hold(
-        told.startswith(f"{stage}, row step {q} of {count_q}") and slider["value"]["value"] == 900000,
+        told.startswith(f"{stage}, quadruple step {q} of {count_q}") and slider["value"]["value"] == 900000,
         f"the time line is heard as {told!r}, at {slider['value']}",
     )
     speed = page.ask(
@@ -178,7 +187,7 @@ def check_panels(page, count):
         for it in heard.nodes
         if it["role"]["value"] in ("button", "toggleButton") and heard.value(it, "pressed") == "true"
     ]
-    count.hold(len(pressed) == 1 and pressed[0].startswith("Row step"), f"pressed are {pressed}")
+    count.hold(len(pressed) == 1 and pressed[0].startswith("Quadruple step"), f"pressed are {pressed}")
     current = page.ask("[...document.querySelectorAll('#stages [aria-current=step]')].map(it => it.dataset.stage)")
     count.hold(current == [stage], f"the current stage is heard as {current}, and not {stage}")
     for act, wanted in (
@@ -208,15 +217,19 @@ def check_told(page, program, count):
         before = page.ask("bench.state.e")
         page.strike(key, number)
         comes(page, f"bench.state.e !== {before}")
-        e = page.ask("bench.state.e")
+        e, start = page.ask("(run => [bench.state.e, run.starts[run.momentIndex(bench.state.e)]])(bench.current.run)")
         right, told = (
-            spoken(program, table, words, e),
+            spoken(program, table, words, e, start),
             "document.getElementById('live').textContent.replace(/\\s+/g, ' ')",
         )
         count.hold(
             e != before and comes(page, f"{json.dumps(right)}.every(it => {told}.includes(it))"),
             f"from {before} to step {e} {right} isn't told: {page.ask(told)[:300]!r}",
         )
+    page.ask("document.querySelector('[data-layer=element]').click(); 0")
+    told = live_regions(page)["live"]
+    count.hold(told == "Unit of a step: element step.", f"of another unit of a step is told {told!r}")
+    page.ask("document.querySelector('[data-layer=quadruple]').click(); 0")
     set_value(page, "word", "111")
     settle(page, 400)
     steps = program.text(["machine", "=111", "100"], table).split()

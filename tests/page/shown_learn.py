@@ -9,7 +9,7 @@ from shown_layout import LAID, LAID_PATIENCE
 from shown_pasted import machines
 from shown_places import link
 
-STEPS = ["machine", "past", "history", "stages", "row", "column", "element", "out"]
+STEPS = ["machine", "past", "history", "stages", "row", "column", "ports", "element", "out"]
 # What is seen at a step's level.
 PICTURES = {
     "machine": ".l-tape svg",
@@ -18,6 +18,7 @@ PICTURES = {
     "stages": ".l-stages .now",
     "row": ".l-moves .now",
     "column": ".l-bank .element.now",
+    "ports": ".l-bank .element.now",
     "element": ".rotary .bar",
     "out": ".l-tape svg",
 }
@@ -28,6 +29,7 @@ TRIED = {
     "stages": [],
     "row": ["learnforth"],
     "column": ["learnplay", "learntake"],
+    "ports": ["learnplay", "learntake"],
     "element": ["learnforth", "learnback"],
     "out": [],
 }
@@ -110,13 +112,14 @@ def check_walk(page, name, machine, count):
                 rules[0] == list(range(1, rules[1] + 1)),
                 f"{where}: of {rules[1]} rules the numbers {rules[0]} stand there",
             )
-        if step in ("row", "column"):
+        if step in ("row", "column", "ports"):
             names = page.ask("[...document.querySelectorAll('.l-names dt')].map(it => it.textContent)")
             count.hold(
-                {"row": {"module", "control", "port", "row"}, "column": {"bank", "column", "port"}}[step] <= set(names),
+                {"row": {"module", "control", "quadruple"}, "column": {"bank", "column"}, "ports": {"port"}}[step]
+                <= set(names),
                 f"{where}: told are {names}",
             )
-        if step == "column":
+        if step == "ports":
             count.hold(
                 not page.ask(UNTOLD) and not page.ask(CUT),
                 f"{where}: {page.ask(UNTOLD)} aren't told in words, {page.ask(CUT)} are cut",
@@ -130,7 +133,7 @@ def check_walk(page, name, machine, count):
                 "[document.querySelector('.rotary .box').getBoundingClientRect().width, document.querySelector('.l-cases p').textContent]"
             )
             count.hold(
-                wide >= 150 and "the only one of eight that ends so" in words,
+                wide >= 150 and "the only one of eight with this result" in words,
                 f"{where}: the element is {wide:.0f} wide, and it says {words!r}",
             )
         settle(page)
@@ -143,7 +146,7 @@ def check_walk(page, name, machine, count):
                 pasts = page.ask("document.querySelectorAll('.l-pasts figure').length")
                 count.hold(
                     told
-                    and (pasts >= 2 or "one rule alone" in page.ask("document.querySelector('.l-pasts').innerText")),
+                    and (pasts >= 2 or "Only one rule" in page.ask("document.querySelector('.l-pasts').innerText")),
                     f"{where}: {pasts} pasts are drawn",
                 )
                 count.hold(page.ask("bench.state.playing") == 0, f"{where}: the machine alone is taken back")

@@ -72,7 +72,7 @@ def check_played(page, program, name, notation, text, words, count):
     table = page.ask("bench.current.machine.table")
     status, answer = program.answer(["machine", "=" + word, "2000"], table)
     output = answer.partition("output =")[2].strip()
-    wanted = f"→ {output or 'no letter'}" if status == 0 else "stuck in"
+    wanted = f"→ {output or 'empty output'}" if status == 0 else "stuck in"
     count.hold(
         wanted in page.ask(OUTCOME) and (words[word] is None) == (status == 10),
         f"{name}, {notation}: on {word!r} the page says {page.ask(OUTCOME)!r}, the program {answer[:60]!r}",

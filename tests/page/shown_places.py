@@ -165,7 +165,7 @@ def faults_seen(page, program, table, words, compiled, e):
         )
         if not re.match(re.escape(name) + r"(?!\d)", seen["where"]):
             faults.append(f"the module {seen['where']!r}, and not {name!r}")
-        if ("about to come in" in seen["what"]) != (module[4] != "inside"):
+        if ("signal entering" in seen["what"]) != (module[4] != "inside"):
             faults.append(f"it says {seen['what']!r} where {view[1]!r}")
         element = int(re.match(r"element at (\d+)", view[0])[1])
         if seen["now"] not in ([], [element]) or element in seen["elements"] and seen["now"] != [element]:

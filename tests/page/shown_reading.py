@@ -29,7 +29,7 @@ def check_hints(page, _, count):
     page.ask("localStorage.clear(); 0")
     page.visit(f"file://{PAGE}#m=least")
     seen, first = [hint(page)], page.ask("document.getElementById('hint').innerText")
-    count.hold("forgets" in first and "heat" in first, f"the first hint doesn't say why one would undo: {first!r}")
+    count.hold("erases" in first and "heat" in first, f"the first hint doesn't say why one would undo: {first!r}")
     for name in ("hintnext", "hintnext", "hintnext", "hintend"):
         page.ask(f"document.getElementById('{name}')?.click(); 0")
         seen.append(hint(page))
@@ -71,7 +71,7 @@ def check_words(page, program, count):
                 f"{int(ran.split()[1]):,} elements",
                 f"at element {int(re.match('element at ([0-9]+)', view[0])[1]):,}.",
             ],
-            "time": [f"{re.search('quadruple steps ([0-9]+)', ran)[1]} row steps", f"element step {e:,}."],
+            "time": [f"{re.search('quadruple steps ([0-9]+)', ran)[1]} quadruple steps", f"element step {e:,}."],
         }
         for panel, lines in told.items():
             said = page.ask(WORDS % panel)

@@ -140,7 +140,7 @@ def check_erase(page, program, count):
             told = [
                 right[2].partition("=")[2] if len(right) > 2 else "",
                 right[-1].partition("=")[2],
-                f"{int(right[1]):,} row steps",
+                f"{int(right[1]):,} quadruple steps",
             ]
             count.hold(cells == told, f"erase, {name}, {word!r}: {cells}, and not {told}")
         else:
@@ -172,7 +172,7 @@ def check_side(page, name, lines, count, what):
     """Each moment of a run, as it is stepped to."""
     for k, line in enumerate(lines):
         words, place = line.split(), said(page, f"r-{name}-place")
-        row = f" · row {words[-1]} is next" if words[-2] == "rule" else ""
+        row = f" · quadruple {words[-1]} is next" if words[-2] == "rule" else ""
         count.hold(
             place == f"moment {k} of {len(lines) - 1} · state {words[1]}{row}"
             and page.ask(TAPES % json.dumps(f"r-{name}")) == told_tapes(line),
@@ -209,7 +209,7 @@ def check_reversible(page, program, count):
         ).splitlines()
         check_side(page, "on", run[:-1], count, name)
         check_side(page, "back", inverse[:-1], count, f"the inverse of {name}")
-        count.hold("comes back to the start" in said(page, "r-said"), f"{name}: {said(page, 'r-said')}")
+        count.hold("returns to the start" in said(page, "r-said"), f"{name}: {said(page, 'r-said')}")
         driven = program.text(["drive", *tapes, *window, "1000000000"], table).splitlines()
         given = said(page, "r-circuit")
         numbers = [f"{int(driven[at].split()[-1]):,}" for at in (0, 2, 3)]
@@ -223,7 +223,7 @@ def check_reversible(page, program, count):
             f" it.value = '{at}'; await it.onchange(); }})()"
         )
         count.hold(
-            not said(page, "r-fault") and "comes back to the start" in said(page, "r-said"),
+            not said(page, "r-fault") and "returns to the start" in said(page, "r-said"),
             f"the machine {at} to begin with: {said(page, 'r-fault')} {said(page, 'r-said')}",
         )
     fill(page, "reversible", r_table=text_of("examples", "irreversible.csv"), r_word1="")

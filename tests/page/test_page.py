@@ -263,9 +263,9 @@ def check_shipped(page, program, count):
     count.hold(said == wanted, f"the shipped page says {said!r}, and not {wanted!r}")
     page.strike("ArrowRight", 39)
     at = "document.getElementById('film').getAttribute('aria-valuetext')"
-    comes(page, f"{at}.startsWith('compute, row step 1 of ')")
+    comes(page, f"{at}.startsWith('compute, quadruple step 1 of ')")
     said = page.ask(at)
-    count.hold(said == "compute, row step 1 of 65", f"a step of the shipped page comes to {said!r}")
+    count.hold(said == "compute, quadruple step 1 of 65", f"a step of the shipped page comes to {said!r}")
     count.hold(
         page.ask("typeof bench") == "undefined" and not page.faults(),
         f"the shipped page has a hook, or faults: {page.faults()}",

@@ -18,7 +18,7 @@ import {forgetMachine, makeMachinePanel} from "./machine_panel.js";
 import {makeParts, PARTS} from "./parts.js";
 import {beginPuzzle, makePuzzles, puzzleAtHand} from "./puzzle_panel.js";
 import {drawingOf} from "./reading_text.js";
-import {goFar, pause, placeWords, play, running, stepOnce, stopFar} from "./running.js";
+import {goFar, pause, placeWords, play, running, scrubTo, stepOnce, stopFar} from "./running.js";
 import {fileOf, keepDrawing, keptDrawing, readFile, readWord, wordOf} from "./saved.js";
 import {makeTextPanel, markLines, placed, showText} from "./text_panel.js";
 
@@ -40,6 +40,7 @@ const FOOT = `<div class="g-foot"><div class="group" role="group" aria-label="Ru
     ${iconButton("g-first", "M3 3v10M13 3 6 8l7 5z", "to the start", "to the start (Home)")}${iconButton("g-stepback", "M4 3v10M12.500 3.500 6.500 8l6 4.500z", "step back", "step back (,)")}${iconButton("g-playback", "M12 2.500 3.500 8l8.500 5.500z", "play backward", "play backward (shift P)")}${iconButton("g-play", "M4 2.500 12.500 8 4 13.500z", "play", "play or pause (P)")}${iconButton("g-step", "M12 3v10M3.500 3.500 9.500 8l-6 4.500z", "step forward", "step forward (.)")}${iconButton("g-far", "M13 3v10M3 3l7 5-7 5z", "run to the exit", "run to the exit (End)")}</div>
     <button id="g-stop" hidden>Stop</button>
     <label class="g-in">Enter at <select id="g-in" title="the free input port where the signal enters: the start"></select></label>
+    <label class="g-scrub"><span>Step</span><input id="g-scrub" type="range" min="0" max="0" value="0" aria-label="step of this run" title="go to a step of this run"></label>
     <label class="g-speed"><span>Speed</span><input id="g-speed" type="range" min="0" max="${PACES.length - 1}" value="3" aria-label="speed"></label>
     <span id="g-steps"></span><span id="g-place" role="status"></span><span id="g-bars"></span></div>`;
 const SIDES_TABS = [["element", "Element"], ["text", "Text"], ["machine", "Machine"], ["list", "List"]];
@@ -110,6 +111,7 @@ function takeButtons() {
   };
   part("g-in").onchange = () => enter(Number(part("g-in").value));
   part("g-speed").oninput = () => { running.pace = PACES[Number(part("g-speed").value)]; };
+  part("g-scrub").oninput = () => scrubTo(Number(part("g-scrub").value));
   part("g-file").onchange = async () => {
     const file = part("g-file").files[0];
     if (file) await openText(readFile(await file.text()), file.name);
@@ -148,6 +150,8 @@ function show(what) {
     showFocus();
   } else if (what === "run") showRun();
   else {
+    // What was changed begins a run of its own.
+    running.most = Number(desk.drawing.steps);
     endGlide();
     draw();
     showPanel();
@@ -194,7 +198,9 @@ function showInputs() {
   part("g-in").disabled = !drawing.bars.length;
 }
 function showFoot() {
-  const {drawing, began} = desk, none = !drawing.bars.length;
+  const {drawing, began} = desk, none = !drawing.bars.length, steps = Number(drawing.steps);
+  running.most = steps ? Math.max(running.most, steps) : running.most;
+  Object.assign(part("g-scrub"), {max: String(running.most), value: String(steps), disabled: none || !running.most});
   part("g-empty").hidden = !none || Boolean(puzzleAtHand());
   const other = drawing.bars.flatMap((bar, k) => began[k] !== undefined && began[k] !== bar ? [k] : []);
   part("g-undo").disabled = !desk.past.behind.length;

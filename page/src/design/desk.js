@@ -26,8 +26,6 @@ export const desk = {
   /** @type {Bar[]} */ began: [],
   /** @type {{behind: Drawing[], ahead: Drawing[]}} */ past: {behind: [], ahead: []},
   /** @type {{key: string, at: number}} */ last: {key: "", at: 0},
-  // The puzzle whose solution was shown, while it is at hand.
-  shown: "",
   words: "", isFault: false,
 };
 /** @typedef {"drawing" | "run" | "chosen" | "view" | "hand" | "words"} What */

@@ -1,16 +1,18 @@
 // The palette: one element, and groups to begin with, dragged onto the drawing, or clicked and put there with a second click;
 // and texts that are pasted, of configurations, or tables of which the program makes a bank.
 import {circuitFault, circuitText} from "../circuits.js";
+import {escaped} from "../state.js";
 import {LANES, STATUS} from "../answer.js";
 import {counted, letGo, putGroup} from "./acts.js";
 import {gridAt} from "./canvas.js";
 import {commit, desk, deskChanged, tellDesk} from "./desk.js";
-import {BOX, oneElement} from "./drawing.js";
+import {BOX, groupOf as chosenGroup, oneElement} from "./drawing.js";
 import {laidOut} from "./lay.js";
 import {drawingOf} from "./reading_text.js";
 import {pathOf, waysOf} from "./route.js";
+import {keepGroups, savedGroups} from "./saved.js";
 
-const PITCH = 7, MOST_ROWS = 30;
+const PITCH = 7, MOST_ROWS = 30, MOST_GROUPS = 40;
 // A group of elements by their bars, wires as E.L E.L, and places.
 /** @type {(bars: string, wires: string, at: number[][], ends?: string) => Group} */
 export function groupOf(bars, wires, at, ends = "0.w 0.e") {
@@ -57,6 +59,7 @@ function small(group) {
 // At a puzzle a group can't be used that solves it, or whose own puzzle isn't solved yet.
 /** @type {(box: HTMLElement, puzzle: string | null, solved: Record<string, number>) => void} */
 export function lockParts(box, puzzle, solved) {
+  for (const tile of /** @type {NodeListOf<HTMLButtonElement>} */ (box.querySelectorAll("[data-group]"))) tile.disabled = puzzle !== null;
   for (const it of PARTS) {
     const tile = box.querySelector(`[data-part=${it.key}]`), isLocked = puzzle !== null && it.puzzle !== undefined && (it.puzzle === puzzle || !solved[it.puzzle]);
     if (!tile) continue;
@@ -69,20 +72,44 @@ export function makeParts(box) {
   const tiles = PARTS.map(it => `<button class="g-tile" data-part="${it.key}">${small(it.make(2))}<span>${it.title}</span></button>`);
   box.innerHTML = `<div class="g-tiles">${tiles.join("")}</div>
     <label class="g-rows">Rows of the column <input id="g-rows" type="number" min="1" max="${MOST_ROWS}" value="2"></label>
+    <div id="g-groups" class="g-tiles"></div><p class="row"><button id="g-keepgroup" title="save the selected elements as a part of your own">Save the selection as a part</button></p>
     <details id="g-paste" aria-label="Paste a text"><summary>Paste a text</summary><p class="quiet">A configuration text, or a table with lines of state, port in, next state, port out. The program builds a bank from a table.</p>
       <textarea id="g-pasted" rows="7" spellcheck="false" aria-label="the pasted text"></textarea>
       <p class="e-fault" id="g-pastefault" role="status"></p>
       <div class="row"><button id="g-pasteto" title="add it beside the drawing">Add</button><button id="g-pasteas" title="replace the drawing; undo restores it">Replace</button></div></details>`;
-  for (const tile of /** @type {NodeListOf<HTMLElement>} */ (box.querySelectorAll(".g-tile"))) takeTile(box, tile);
+  for (const tile of /** @type {NodeListOf<HTMLElement>} */ (box.querySelectorAll("[data-part]"))) takeTile(box, tile, undefined);
   lockParts(box, null, {});
+  showGroups(box);
+  const keepGroup = /** @type {HTMLElement} */ (box.querySelector("#g-keepgroup"));
+  keepGroup.onclick = () => {
+    if (!desk.chosen.size) {
+      tellDesk("Select the elements of the part first.", true);
+      return;
+    }
+    const groups = savedGroups();
+    keepGroups([...groups, {title: `Part ${groups.length + 1}`, group: chosenGroup(desk.drawing, desk.chosen)}].slice(-MOST_GROUPS));
+    showGroups(box);
+    tellDesk(`Saved ${counted(desk.chosen.size, "element")} as a part.`);
+  };
   /** @type {(id: string) => any} */
   const part = id => box.querySelector(`#${id}`);
   part("g-pasteto").onclick = () => paste(box, false);
   part("g-pasteas").onclick = () => paste(box, true);
 }
-/** @type {(box: HTMLElement, tile: HTMLElement) => void} */
-function takeTile(box, tile) {
-  const it = PARTS.find(one => one.key === tile.dataset.part) ?? PARTS[0];
+// The parts that were saved, each to be added by a click, and deleted.
+/** @type {(box: HTMLElement) => void} */
+function showGroups(box) {
+  const room = /** @type {HTMLElement} */ (box.querySelector("#g-groups")), groups = savedGroups();
+  room.innerHTML = groups.map(({title, group}, k) => `<div class="g-own"><button class="g-tile" data-group="${k}">${small(group)}<span>${escaped(title)}</span></button><button class="plain" data-forget="${k}" aria-label="delete ${escaped(title)}">×</button></div>`).join("");
+  for (const tile of /** @type {NodeListOf<HTMLElement>} */ (room.querySelectorAll(".g-tile"))) takeTile(box, tile, groups[Number(tile.dataset.group)]);
+  for (const it of /** @type {NodeListOf<HTMLElement>} */ (room.querySelectorAll("[data-forget]"))) it.onclick = () => {
+    keepGroups(savedGroups().filter((_, k) => k !== Number(it.dataset.forget)));
+    showGroups(box);
+  };
+}
+/** @type {(box: HTMLElement, tile: HTMLElement, own: {title: string, group: Group} | undefined) => void} */
+function takeTile(box, tile, own) {
+  const it = own ? {title: own.title, make: (/** @type {number} */ _) => own.group} : PARTS.find(one => one.key === tile.dataset.part) ?? PARTS[0];
   const group = () => it.make(Math.min(MOST_ROWS, Math.max(1, Number(/** @type {any} */ (box.querySelector("#g-rows")).value) || 1)));
   /** @type {{x: number, y: number, isMoved: boolean} | null} */
   let held = null;

@@ -9,8 +9,9 @@ import {entered, sourcesOf, textOf} from "./drawing.js";
 import {stepped} from "./reading_text.js";
 
 const MOST_TRAIL = 400, MOST_OUT = 1000000, MOST_SINGLE = 400;
-/** @type {{playing: number, pace: number, isFar: boolean, later: ReturnType<typeof setTimeout> | undefined}} */
-export const running = {playing: 0, pace: 420, isFar: false, later: undefined};
+// `most` is the last step that this run has come to.
+/** @type {{playing: number, pace: number, isFar: boolean, most: number, later: ReturnType<typeof setTimeout> | undefined}} */
+export const running = {playing: 0, pace: 420, isFar: false, most: 0, later: undefined};
 
 // What the program was asked, and how it answers what is drawn; a change meanwhile makes an answer one of the past.
 /** @type {(words: any[]) => Promise<Drawing | null>} */
@@ -123,6 +124,18 @@ export function stepOnce(direction) {
 }
 /** @type {(direction: number) => Promise<any>} */
 export const goFar = direction => inTurn(() => far(direction));
+
+// To a step of the run so far.
+/** @type {(step: number) => Promise<any>} */
+export function scrubTo(step) {
+  pause();
+  return inTurn(async () => {
+    const by = step - Number(desk.drawing.steps), after = by ? await asked([by > 0 ? "step" : "back", Math.abs(by)]) : null;
+    if (!after) return;
+    Object.assign(desk, {trail: [], turned: -1});
+    showRun(after);
+  });
+}
 
 // Where the signal is, in words.
 /** @type {(it: Drawing) => string} */

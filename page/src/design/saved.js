@@ -2,7 +2,7 @@
 // As a file it is JSON that can be read, in a link it is deflated, and the browser keeps the last one where it keeps anything.
 import {textOf} from "./drawing.js";
 
-const FORM = "hithwelor design 1", KEPT_AS = "hithwelor design", SOLVED_AS = "hithwelor puzzles";
+const FORM = "hithwelor design 1", KEPT_AS = "hithwelor design", SOLVED_AS = "hithwelor puzzles", GROUPS_AS = "hithwelor groups";
 const MOST_LINK = 400000;
 
 /** @type {(it: Drawing) => string} */
@@ -68,6 +68,18 @@ export function keptDrawing() {
   const given = keptAs(KEPT_AS);
   return given ? readFile(given) : null;
 }
+// Groups of elements that were saved as parts.
+/** @type {() => {title: string, group: Group}[]} */
+export function savedGroups() {
+  try {
+    const found = JSON.parse(keptAs(GROUPS_AS) ?? "[]");
+    return Array.isArray(found) ? found.filter(it => it?.group?.bars?.length && placesIn(it.group.at).length === it.group.bars.length) : [];
+  } catch {
+    return [];
+  }
+}
+/** @type {(groups: {title: string, group: Group}[]) => void} */
+export const keepGroups = groups => keep(GROUPS_AS, JSON.stringify(groups));
 // How many elements each puzzle was solved with.
 /** @type {() => Record<string, number>} */
 export function solved() {

@@ -47,5 +47,5 @@ export function casesTable({bar, side}) {
   });
   const {out, after} = caseOf(bar, side), ends = CASES.filter(it => it.out === out && it.after === after).length;
   return `<table><thead><tr><th scope="col">bar</th><th scope="col">in from</th><th scope="col">out to</th><th scope="col">bar after</th></tr></thead><tbody>${rows.join("")}</tbody></table>
-    <p class="quiet">The marked row is ${ends === 1 ? "the only one of eight that ends so" : "not alone"}.</p>`;
+    <p class="quiet">The marked case is ${ends === 1 ? "the only one of eight with this result" : "not the only one with this result"}.</p>`;
 }

@@ -143,9 +143,9 @@ export function renderLearn(isLive = !state.playing) {
   byId("learnprev").disabled = at === 0;
   byId("learnnext").textContent = at === STEPS.length - 1 ? "Workbench" : "Next ▸";
   byId("learnplay").textContent = state.playing > 0 ? "Pause" : "Play ▸";
-  byId("learntake").textContent = state.playing < 0 ? "Pause" : "◂ Take it back";
+  byId("learntake").textContent = state.playing < 0 ? "Pause" : "◂ Undo";
   if (!isShown) {
-    if (!run) put("learnpicture", '<p class="quiet">the program makes the run …</p>');
+    if (!run) put("learnpicture", '<p class="quiet">Starting the run …</p>');
     return;
   }
   if (lesson.begins && run.circuit.count) {
@@ -179,7 +179,7 @@ function namesList(it) {
 function trailOf(f) {
   const {run} = current, rule = ruleAt(run, f.q, nameOf).rule, row = quadrupleAt(run, f.q), line = entryLine(run, f), isOut = Boolean(f.at?.hasLeft);
   const parts = [["machine", "machine"], ["history", rule ? `rule ${rule}` : f.moment.stage === "copy" ? "copying" : "tapes"], ["stages", f.moment.stage],
-    ["row", row < 0 ? "circuit" : `row ${row + 1}`], ["column", f.bank && !isOut ? `${shortBank(f.bank)}${line ? `, ${line.words}` : ""}` : "module"],
+    ["row", row < 0 ? "circuit" : `quadruple ${row + 1}`], ["column", f.bank && !isOut ? `${shortBank(f.bank)}${line ? `, ${line.words}` : ""}` : "module"],
     ["element", f.at && !isOut ? `element ${number(f.at.place >> 2)}` : "element"]];
   return parts.map(([level, words]) => `<li><button class="link" data-level="${level}"${level === lesson.level ? ' aria-current="page"' : ""}>${escaped(words)}</button></li>`).join("");
 }

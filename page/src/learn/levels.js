@@ -16,7 +16,7 @@ import {pastsOf} from "./pasts.js";
 const NAMES_WIDTH = 58, MOST_TRAIL = 600, MOST_MOVES = 60, MOST_PASTS = 3, LEAST_BETWEEN = 34;
 // From which width on the eight cases stand beside the element, how much room they take, and its size where they stand below.
 const LEAST_BESIDE = 560, CASES_WIDTH = 345, LITTLE_ELEMENT = .62;
-const TAPE_NOTES = ["the machine's own", "the rules that were followed", "the copy"];
+const TAPE_NOTES = ["the machine's", "rule numbers", "the copy"];
 
 const sizeFor = (width, longest, most) => Math.max(24, Math.min(most, Math.floor((width - 40) / longest)));
 const ruleHead = f => {
@@ -33,8 +33,8 @@ function rulesList(run, now) {
 }
 // Where the run is over no rule is at work: then a way leads into one.
 function overWords(run) {
-  return `<p class="l-rule">The run is over, and no rule is at work.</p>
-    <p><button class="link" data-go="${insideRule(run)}">Go into a rule</button></p>`;
+  return `<p class="l-rule">The run is complete; no rule is being applied.</p>
+    <p><button class="link" data-go="${insideRule(run)}">Go to a rule</button></p>`;
 }
 // The moment in the middle of the machine's own steps: there a rule is at work, wherever the run is.
 export const insideRule = run => run.starts[run.moments.findLastIndex(it => it.stage === "compute") >> 1];
@@ -54,12 +54,12 @@ export function ownMoment(run, q) {
 }
 export function machineLevel(f, {width, height, isRefused, from = null}) {
   const {run} = current, at = ownMoment(run, f.q), moment = run.moments[at], [work, history] = moment.tapes ?? [];
-  if (!work) return '<p class="quiet">asking what stands on the tape …</p>';
+  if (!work) return '<p class="quiet">Loading the tape …</p>';
   const tape = {...work, tape: 1}, size = sizeFor(width, tape.symbols.length, Math.min(76, height / 6)), before = run.moments[at - 1]?.tapes?.[0];
   const name = moment.state, hasHalted = name === run.rules[run.rules.length - 1].next;
   // The history, which isn't shown here, has the number of the rule that was followed.
   const last = history ? Number(history.symbols[(history.head ?? 0) - history.first]) || null : run.told.rules[at - 1] ?? null;
-  const words = `<p class="l-rule">${hasHalted ? "It has halted," : `Step ${moment.step}:`} in <b>${escaped(nameOf(name ?? ""))}</b>.</p>`;
+  const words = `<p class="l-rule">${hasHalted ? "Halted" : `Step ${moment.step}`}, state <b>${escaped(nameOf(name ?? ""))}</b>.</p>`;
   const picture = `<div class="l-tape">${tapePicture(tape, {width, size, before: before ?? null})}</div>`;
   // Which rule was its own the machine doesn't know, so none is marked there.
   const list = rulesList(run, isRefused ? null : last);
@@ -76,13 +76,13 @@ function pastsPicture(run, at, {width, size, from}) {
     ${tapePicture(it.tape, {width: Math.max(160, Math.floor(width / Math.min(pasts.length, innerWidth <= 760 ? 1 : MOST_PASTS)) - 24), size: innerWidth <= 760 ? 24 : size, isNumbered: false})}</figure>`);
   const many = {2: "Two", 3: "Three"}[pasts.length] ?? pasts.length;
   // Where one rule alone fits, the nearest step is shown at which several do.
-  const why = from ? `At step ${from} one rule alone fits` : "Step 0 is where it began";
-  const went = from === null ? "" : `${why}, so here is the nearest step at which several fit. `;
-  const here = `${many} rules lead to what stands here, at step ${moment.step}, so it has ${String(many).toLowerCase()} pasts, and nothing here says which was its own:`;
-  const said = pasts.length > 1 ? `${went}It can't be taken back. ${here}`
-    : pasts.length ? "Here one rule alone fits, and so it is at every step on this word. But the machine keeps nothing that would say so."
-      : "This is where it began, so there is no past.";
-  return `<div class="l-pasts" role="group" aria-label="what may have been before"><p class="fault">${said}</p><div class="l-row">${shown.join("")}</div></div>`;
+  const why = from ? `At step ${from} only one rule fits` : "Step 0 is the start";
+  const went = from === null ? "" : `${why}, so here is the nearest step at which several fit: step ${moment.step}. `;
+  const here = `${many} rules lead to this configuration, so it has ${String(many).toLowerCase()} possible pasts. The machine can't tell which came before:`;
+  const said = pasts.length > 1 ? `${went}This step can't be undone. ${here}`
+    : pasts.length ? "Only one rule fits here, and at every step on this word. But the machine keeps nothing that would show it."
+      : "This is the start, so there is no past.";
+  return `<div class="l-pasts" role="group" aria-label="possible pasts"><p class="fault">${said}</p><div class="l-row">${shown.join("")}</div></div>`;
 }
 
 // ---- Bennett's three tapes
@@ -99,7 +99,7 @@ export function tapesLevel(f, {width, height}, many = 3) {
   return `${ruleHead(f)}<div class="l-tapes">${tapes.join("")}</div>${rulesList(run, ruleAt(run, f.q, nameOf).rule)}`;
 }
 export function stagesLevel(f, room) {
-  const said = {compute: ["Compute", "keep a history"], copy: ["Copy", "the output"], retrace: ["Retrace", "take the history back"]};
+  const said = {compute: ["Compute", "keep a history"], copy: ["Copy", "the output"], retrace: ["Retrace", "clear the history"]};
   const chips = Object.entries(said).map(([key, [title, words]]) =>
     `<li data-stage="${key}" class="${f.moment.stage === key ? "now" : ""}"><b>${title}</b><span>${words}</span></li>`);
   return `<ol class="l-stages">${chips.join("")}</ol>${tapesLevel(f, {...room, height: room.height - 70})}`;
@@ -112,15 +112,15 @@ export function rowLevel(f, {width, height}) {
   if (isOver(run, f.e)) return overWords(run);
   const from = run.starts[f.q], to = run.starts[f.q + 1] ?? run.end;
   const list = run.movesBetween(from, Math.max(to, from + 1));
-  const row = quadrupleAt(run, f.q), told = row < 0 ? "" : `row ${row + 1} of Bennett's table: ${rowWords(run.quadruples[row])}`;
+  const row = quadrupleAt(run, f.q), told = row < 0 ? "" : `quadruple ${row + 1} of Bennett's table: ${rowWords(run.quadruples[row])}`;
   const map = mapPicture(run, {bank: f.bank, row: f.row, moment: f.moment, hasLeft: Boolean(f.at?.hasLeft), width, height: Math.min(200, Math.max(118, height * .34))});
   const at = list.findLastIndex(it => it.step <= f.e), first = Math.max(0, Math.min(list.length - MOST_MOVES, at - MOST_MOVES / 2));
   const rows = list.slice(first, first + MOST_MOVES).map((it, k) => {
     const bank = moduleWith(run.layout, it.place >> 2), line = lineSaid(run.layout, bank, lineInto(run.layout, it.place)), isNow = first + k === at;
     return `<li class="${isNow ? "now" : ""}"${isNow ? ' aria-current="step"' : ""}><button class="link" data-go="${it.step}"><i class="m${bank.tape ?? 0}"></i>${escaped(shortBank(bank))}</button>: ${escaped(line.words)}</li>`;
   });
-  const open = list.isPart && !list.length ? '<p class="quiet">The program lists them …</p>' : "";
-  return `${ruleHead(f)}<p class="quiet">${escaped(told)}</p><div class="l-map">${map}</div>${open}<ol class="l-moves" tabindex="0" aria-label="the moves of this row">${rows.join("")}</ol>`;
+  const open = list.isPart && !list.length ? '<p class="quiet">Listing the moves …</p>' : "";
+  return `${ruleHead(f)}<p class="quiet">${escaped(told)}</p><div class="l-map">${map}</div>${open}<ol class="l-moves" tabindex="0" aria-label="the moves of this quadruple">${rows.join("")}</ol>`;
 }
 
 // ---- a column of a module
@@ -128,7 +128,7 @@ export function rowLevel(f, {width, height}) {
 export function columnLevel(f, {width, height}) {
   const {run} = current, {bank} = f;
   if (isOver(run, f.e)) return overWords(run);
-  if (!bank || !f.at) return '<p class="quiet">fetching the way of the signal …</p>';
+  if (!bank || !f.at) return '<p class="quiet">Loading the path of the signal …</p>';
   const bars = run.bankBars(bank, f.e), place = f.at.place, free = Math.max(160, height - 74);
   const {column, row} = placeIn(bank, place >> 2), fit = (free - 34) / (bank.rows + 1);
   const pitch = Math.max(20, Math.min(44, fit)), wide = 1.7, columns = (width - NAMES_WIDTH) / (pitch * wide), rows = (free - 33) / pitch;
@@ -140,7 +140,7 @@ export function columnLevel(f, {width, height}) {
   return `<p class="l-rule">${escaped(bankName(bank)[0].toUpperCase() + bankName(bank).slice(1))}${line ? `: ${escaped(line.words)}` : ""}</p>
     <p class="quiet">${moveWords(f)}</p><div class="l-bank">${bankPicture(run, how)}</div>`;
 }
-const moveWords = f => f.move.from !== null && f.move.to !== null ? `step ${number(f.e - f.move.from)} of ${number(f.move.to - f.move.from)} of this move` : "on its way";
+const moveWords = f => f.move.from !== null && f.move.to !== null ? `step ${number(f.e - f.move.from)} of ${number(f.move.to - f.move.from)} of this move` : "passing through";
 // The line by which the signal came into its module.
 export function entryLine(run, f) {
   if (!f.bank) return null;
@@ -154,9 +154,9 @@ export function entryLine(run, f) {
 export function elementLevel(f, {width, height}) {
   const {run} = current, {at} = f;
   if (isOver(run, f.e)) return overWords(run);
-  if (!at) return '<p class="quiet">fetching the way of the signal …</p>';
+  if (!at) return '<p class="quiet">Loading the path of the signal …</p>';
   const element = at.place >> 2, bank = moduleWith(run.layout, element), bars = run.bankBars(bank, f.e), side = "nesw"[at.place & 3];
-  if (!bars) return '<p class="quiet">asking how its bar lies …</p>';
+  if (!bars) return '<p class="quiet">Loading the bar …</p>';
   const bar = bars[element - bank.base] ? "H" : "V", isBeside = width >= LEAST_BESIDE;
   const size = isBeside ? Math.max(.6, Math.min(1.5, (width - CASES_WIDTH) / 335, (height - 50) / 295)) : LITTLE_ELEMENT;
   return `<p class="l-rule">Element ${number(element)}, in ${escaped(bankName(bank))}</p><div class="l-row l-one">${elementPicture({bar, side, size})}<div class="l-cases">${casesTable({bar, side})}</div></div>`;
