@@ -1,36 +1,27 @@
-// From what is typed to a run: the program judges the table, it is brought into standard form where that is asked for, a
-// window is found, and the run's answers are fetched. What is wrong is said in words, with what the page can do about it.
-import {answer, isCutOff, LANES, STATUS, stopBusy} from "./answer.js";
+// The machine that is shown: when something was typed, the table is judged and run, and the run or what is wrong is shown.
+import {isCutOff} from "./answer.js";
 import {chips} from "./breaks.js";
-import {bennettEarly, ownEarly} from "./early.js";
-import {editorText, markFaults} from "./editor.js";
+import {editorText} from "./editor.js";
 import {EXAMPLES} from "./examples.js";
 import {followRun, renderFilm, resetFilm} from "./film.js";
 import {beginHints} from "./hints.js";
+import {acts, showFault, showVerdict} from "./judged.js";
+import {asPasted, judge, pasted} from "./judging.js";
+import {LongRun} from "./long.js";
+import {makeRun} from "./making.js";
 import {redraw} from "./notices.js";
 import {keepPast} from "./past.js";
 import {fetchFrame, goTo, pause} from "./play.js";
-import {readingsOf} from "./reading.js";
-import {LongRun} from "./long.js";
-import {limits} from "./moments.js";
-import {Run} from "./run.js";
-import {busy, byId, current, dialog, escaped, isEarly, isTooLong, nameOf, state, toast} from "./state.js";
+import {busy, byId, current, escaped, isEarly, isTooLong, nameOf, state, toast} from "./state.js";
 import {put} from "./sizes.js";
-import {blankCandidates, faultOf, freeNames, lettersOf, refusalWords, rulesOf, spelled, statesOf, turned} from "./table.js";
-import {matchOf, readRun} from "./texts.js";
+import {freeNames, lettersOf, refusalWords, rulesOf, spelled, statesOf} from "./table.js";
 import {answerWords, judgedBy} from "./verdicts.js";
-import {findRun, Refused, widen} from "./window.js";
+import {Refused, widen} from "./window.js";
 import {number} from "./words.js";
 
-const MOST_BLANKS = 4, SOUGHT_AFTER = 200, EARLY_AFTER = 150;
-// What of a reading is said at once: the rest is in sight where it is asked for.
-const TOLD_AT_ONCE = /the blank$|halts|stuck| to [!-~]$/;
+const SOUGHT_AFTER = 200;
 export const OWN_WORDS = "Your machine.";
 let waiting = null;
-// The text that came as a whole, and is to be read in whatever notation it is; and the one that was made of it, with what stood
-// there before.
-/** @type {{text: string | null, made: {text: string, reading: Reading, before: Partial<Typed>} | null}} */
-const pasted = {text: null, made: null};
 
 // Something was typed: it is looked at when the typing rests. A step may be given at which the run is shown.
 export function typed(delay = 300, keep = 0) {
@@ -40,12 +31,6 @@ export function typed(delay = 300, keep = 0) {
     showFault({fault: String(fault.message ?? fault)});
     console.error(fault);
   }), delay);
-}
-
-// What stands there came as a whole: it is read in any notation, once.
-export function asPasted() {
-  state.asTyped = false;
-  pasted.text = state.text;
 }
 
 // Takes an example, or a machine like one.
@@ -88,7 +73,7 @@ async function rebuild(keep = 0) {
   byId("word").classList.remove("fault");
   let made;
   try {
-    made = await makeRun(table, isOld);
+    made = await makeRun(table, isOld, showEarly);
   } catch (fault) {
     if (isOld()) return;
     if (!(fault instanceof Refused)) throw fault;
@@ -125,100 +110,6 @@ function undoReading() {
   keepPast();
   Object.assign(state, pasted.made.before, {asTyped: true});
   changed();
-}
-// What a text that came as a whole is read as: the first reading that is a machine as the program takes it.
-/** @type {(text: string, isOld: () => boolean) => Promise<Partial<Judged> | null>} */
-async function readAs(text, isOld) {
-  const {readings, fault} = readingsOf(text, state.names);
-  for (const reading of readings) {
-    const given = spelled(reading.text, reading.names), checked = await answer(["check"], given);
-    if (isOld()) return null;
-    if (checked.status === STATUS.done) return {reading, given, table: given, isStandard: false, good: checked.text};
-    const standard = await answer(["standard"], given);
-    if (isOld()) return null;
-    if (standard.status === STATUS.done) return {reading, given, table: standard.text, isStandard: true};
-  }
-  return fault ? {fault} : null;
-}
-
-const tooLongWords = text => `With its ${number(text.length)} characters it is too long to edit here; its beginning is shown.`;
-// What the program says of a table, as it was typed and as it is given to it: the table that runs, or the fault and what
-// the page offers.
-/** @type {(text: string, given: string, isOld: () => boolean) => Promise<Partial<Judged>>} */
-async function judge(text, given, isOld) {
-  const checked = await answer(["check"], given);
-  if (isOld() || checked.status === STATUS.done) {
-    state.asStandard = false;
-    return {table: given, isStandard: false, good: checked.text};
-  }
-  const standard = await answer(["standard"], given);
-  const cut = [checked, standard].find(isCutOff);
-  if (cut) return {fault: cut.words, again: true};
-  if (isTooLong()) return {fault: faultOf(checked.text, text).text, also: tooLongWords(text), isLong: true};
-  const fault = faultOf(checked.text, text), turn = turned(text, state.blank ?? null, state.names), offers = {};
-  const read = pasted.text === text && !(state.asStandard && standard.status === STATUS.done && !turn.said.length) ? await readAs(text, isOld) : null;
-  if (read || isOld()) return read ?? {fault: ""};
-  if (turn.said.length && (await answer(["check"], spelled(turn.text, turn.names))).status !== STATUS.text) offers.turn = turn;
-  if (!offers.turn && standard.status === STATUS.done) {
-    if (state.asStandard) return {table: standard.text, isStandard: true};
-    offers.standard = true;
-  }
-  if (!offers.turn && !offers.standard && (await readAs(text, isOld))?.reading) offers.read = true;
-  if (!offers.turn && fault.standard) {
-    const other = standard.status === STATUS.machine ? faultOf(standard.text, text) : fault;
-    if (other.text !== fault.text) offers.also = `Nor can it start on its first letter. ${other.text}`;
-    offers.blanks = blankCandidates(text);
-  }
-  return {fault: fault.text, lines: fault.lines, ...offers};
-}
-
-// The run in the window that is chosen, or in the one that the program finds.
-async function makeRun(table, isOld) {
-  busy("Looking for a window …");
-  // What is typed meanwhile is another run's.
-  const {word, window} = state, made = {isThere: false, first: Promise.resolve(), bennett: /** @type {Promise<any>} */ (Promise.resolve(null)), early: /** @type {any} */ (null), told: /** @type {RunTold} */ ({rules: [], rows: []})};
-  try {
-    const told = own => { made.first = tellEarly({table, word, own, window}, made, isOld); };
-    const found = await findRun(table, word, window, told);
-    if (!isOld()) busy("Building the circuit …");
-    const run = Object.assign(await (await runOf(table, word, found, made)).open(), {told: made.told});
-    made.isThere = true;
-    return {run, found};
-  } catch (fault) {
-    if (fault instanceof Refused) {
-      await made.first;
-      fault.early = made.early;
-    }
-    throw fault;
-  }
-}
-// A run whose moments are told already, where it is long, or one that asks its circuit for them.
-/** @type {(table: string, word: string, found: Found, made: {first: Promise<any>, bennett: Promise<any>}) => Promise<Run>} */
-async function runOf(table, word, found, made) {
-  const {exit, steps, quadruples} = readRun(found.text);
-  if (found.isOpen || exit !== "end" || steps <= limits.quick) return new Run(table, word, found);
-  await made.first;
-  const bennett = await made.bennett;
-  return bennett?.total === (quadruples ?? 0) + 1 ? new LongRun(table, word, found, bennett) : new Run(table, word, found);
-}
-// While the circuit is looked for the machine by itself is shown, and then Bennett's, which has both layers above the circuit;
-// where another machine is seen, a moment later, since most circuits are found by then. It is waited for the first of them.
-async function tellEarly(asked, made, isOld) {
-  const rest = new Promise(done => setTimeout(done, current.run ? EARLY_AFTER : 0)), {editions: edition} = state;
-  stopBusy(LANES.beside);
-  const tell = async asking => {
-    const run = await asking.catch(() => null);
-    if (!run || isOld()) return;
-    // What was told of one is known of the other, and of the run with its circuit; what is said of the circuit is said of both.
-    Object.assign(made.told, run.told.rules.length ? {rules: run.told.rules} : {rows: run.told.rows});
-    Object.assign(run, {edition, told: made.told, lacking: made.early?.run.lacking ?? run.lacking});
-    made.early = {run, found: {own: asked.own, window: run.window, text: ""}};
-    await rest;
-    if (!isOld() && !made.isThere) showEarly(made.early);
-  };
-  await tell(ownEarly(asked));
-  made.bennett = bennettEarly(asked).catch(() => null);
-  tell(made.bennett).catch(console.error);
 }
 function showEarly(early) {
   if (current.run === early.run) return;
@@ -292,77 +183,6 @@ export function stale(it) {
   }
 }
 
-// ---- what is said below the table
-
-function addButton(text, kind, act) {
-  const it = Object.assign(document.createElement("button"), {textContent: text, className: kind, onclick: act});
-  byId("verdict").append(it);
-  return it;
-}
-function turnTo(turn) {
-  keepPast();
-  state.text = turn.text;
-  state.names = turn.names;
-  editorText();
-  typed(0);
-}
-/** @param {Partial<Judged>} judged */
-function showFault({fault, also, lines = [], turn, standard, blanks = [], again = false, read = false, isLong = false}) {
-  const box = byId("verdict");
-  box.innerHTML = `<span class="fault">${escaped(fault ?? "")}</span>`;
-  if (also) box.innerHTML += `<p class="note">${escaped(also)}</p>`;
-  if (turn) {
-    box.innerHTML += `<p class="note">The page can convert the table:</p><ul>${turn.said.map(it => `<li>${escaped(it)}</li>`).join("")}</ul>`;
-    addButton("Convert", "main", () => turnTo(turn));
-  }
-  if (standard) {
-    addButton("It starts on the first letter", "main", () => { keepPast(); state.asStandard = true; typed(0); }).title =
-      "The command `standard` builds an equivalent machine that starts and halts on the blank before its word. Your names are kept.";
-  }
-  for (const it of blanks.slice(0, MOST_BLANKS)) {
-    addButton(`${it} is the blank`, "", () => { state.blank = it; turnTo(turned(state.text, it, state.names)); });
-  }
-  if (read) addButton("Read it", "main", () => { asPasted(); typed(0); }).title = "the page can read this notation";
-  if (isLong) addButton("Clear", "", () => { keepPast(); state.text = ""; changed(0); });
-  if (again) addButton("Try it again", "main", () => typed(0, state.e));
-  markFaults(lines);
-  tellJudged();
-}
-// Whoever shows the table elsewhere hears that the program has judged it.
-function tellJudged() { document.dispatchEvent(new Event("judged")); }
-/** @param {Partial<Judged>} judged */
-function showVerdict({good = "", isStandard}) {
-  const {machine} = current, count = machine.rules.length, box = byId("verdict"), made = pasted.made?.text === state.text ? pasted.made : null;
-  if (made && (isStandard || made.text !== made.before.text)) {
-    const {what, said} = made.reading, standard = isStandard ? [`standard form adds ${count - machine.userRules.length} rules`] : [];
-    const told = [...said.filter(it => TOLD_AT_ONCE.test(it)), ...standard].join("; ");
-    box.innerHTML = `<span class="note" title="${escaped([...said, ...standard].join("; "))}">Read as ${escaped(what || "a table")}${told ? `: ${escaped(told)}` : ""}</span> `;
-    addButton("undo", "link", undoReading).title = "restore the pasted text";
-    addButton("See", "link", () => showReading(made.reading, isStandard));
-  } else if (isStandard) {
-    box.innerHTML = `<span class="note">Converted to standard form: ${count - machine.userRules.length} rules added. `
-      + `The second number beside a line is its <b class="ruleno">rule</b>.</span> `;
-    addButton("See", "link", showStandard);
-    addButton("As typed", "link", () => { keepPast(); state.asStandard = false; typed(0); });
-  } else {
-    const [, states, symbols, rules] = matchOf(/states (\d+) symbols (\d+) quintuples (\d+)/, good);
-    box.innerHTML = `<span class="note" title="${symbols} symbols with the blank">In standard form: ${states} states, ${rules} rules</span>`;
-  }
-  markFaults([]);
-  tellJudged();
-}
-// What was turned of what was pasted, and the table that runs.
-function showReading({what, said}, isStandard) {
-  const turned = [...said, ...(isStandard ? ["the machine starts on the first letter, so it was converted to standard form"] : [])];
-  dialog(`<h2>Read as ${escaped(what || "a table")}</h2><ul>${turned.map(it => `<li>${escaped(it)}</li>`).join("")}</ul>
-    <p class="quiet">The table that runs${isStandard ? ", as the command <code>standard</code> prints it, with your names" : ""}:</p><pre class="listing">${listing()}</pre>`);
-}
-const listing = () => current.machine.rules.map((it, k) =>
-  `${String(k + 1).padStart(3)}  ${escaped(nameOf(it.state))}, ${it.read}, ${it.write}, ${it.shift}, ${escaped(nameOf(it.next))}`).join("\n");
-function showStandard() {
-  dialog('<h2>The same machine in standard form</h2><p class="quiet">The output of the command <code>standard</code>, with your names. Rule 1 '
-    + `moves onto the word; the last rules go back over it.</p><pre class="listing">${listing()}</pre>`);
-}
 function showRefusal({reply, message, early}) {
   const words = isCutOff(reply) ? reply.words : refusalWords(reply.text, state.word, current.machine.rules) ?? message;
   if (early) {
@@ -418,3 +238,4 @@ export function showOutcome() {
   byId("size").textContent = `${number(run.circuit.count)} elements · ${number(run.layout.banks.length)} modules${byHand}`;
   byId("size").title = `window ${run.window.join(" ")}: work tape from ${-l1} to ${r1}, history to ${n}, output to ${r3}`;
 }
+Object.assign(acts, {typed, changed, undoReading});
