@@ -1,7 +1,7 @@
 // The page: what was typed becomes a machine, that a run, and the run is shown at one step of one time.
 import {keepAddress} from "./address.js";
 import {chips} from "./breaks.js";
-import {openDesign} from "./design/design.js";
+import {openDesign, openPuzzle} from "./design/design.js";
 import {editorText} from "./editor.js";
 import {EXAMPLES} from "./examples.js";
 import {renderFilm, saySpan} from "./film.js";
@@ -62,6 +62,8 @@ function begin() {
   }
   const design = asked.get("design");
   if (design !== null) openDesign(design);
+  const puzzle = asked.get("puzzle");
+  if (puzzle !== null) openPuzzle(puzzle);
   if (lesson !== null || isFirst) openLearn(lesson || undefined, !asked.has("e"));
   if (task) {
     beginTask(task);

@@ -358,6 +358,31 @@ def check_puzzle(page, count):
     count.hold(
         page.ask("localStorage.getItem('hithwelor puzzles')") == kept, "what was found by search counts as solved"
     )
+    check_own_puzzle(page, count)
+
+
+def check_own_puzzle(page, count):
+    """A puzzle that is made of a circuit is opened by its link, and judged."""
+    page.ask("(document.getElementById('g-own').open = true, document.getElementById('g-ownfill').click(), 0)")
+    comes(page, "document.getElementById('g-owntable').value !== ''", 30)
+    table = page.ask("document.getElementById('g-owntable').value")
+    page.ask("(it => { it.value = 'Third & <b>'; return 0; })(document.querySelector('[data-own=title]'))")
+    page.ask(
+        "(navigator.clipboard.writeText = () => Promise.reject(new Error()), document.getElementById('g-ownlink').click(), 0)"
+    )
+    comes(page, "location.hash.startsWith('#puzzle=')", 20)
+    page.visit(f"file://{PAGE}{page.ask('location.hash')}", OPEN)
+    count.hold(
+        comes(page, "document.querySelector('#g-card h3')?.textContent === 'Third & <b>'", 20),
+        f"a puzzle by its link: {said(page, 'g-card')!r}, of the table {table!r}",
+    )
+    click(page, "#g-search")
+    comes(page, "document.getElementById('g-puzzlesaid').textContent.startsWith('Found by search')", 90)
+    click(page, "#g-check")
+    count.hold(
+        comes(page, "document.getElementById('g-puzzlesaid').className === 'right'", 30),
+        f"a puzzle of one's own: {said(page, 'g-puzzlesaid')}",
+    )
 
 
 def check_many(page, program, count, seed):

@@ -16,7 +16,8 @@ import {showElement, showList, takeInspector} from "./inspector.js";
 import {escape, onKey, portWords, takeKeys} from "./keys.js";
 import {forgetMachine, makeMachinePanel} from "./machine_panel.js";
 import {makeParts, PARTS} from "./parts.js";
-import {beginPuzzle, makePuzzles, puzzleAtHand} from "./puzzle_panel.js";
+import {puzzleFrom, readPuzzle} from "./own_puzzle.js";
+import {beginAny, beginPuzzle, makePuzzles, puzzleAtHand} from "./puzzle_panel.js";
 import {drawingOf} from "./reading_text.js";
 import {goFar, pause, placeWords, play, running, scrubTo, stepOnce, stopFar} from "./running.js";
 import {fileOf, keepDrawing, keptDrawing, readFile, readWord, wordOf} from "./saved.js";
@@ -114,7 +115,7 @@ function takeButtons() {
   part("g-scrub").oninput = () => scrubTo(Number(part("g-scrub").value));
   part("g-file").onchange = async () => {
     const file = part("g-file").files[0];
-    if (file) await openText(readFile(await file.text()), file.name);
+    if (file) await openFile(await file.text(), file.name);
     part("g-file").value = "";
   };
 }
@@ -224,6 +225,28 @@ function keep() {
 
 // ---- files and links
 
+// A file is a drawing, a configuration text, or a puzzle.
+/** @type {(given: string, name: string) => Promise<void>} */
+async function openFile(given, name) {
+  let puzzle = null;
+  try { puzzle = puzzleFrom(JSON.parse(given)); } catch { /* no JSON, so no puzzle */ }
+  if (puzzle) showPuzzle(puzzle);
+  else await openText(readFile(given), name);
+}
+/** @type {(it: Puzzle) => void} */
+function showPuzzle(it) {
+  part("g-tab-puzzles").click();
+  beginAny(it);
+}
+// Opens the editor with the puzzle of a link.
+/** @type {(word: string) => Promise<void>} */
+export async function openPuzzle(word) {
+  await openDesign();
+  history.replaceState(null, "", `#puzzle=${word}`);
+  const it = await readPuzzle(word);
+  if (it) showPuzzle(it);
+  else tellDesk("The puzzle of this link can't be read; the link may be cut off.", true);
+}
 // Shows a text that was kept somewhere, once the program has judged it.
 /** @type {(it: {text: string, places: number[][]}, from: string) => Promise<boolean>} */
 async function openText({text, places}, from) {

@@ -6,6 +6,7 @@ import {compared, differs, entriesIn} from "./behaviour.js";
 import {commit, desk, deskChanged, tellDesk} from "./desk.js";
 import {EMPTY, textOf} from "./drawing.js";
 import {lineWords, playWord} from "./machine_panel.js";
+import {OWN_HTML, takeOwnPuzzle} from "./own_puzzle.js";
 import {lockParts} from "./parts.js";
 import {CHAPTERS, PUZZLES} from "./puzzles.js";
 import {laidOut} from "./lay.js";
@@ -22,7 +23,9 @@ const panel = /** @type {any} */ ({at: null, solved: {}, shown: ""});
 // In the box stands their list, on the card the one at hand; the parts are those that may be used for it.
 /** @type {(box: HTMLElement, card: HTMLElement, parts: HTMLElement) => void} */
 export function makePuzzles(box, card, parts) {
-  Object.assign(panel, {box, card, parts, solved: solved()});
+  box.innerHTML = `<div id="g-puzzlelist"></div>${OWN_HTML}`;
+  takeOwnPuzzle(box, beginAny);
+  Object.assign(panel, {box: box.querySelector("#g-puzzlelist"), card, parts, solved: solved()});
   box.addEventListener("click", event => {
     const it = /** @type {any} */ (event.target).closest("[data-puzzle]");
     if (it) beginPuzzle(it.dataset.puzzle);

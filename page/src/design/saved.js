@@ -29,22 +29,27 @@ function placesIn(given) {
 /** @type {(bytes: Uint8Array, through: any) => Promise<Uint8Array>} */
 const passed = async (bytes, through) =>
   new Uint8Array(await new Response(new Blob([/** @type {any} */ (bytes)]).stream().pipeThrough(through)).arrayBuffer());
-/** @type {(it: Drawing) => Promise<string>} */
-export async function wordOf(it) {
-  const given = new TextEncoder().encode(JSON.stringify([textOf(it), it.at.flat()]));
-  const bytes = await passed(given, new CompressionStream("deflate-raw"));
+// A text, deflated, in letters that an address may have; and back.
+/** @type {(text: string) => Promise<string>} */
+export async function packed(text) {
+  const bytes = await passed(new TextEncoder().encode(text), new CompressionStream("deflate-raw"));
   let binary = "";
   for (const byte of bytes) binary += String.fromCharCode(byte);
   return btoa(binary).replace(/\+/g, "-").replace(/\//g, "_").replace(/=+$/, "");
 }
+/** @type {(word: string) => Promise<string>} */
+export async function unpacked(word) {
+  if (word.length > MOST_LINK) throw new Error("too long");
+  const binary = atob(word.replace(/-/g, "+").replace(/_/g, "/"));
+  return new TextDecoder().decode(await passed(Uint8Array.from(binary, it => it.charCodeAt(0)), new DecompressionStream("deflate-raw")));
+}
+/** @type {(it: Drawing) => Promise<string>} */
+export const wordOf = it => packed(JSON.stringify([textOf(it), it.at.flat()]));
 // What a link's word says, or null where it says nothing.
 /** @type {(word: string) => Promise<{text: string, places: number[][]} | null>} */
 export async function readWord(word) {
   try {
-    if (word.length > MOST_LINK) return null;
-    const binary = atob(word.replace(/-/g, "+").replace(/_/g, "/"));
-    const bytes = await passed(Uint8Array.from(binary, it => it.charCodeAt(0)), new DecompressionStream("deflate-raw"));
-    const [text, flat] = JSON.parse(new TextDecoder().decode(bytes));
+    const [text, flat] = JSON.parse(await unpacked(word));
     const places = Array.from({length: flat.length / 2}, (_, k) => flat.slice(2 * k, 2 * k + 2));
     return {text: String(text), places: placesIn(places)};
   } catch {
