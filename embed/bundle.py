@@ -19,8 +19,9 @@ COMMAND_HEAD = (
     "#!/usr/bin/env node\n"
     "// Made by embed/build of js/core.mjs, js/command.mjs and js/hithwelor.wasm: change those.\n" + STRICT
 )
-# The page's script and style have neither comments nor line ends: an eighth of its bytes. Their sources are page/src.
-SMALL = "--minify-whitespace"
+# The page has no comments and line ends, and shorter syntax: an eighth of its bytes. Names stay, so that the page for the checks is the same
+# script with more behind it.
+SMALL = ("--minify-whitespace", "--minify-syntax")
 COMMAND_END = "if (require.main === module) process.exitCode = module.exports.main();"
 
 
@@ -79,8 +80,8 @@ def text_of(*path):
 def page_text(entry="page/src/entry.js", made="page"):
     """The page: one file of HTML with its style, its script, the worker's script and the module."""
     pack_module()
-    esbuild("page/src/worker.js", "worker.txt", STRICT, "--format=iife", SMALL)
-    script = esbuild(entry, f"{made}.js", STRICT, "--format=iife", SMALL)
+    esbuild("page/src/worker.js", "worker.txt", STRICT, "--format=iife", *SMALL)
+    script = esbuild(entry, f"{made}.js", STRICT, "--format=iife", *SMALL)
     if any(it in script.lower() for it in ("</script", "<!--")):
         raise Bundle("the script has text that ends a script")
     policy = POLICY.format(script=base64.b64encode(hashlib.sha256(script.encode()).digest()).decode())

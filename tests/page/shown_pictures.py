@@ -68,6 +68,12 @@ SCENES = [
         "document.getElementById('openworkshop').click()",
         {"elements": "#page-elements svg text"},
     ),
+    (
+        "Design",
+        "#design",
+        "document.getElementById('g-clear').click(); document.querySelector('[data-begin=column]').click(); document.getElementById('g-step').click()",
+        {"design": "#g-canvas text.name, #g-canvas text.number"},
+    ),
 ]
 PARTS_OF_SVG = {"svg", "title", "defs", "clipPath", "rect", "path", "text", "g"}
 ENDINGS = {"svg": "svg", "pdf": "pdf", "tikz": "tex"}
@@ -171,7 +177,8 @@ def check_scene(page, where, parts, folder, count):
     # The bank is cut off where its panel ends, so that not all its names are in the picture.
     words["bank"] = []
     is_workshop = page.ask("document.querySelector('#workshop[open]') !== null")
-    page.ask(f"document.querySelector('{'#workshop #e-picture' if is_workshop else '#picture'}').click(); 0")
+    button = "#workshop #e-picture" if is_workshop else "#g-picture" if "design" in parts else "#picture"
+    page.ask(f"document.querySelector('{button}').click(); 0")
     comes(page, "document.getElementById('p-save') !== null && document.getElementById('dialog').open")
     offered = page.ask("[...document.querySelectorAll('#p-part option')].map(it => it.value)")
     count.hold({*parts} <= {*offered}, f"{where}: the parts {offered} are offered")
