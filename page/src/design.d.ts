@@ -1,23 +1,23 @@
-// The types of the circuit editor, for tsc alone. A port is a place, 4E + side; what is measured is in units of its grid.
+// The types of the circuit editor, for tsc only. A port is the number 4E + side; lengths are in units of the grid.
 
 type Bar = "H" | "V";
-/** A circuit as it is drawn: for each output port the input to which it leads, or -1; where the left upper corner of each box is. An
-    empty drawing has -1 for each port. */
+/** A drawn circuit: for each output port the input to which it leads, or -1; the upper left corner of each box. An empty drawing has -1
+    for start, end and signal. */
 interface Drawing {
   bars: Bar[]; targets: number[]; at: number[][]; start: number; end: number; place: number; hasLeft: boolean; steps: string;
 }
-/** Elements with the wires among them, which can be put anywhere. */
+/** Elements with the wires between them, which can be added anywhere. */
 interface Group { bars: Bar[]; targets: number[]; at: number[][]; start?: number; end?: number }
-/** What a wire goes through, corner by corner, or null where none was found. */
+/** The route of a wire, corner by corner. */
 type Way = number[][];
 
-/** How the signal went through the circuit from an input, with the bars as they stood: where it left, how the bars stand, in so many steps. */
+/** A passage of the signal from an input: the output, the bars afterwards, and the number of steps. */
 interface Crossing { bars: string; input: number; output: number; next: string; steps: number }
 /** An entry of a sequential machine's table, all counted from 1. */
 interface Entry { state: number; input: number; next: number; output: number; steps?: number }
-/** What a circuit does: its states as bars, its free ports in the order of their numbers, its entries, and whether those are all. */
+/** The behaviour of a circuit: its states as bars, its free ports in order, its entries, and whether they are complete. */
 interface Behaviour { states: string[]; inputs: number[]; outputs: number[]; entries: Entry[]; isWhole: boolean; fault: string }
-/** How a circuit and a table were compared: the ports of the table's lines, and where they differ the inputs that show it. */
+/** The comparison of a circuit with a table: the ports of the lines, and the inputs that show a difference. */
 interface Compared {
   isSame: boolean; inputs: number[]; outputs: number[]; word: number[]; said: string; wanted: number; given: number;
 }

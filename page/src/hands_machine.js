@@ -23,6 +23,12 @@ export function onMachine() {
   on("word", "input", () => { keepPast(true); state.word = byId("word").value.trim(); typed(); });
   on("examples", "change", () => takeMachine(EXAMPLES.find(it => it.key === byId("examples").value)));
   on("file", "change", takeFile);
+  byId("newmachine").onclick = () => {
+    keepPast();
+    Object.assign(state, {text: "", word: "", names: {}, accept: [], reject: [], places: {}, window: null, example: ""});
+    changed(0);
+    byId("table").focus();
+  };
   byId("undo").onclick = () => takeChange(-1);
   byId("redo").onclick = () => takeChange(1);
   byId("verdicts").onclick = () => {

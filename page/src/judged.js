@@ -3,7 +3,7 @@ import {editorText, markFaults} from "./editor.js";
 import {asPasted, pasted} from "./judging.js";
 import {keepPast} from "./past.js";
 import {byId, current, dialog, escaped, nameOf, state} from "./state.js";
-import {turned} from "./table.js";
+import {turned, warningsOf} from "./table.js";
 import {matchOf} from "./texts.js";
 
 const MOST_BLANKS = 4;
@@ -67,6 +67,8 @@ export function showVerdict({good = "", isStandard}) {
     const [, states, symbols, rules] = matchOf(/states (\d+) symbols (\d+) quintuples (\d+)/, good);
     box.innerHTML = `<span class="note" title="${symbols} symbols with the blank">In standard form: ${states} states, ${rules} rules</span>`;
   }
+  const warnings = warningsOf(machine.userRules, it => state.names[it] ?? it);
+  if (warnings.length) box.insertAdjacentHTML("beforeend", `<p class="note warning">${escaped(warnings.join(" "))}</p>`);
   markFaults([]);
   tellJudged();
 }

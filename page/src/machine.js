@@ -63,6 +63,7 @@ async function rebuild(keep = 0) {
   const given = judged.given ?? (isTooLong() ? state.text : spelled(state.text, state.names));
   if (judged.fault) {
     showFault(judged);
+    byId("outcome").textContent = "";
     stale(true);
     busy("");
     return;

@@ -81,6 +81,8 @@ const isName = name => /^[A-Za-z0-9'.-]{1,32}$/.test(name);
 export function turned(text, blank = null, known = {}) {
   const said = [], names = {...known};
   let rows = nonblank(text).map(({line}) => line);
+  const straight = rows.map(line => line.replace(/[“”„‟]/g, '"').replace(/[‘’]/g, "'"));
+  if (straight.some((line, k) => line !== rows[k])) { rows = straight; said.push("curly quotes to straight quotes"); }
   const commented = rows.filter(line => /^\s*(#|\/\/|%|;)/.test(line) && line.split(/[,;\t]/).length < 5);
   if (commented.length) { rows = rows.filter(line => !commented.includes(line)); said.push(`${commented.length === 1 ? "a comment line" : `${commented.length} comment lines`} dropped`); }
   const ended = rows.map(withoutComment), behind = ended.filter((it, k) => it !== rows[k]).length;
@@ -135,6 +137,17 @@ export function turned(text, blank = null, known = {}) {
   const count = Object.keys(names).length - before;
   if (count) said.push(`${count} ${count === 1 ? "name" : "names"} spelled for the program; here they stay as you wrote them`);
   return {text: fields.map(row => row.join(",") + "\n").join(""), said, names};
+}
+
+// What is allowed, and may yet be a mistake: states that no rule leads to, and states in which the machine gets stuck on every symbol.
+/** @type {(rules: Rule[], name?: (state: string) => string) => string[]} */
+export function warningsOf(rules, name = it => it) {
+  const final = finalOf(rules), reached = new Set([rules[0]?.state]), left = new Set(rules.map(it => it.state));
+  for (const state of reached) for (const it of rules) if (it.state === state) reached.add(it.next);
+  /** @type {(states: string[], one: string, many: string) => string[]} */
+  const said = (states, one, many) => states.length ? [`${states.length === 1 ? "State" : "States"} ${states.map(name).join(", ")} ${states.length === 1 ? one : many}.`] : [];
+  const states = statesOf(rules);
+  return [...said(states.filter(it => !reached.has(it)), "is never reached", "are never reached"), ...said(states.filter(it => reached.has(it) && !left.has(it) && it !== final), "has no rules", "have no rules")];
 }
 
 // ---- names that the program can't read: `names` has for each spelling the name as it was typed

@@ -1,7 +1,7 @@
 import assert from "node:assert/strict";
 import {test} from "node:test";
 import {eraseFault} from "../src/erase.js";
-import {blankCandidates, faultOf, freeNames, lettersOf, refusalWords, rulesOf, spelled, statesOf, turned} from "../src/table.js";
+import {blankCandidates, faultOf, freeNames, lettersOf, refusalWords, rulesOf, spelled, statesOf, turned, warningsOf} from "../src/table.js";
 import {answer, example} from "./program.js";
 
 const table = example("increment.csv"), isRead = text => answer(["check"], text).status !== 3;
@@ -94,4 +94,15 @@ test("a comment behind a rule is no part of a name", () => {
   for (const text of ["q0,#,#,+,q0\nq0,_,1,0,q1\n", "q0 # % R q0\nq0 _ 1 N q1\n", "q0 ; 1 ; 1 ; R ; q0\nq0 ; _ ; 1 ; N ; q1\n"]) {
     assert.ok(!turned(text).said.some(it => it.includes("behind")), text);
   }
+});
+
+test("states that are never reached, and states without rules, are told", () => {
+  const rules = rulesOf("S,_,_,+,A\nA,1,1,+,Dead\nB,1,1,+,A\nA,_,_,0,H\n");
+  assert.deepEqual(warningsOf(rules), ["State B is never reached.", "State Dead has no rules."]);
+  assert.deepEqual(warningsOf(rulesOf(example("increment.csv"))), []);
+});
+test("curly quotes are read as straight ones", () => {
+  const {text, said} = turned("“S”,_,_,+,A\nA,_,_,0,H’\n");
+  assert.ok(said.includes("curly quotes to straight quotes"));
+  assert.equal(text, "\"S\",_,_,+,A\nA,_,_,0,H'\n");
 });

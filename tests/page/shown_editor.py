@@ -9,7 +9,7 @@ import subprocess
 import urllib.parse
 
 from counting import TOP, text_of
-from shown import PAGE, settle
+from shown import PAGE, comes, settle
 from shown_places import INCREMENT, SUM, link
 
 PARITY = "S,_,_,+,Even\nEven,0,0,+,Even\nEven,1,1,+,Odd\nOdd,0,0,+,Odd\nOdd,1,1,+,Even\nEven,_,_,0,Yes\nOdd,_,_,0,No\n"
@@ -521,6 +521,27 @@ def check_typed(page, program, count):
     count.hold(said.startswith(f"{right[1]} steps → {right[3][1:]}"), f"what was taken back runs with {said!r}")
 
 
+def check_new(page, count):
+    """New empties the table, and no result of the last machine is shown; undo restores it. What may be a mistake is told."""
+    page.visit(f"file://{PAGE}{link(t=INCREMENT, w='11')}")
+    page.ask("document.getElementById('newmachine').click(); 0")
+    settle(page, 400)
+    outcome = "document.getElementById('outcome').textContent"
+    count.hold(
+        text_shown(page) == "" and comes(page, f"{outcome} === ''"),
+        f"after New the table is {text_shown(page)!r}, with {page.ask(outcome)!r}",
+    )
+    page.ask("document.getElementById('undo').click(); 0")
+    count.hold(comes(page, f"{outcome}.includes(' steps → ')"), f"undone, New leaves {page.ask(outcome)!r}")
+    page.visit(
+        f"file://{PAGE}{link(t='S,_,_,+,A' + chr(10) + 'B,1,1,+,A' + chr(10) + 'A,1,1,+,C' + chr(10) + 'A,_,_,0,H' + chr(10), w='')}"
+    )
+    told = page.ask("document.querySelector('#verdict .warning')?.textContent")
+    count.hold(
+        told == "State B is never reached. State C has no rules.", f"of a table that may be wrong is told {told!r}"
+    )
+
+
 def check_rows(page, count):
     """A row is filled in by keys alone: what is typed is written as the Tab key goes on, and it goes on to the next field."""
     page.visit(f"file://{PAGE}{link(t=PARITY, w='1')}")
@@ -608,6 +629,7 @@ def check_editor(page, program, seed, count):
     check_changed(page, program, draw, count)
     check_names_kept(page, program, count)
     check_typed(page, program, count)
+    check_new(page, count)
     check_rows(page, count)
     check_opened(page, program, count)
     count.hold(not page.faults(), f"the editor: {page.faults()}")

@@ -1,4 +1,4 @@
-// What can be done to the drawing, whoever asks for it: a pointer, a key, a button, a list.
+// The actions on a drawing, for pointer, keyboard, buttons and the list alike.
 import {bringIn, fit, middle} from "./canvas.js";
 import {choose, commit, desk, deskChanged, tellDesk} from "./desk.js";
 import {
@@ -16,7 +16,7 @@ const copied = {group: null};
 export const counted = (many, one, more = `${one}s`) => `${many} ${many === 1 ? one : more}`;
 const theChosen = () => counted(desk.chosen.size, "element");
 
-// Puts a group near a place where it stands clear of all else, and chooses it; whether it was put there.
+// Adds a group at the nearest free position and selects it; returns whether it was added.
 /** @param {Group} group @param {number[]} [at] @param {string} [title] */
 export function putGroup(group, at, title = counted(group.bars.length, "element")) {
   pause();
@@ -25,7 +25,7 @@ export function putGroup(group, at, title = counted(group.bars.length, "element"
     return false;
   }
   const first = desk.drawing.bars.length, whole = (at ?? middleFor(group)).map(Math.round);
-  // Where no place was pointed at, there is more room around it.
+  // Without a given position it gets more room.
   const by = clearBy(desk.drawing, group.at.map(([x, y]) => [x + whole[0], y + whole[1]]), new Set(), at ? undefined : ROOM);
   const made = addGroup(desk.drawing, group, [whole[0] + by[0], whole[1] + by[1]]), all = group.bars.map((_, k) => first + k);
   desk.chosen = new Set(all);
@@ -40,7 +40,7 @@ function middleFor(group) {
   const [x, y] = middle(), far = [0, 1].map(k => Math.max(...group.at.map(at => at[k])) / 2 + 2);
   return [x - far[0], y - far[1]];
 }
-// A wire from an output to an input; whether there is one now. What stands against it is told.
+// Draws a wire from an output to an input, or says why not; returns whether it was drawn.
 /** @type {(out: number, into: number) => boolean} */
 export function drawWire(out, into) {
   const fault = wireFault(desk.drawing, out, into);
@@ -125,7 +125,7 @@ export function copyChosen() {
 export function pasteCopied() {
   if (copied.group) putGroup(copied.group);
 }
-// Moves what is chosen, and clear of the rest.
+// Moves the selection to the nearest free position.
 /** @type {(by: number[], key?: string) => void} */
 export function moveChosen(by, key = "") {
   pause();
@@ -141,7 +141,7 @@ export function layAnew() {
   fit();
   tellDesk("New positions for all elements; the circuit is the same.");
 }
-// Leads all wires anew, with no element moved.
+// Routes all wires again; no element moves.
 export function tidy() {
   desk.ways = waysOf(desk.drawing);
   deskChanged("hand");
@@ -155,18 +155,18 @@ export function focusOn(element, port = -1, isOut = true) {
   deskChanged("chosen");
 }
 
-// ---- a wire in the hand
+// ---- a wire that is being drawn
 
 /** @type {(port: number, isOut: boolean, at: number[]) => void} */
 export function takeWire(port, isOut, at) {
   const {drawing} = desk, fed = isOut ? -1 : sourcesOf(drawing)[port];
-  // The end of a wire that is there is taken off its input.
+  // If the input has a wire, its end is detached.
   desk.hand = fed >= 0 ? {kind: "wire", port: fed, isOut: true, at, isPulled: true} : {kind: "wire", port, isOut, at};
   const {hand} = desk, free = hand.isOut ? freeInputs(drawing).length : 0;
   tellDesk(hand.isOut ? `A wire from ${placeName(hand.port)}: ${counted(free, "free input")}. Esc cancels.` : `A wire into ${placeName(port)}: choose an output.`);
   deskChanged("hand");
 }
-// Ends the wire in the hand at a port; whether there is a wire now.
+// Ends the wire at a port; returns whether there is a wire now.
 /** @type {(port: number, isOut: boolean) => boolean} */
 export function endWire(port, isOut) {
   const {hand} = desk;

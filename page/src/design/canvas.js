@@ -1,5 +1,5 @@
-// The drawing as SVG: boxes, ports and wires, each a node of its own that is changed only where it is another; the signal,
-// what is in the hand, and the part that is seen.
+// The drawing as SVG: boxes, ports and wires, each a node that is changed only if it differs; the signal, what is being dragged, and the
+// visible part.
 import {placeName, SIDES} from "../texts.js";
 import {desk, shown} from "./desk.js";
 import {BOX, sourcesOf, wireFault} from "./drawing.js";
@@ -27,7 +27,7 @@ function make(name, more = {}, inner = "") {
   if (inner) node.innerHTML = inner;
   return node;
 }
-// Sets what has changed alone.
+// Sets an attribute only if it differs.
 /** @type {(it: Kept, node: Element, key: string, value: string, name?: string) => void} */
 function set(it, node, key, value, name = key) {
   if (it.kept[key] === value) return;
@@ -47,14 +47,14 @@ export function makeCanvas(room) {
   return seen.svg;
 }
 
-// ---- from the screen to the grid
+// ---- screen and grid
 
 /** @type {(event: {clientX: number, clientY: number}) => number[]} */
 export function gridAt({clientX, clientY}) {
   const box = seen.svg.getBoundingClientRect(), {x, y, size} = desk.view;
   return [(clientX - box.left - x) / (size * UNIT), (clientY - box.top - y) / (size * UNIT)];
 }
-// Nearer or farther, where one point of the screen stays where it is.
+// Zooms; one point of the screen stays fixed.
 /** @param {number} factor @param {{clientX: number, clientY: number}} [at] */
 export function zoomBy(factor, at) {
   const box = seen.svg.getBoundingClientRect(), {view} = desk;
@@ -68,7 +68,7 @@ export function panBy(dx, dy) {
   desk.view = {...desk.view, x: desk.view.x + dx, y: desk.view.y + dy};
   drawView();
 }
-// All that is drawn, with its wires, in left, top, right and bottom.
+// The bounds of the drawing with its wires: left, top, right, bottom.
 function bounds() {
   const {drawing, ways} = desk, xs = [], ys = [];
   for (const [x, y] of drawing.at) { xs.push(x - 1, x + BOX + 1); ys.push(y - 1, y + BOX + 1); }
@@ -76,7 +76,7 @@ function bounds() {
   if (!xs.length) return [0, 0, 30, 20];
   return [Math.min(...xs), Math.min(...ys), Math.max(...xs), Math.max(...ys)];
 }
-// The part of the canvas on which nothing lies: right of the card of a puzzle, where that leaves room.
+// The free part of the canvas: right of the card of a puzzle, if there is room.
 function free() {
   const box = seen.svg.getBoundingClientRect(), card = seen.svg.closest(".g-mid")?.querySelector("#g-card")?.getBoundingClientRect();
   const left = card?.width && card.width < MOST_COVERED * box.width ? card.right - box.left : 0;
@@ -92,12 +92,12 @@ export function fit(most = 0) {
   desk.view = {size, x: box.left + box.width / 2 - (left + right) / 2 * UNIT * size, y: box.height / 2 - (top + bottom) / 2 * UNIT * size};
   drawView();
 }
-// The middle of what is seen, in units of the grid.
+// The centre of the visible part, in units of the grid.
 export function middle() {
   const {x, y, left, width, height} = free();
   return gridAt({clientX: x + left + width / 2, clientY: y + height / 2});
 }
-// Brings an element into sight.
+// Scrolls an element into view.
 /** @type {(element: number) => void} */
 export function bringIn(element) {
   const at = desk.drawing.at[element], box = seen.svg.getBoundingClientRect(), {x, y, size} = desk.view, room = 3 * UNIT;
@@ -115,9 +115,9 @@ export function drawView() {
   seen.svg.classList.toggle("far", size < .45);
 }
 
-// ---- what is drawn
+// ---- drawing
 
-// A port's mark beside its box: an arrow out of it or into it.
+// The mark of a port beside its box: an arrow out of the box or into it.
 /** @type {(side: number, isOut: boolean) => string} */
 function portMark(side, isOut) {
   const [x, y] = portAt([0, 0], side, isOut).map(it => it * UNIT), [dx, dy] = [DX[side], DY[side]], [near, far] = isOut ? [1, 8.5] : [8.5, 1];
@@ -168,7 +168,7 @@ export function draw() {
   drawWires(drawing, ways);
   drawOver();
 }
-// A ground below each column whose elements stand in one; it is tinted where the column is marked.
+// A background for each column whose elements are in one vertical line; it is tinted if the column is marked.
 /** @type {(drawing: Drawing) => void} */
 function drawSpans(drawing) {
   let body = "";
@@ -183,7 +183,7 @@ function drawSpans(drawing) {
 }
 /** @type {(bar: Bar) => string} */
 export const barWord = bar => bar === "H" ? "lying" : "upright";
-// Whether a wire in the hand may end at this port.
+// Whether the wire that is being drawn may end at this port.
 /** @type {(port: number, isOut: boolean) => string} */
 function legality(port, isOut) {
   const {hand, drawing} = desk;
@@ -213,7 +213,7 @@ function drawWires(drawing, ways) {
   }
 }
 
-// The middle of a port's mark, in pixels.
+// The centre of the mark of a port, in pixels.
 /** @type {(drawing: Drawing, port: number, isOut: boolean, far?: number) => number[]} */
 export function portSpot(drawing, port, isOut, far = 5) {
   const [x, y] = portAt(drawing.at[port >> 2], port, isOut);
@@ -225,7 +225,7 @@ function namedPorts(drawing) {
   for (const [name, port, isOut] of /** @type {[string, number, boolean][]} */ ([["start", drawing.start, false], ["end", drawing.end, true]])) {
     if (port < 0 || !drawing.at[port >> 2]) continue;
     const side = port & 3, [x, y] = portSpot(drawing, port, isOut, 11), [a, b] = portSpot(drawing, port, isOut, 23);
-    // The two of one side stand away from one another.
+    // Two names at one side are moved apart.
     const isRight = side === 1 || side === 0 && isOut || side === 2 && !isOut, by = DX[side] ? 5 : -8;
     body += `<path class="stub" d="M${x},${y} L${a},${b}"/><text class="name" text-anchor="${isRight ? "start" : "end"}" x="${a + (isRight ? by : -by)}" y="${b + 4 + DY[side] * 8}">${name}</text>`;
   }
@@ -253,7 +253,7 @@ export function drawOver() {
   seen.over.innerHTML = body;
 }
 
-// The signal goes along from where it was: through the element and along the wire.
+// Animates the signal through the element and along the wire.
 /** @type {(before: Drawing, after: Drawing, ms: number) => void} */
 export function glide(before, after, ms) {
   if (isStill() || ms < 60 || before.place === after.place && before.hasLeft === after.hasLeft) return;

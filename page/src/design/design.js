@@ -1,5 +1,5 @@
-// The circuit editor: a full-size dialog, and the same as a page of the workshop. What is on its table is in desk.js; here its
-// parts are put together, and each is shown anew where what it shows has changed.
+// The circuit editor: a full-size dialog, and a page of the workshop. Its state is in desk.js; this module puts the panels together and
+// updates those whose content changed.
 import {openPicture} from "../picture.js";
 import {redraw} from "../notices.js";
 import {byId, current, dialog, partOf} from "../state.js";
@@ -93,7 +93,7 @@ const BUTTONS = {
   "g-step": () => stepOnce(1), "g-far": () => goFar(1),
   "g-picture": () => openPicture("Hithwelor · design", [{key: "design", title: "design", pictures: "#g-canvas", texts: ""}]),
 };
-// The canvas alone, or with what stands beside it.
+// The canvas alone, or with the panels.
 function widen() {
   const isWide = editor.root.classList.toggle("g-alone");
   part("g-wide").setAttribute("aria-pressed", isWide);
@@ -119,11 +119,11 @@ function takeButtons() {
     part("g-file").value = "";
   };
 }
-// Keys that hold wherever in the editor the focus is, but in a field.
+// Keys that work everywhere in the editor except in text fields.
 /** @type {(event: KeyboardEvent) => void} */
 function onAnyKey(event) {
   const target = /** @type {any} */ (event.target);
-  // Who lets go of one thing after another by Escape isn't thrown out of the editor.
+  // Escape cancels one thing after another, but does not close the editor.
   if (event.key === "Escape" && (escape() || isDesigning())) {
     event.preventDefault();
     event.stopPropagation();
@@ -137,7 +137,7 @@ function onAnyKey(event) {
   }
 }
 
-// ---- what is shown
+// ---- updates
 
 /** @type {(what: import("./desk.js").What) => void} */
 function show(what) {
@@ -191,7 +191,7 @@ function showRun() {
   if (before !== after) keep();
   editor.before = after;
 }
-// The free inputs, of which the start is one.
+// The free inputs; one of them is the start.
 function showInputs() {
   const {drawing} = desk;
   part("g-in").innerHTML = freeInputs(drawing).map(port => `<option value="${port}">${placeName(port)}</option>`).join("");
@@ -247,7 +247,7 @@ export async function openPuzzle(word) {
   if (it) showPuzzle(it);
   else tellDesk("The puzzle of this link can't be read; the link may be cut off.", true);
 }
-// Shows a text that was kept somewhere, once the program has judged it.
+// Shows a saved text after the program has accepted it.
 /** @type {(it: {text: string, places: number[][]}, from: string) => Promise<boolean>} */
 async function openText({text, places}, from) {
   const reply = await answer(["step", "0"], text, {lane: LANES.design});
@@ -299,7 +299,7 @@ function help() {
   dialog(`<h2>Keys and gestures</h2><table>${HELP.map(([keys, what]) => `<tr><td style="white-space:normal;min-width:210px">${keys}</td><td>${what}</td></tr>`).join("")}</table><p class="quiet">Along the bar the signal goes straight on. Across the bar it turns right, and the bar turns by 90°. On each side the output port is on the right, seen from the element. The proved program computes each step.</p>`);
 }
 
-// ---- opened and closed
+// ---- opening and closing
 
 /** @type {(word: string | null) => Promise<void>} */
 async function begin(word) {
@@ -323,7 +323,7 @@ function mount(room) {
   drawView();
   drawOver();
 }
-// Opens the editor full size, with what a link's word says.
+// Opens the editor full size, with the circuit of a link if there is one.
 /** @type {(word?: string | null) => Promise<void>} */
 export async function openDesign(word = null) {
   if (!editor.box) {
@@ -346,7 +346,7 @@ function leave() {
   // The address is the workbench's again.
   if (current.run) redraw(false);
 }
-// Whether the editor stands open full size, whose address is kept as it is.
+// Whether the editor is open full size; the address is not changed then.
 export const isDesigning = () => Boolean(editor.box?.open);
 
 export const designPage = {

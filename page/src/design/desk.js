@@ -1,26 +1,26 @@
-// What is on the editor's table: the drawing with the ways of its wires, what is chosen, what is in the hand, and what was
-// before, to be taken back. Who changes it says so by `deskChanged`; who shows it was put to that.
+// The state of the editor: the drawing with the routes of its wires, the selection, what is being dragged, undo and redo. Whoever changes it
+// calls `deskChanged`; whoever shows it listens to that.
 import {EMPTY} from "./drawing.js";
 import {waysOf} from "./route.js";
 
 const MOST_KEPT_BACK = 300, TYPING = 900;
 /** @typedef {{kind: "wire", port: number, isOut: boolean, at: number[], isPulled?: boolean, isAimed?: boolean} | {kind: "part", group: Group, at: number[] | null, title: string}} Hand */
-// The keyboard is at an element, or at one of its ports.
+// The keyboard focus: an element, or one of its ports.
 /** @typedef {{element: number, port: number, isOut: boolean}} Focus */
 
 export const desk = {
   drawing: EMPTY,
   /** @type {Map<number, Way>} */ ways: new Map(),
-  // A drawing that is dragged, until it is let go.
+  // The drawing while elements are dragged.
   /** @type {{drawing: Drawing, ways: Map<number, Way>} | null} */ draft: null,
   /** @type {Set<number>} */ chosen: new Set(),
-  // The chosen wire, by its output, or -1.
+  // The selected wire, by its output, or -1.
   wire: -1,
   /** @type {Focus} */ focus: {element: -1, port: -1, isOut: true},
   /** @type {Hand | null} */ hand: null,
   /** @type {number[] | null} */ band: null,
   view: {x: 0, y: 0, size: 1},
-  // The last wires of the signal's way, by their outputs, the element that turned last, and the bars at the run's start.
+  // The last wires of the signal's path, by their outputs; the element that turned last; the bars at the start of the run.
   /** @type {number[]} */ trail: [],
   turned: -1,
   /** @type {Bar[]} */ began: [],
@@ -36,7 +36,7 @@ export function deskChanged(what) { for (const act of acts) act(what); }
 /** @param {(what: What) => any} act */
 deskChanged.to = act => acts.push(act);
 
-// What is seen: the drawing, or what is dragged of it.
+// What is visible: the drawing, or the one that is being dragged.
 export const shown = () => desk.draft ?? desk;
 
 /** @type {(words: string, isFault?: boolean) => void} */
@@ -56,7 +56,7 @@ function put(drawing, ways = desk.ways) {
   Object.assign(desk, {trail: [], turned: -1, began: drawing.bars});
   deskChanged("drawing");
 }
-// Puts another drawing there, which can be taken back. Acts with one key that follow one another soon are one.
+// Replaces the drawing; undo restores the old one. Changes with one key in quick succession are one change.
 /** @type {(drawing: Drawing, how?: {key?: string, ways?: Map<number, Way>}) => void} */
 export function commit(drawing, {key = "", ways} = {}) {
   if (drawing === desk.drawing) return;
@@ -69,7 +69,7 @@ export function commit(drawing, {key = "", ways} = {}) {
   desk.past.ahead = [];
   put(drawing, ways);
 }
-// Takes the last change back, or makes it again; whether there was one.
+// Undo or redo; returns whether there was a change.
 /** @type {(direction: number) => boolean} */
 export function takeBack(direction) {
   const {behind, ahead} = desk.past, [from, to] = direction < 0 ? [behind, ahead] : [ahead, behind], found = from.pop();
@@ -79,7 +79,7 @@ export function takeBack(direction) {
   put(found);
   return true;
 }
-// The signal has gone on or back: the circuit is the same, and nothing is to be taken back.
+// The signal has moved: the circuit is the same, and there is nothing to undo.
 /** @type {(drawing: Drawing) => void} */
 export function showRun(drawing) {
   desk.drawing = drawing;

@@ -1,12 +1,12 @@
-// A circuit that is drawn: bars, wires, where the signal is, and where each element stands. A drawing isn't changed: each act
-// gives another one. Ports are places, 4E + side, as the page's other modules have them: an output port and an input port
-// of one side have one number. Nothing here knows what a bar does to a signal.
+// A drawn circuit: bars, wires, the signal, and the position of each element. A drawing is immutable: an action returns a new one. A port is
+// the number 4E + side, as in the other modules; the output and the input of one side have one number. This module does not know what a bar
+// does to a signal.
 import {placeName, SIDES} from "../texts.js";
 
-// The box of an element in units of the grid, and how near to one another two may stand.
+// The size of the box of an element in units of the grid, and the least distance of two boxes.
 export const BOX = 4;
 const APART = 2;
-// More isn't drawn here; the program takes far more.
+// The limit of the editor; the program takes far more.
 export const MOST_DRAWN = 600;
 
 /** @type {Drawing} */
@@ -14,7 +14,7 @@ export const EMPTY = {bars: [], targets: [], at: [], start: -1, end: -1, place: 
 
 /** @type {WeakMap<Drawing, Int32Array>} */
 const kept = new WeakMap();
-// For each input port the output from which it is fed, or -1.
+// For each input port the output that leads there, or -1.
 /** @type {(it: Drawing) => Int32Array} */
 export function sourcesOf(it) {
   let found = kept.get(it);
@@ -32,10 +32,10 @@ export const freeOutputs = it => [...it.targets.keys()].filter(port => it.target
 /** @type {(it: Drawing) => number} */
 export const wireCount = it => it.targets.reduce((sum, into) => sum + Number(into >= 0), 0);
 
-// ---- what holds of every drawing
+// ---- the invariant
 
-// Start and end are free ports, and the signal is before an input that is there. What was changed begins a run of its own, with
-// the bars as they stand: where the signal had left, it is to enter by the start again.
+// Start and end are free ports, and the signal is before an existing input. A change starts a new run with the present bars; a signal that
+// had left enters at the start again.
 /** @type {(it: Drawing) => Drawing} */
 function settled(it) {
   if (!it.bars.length) return EMPTY;
@@ -76,7 +76,7 @@ export function turned(it, elements) {
 export const moved = (it, elements, [dx, dy]) =>
   ({...it, at: it.at.map((at, k) => elements.has(k) ? [at[0] + dx, at[1] + dy] : at)});
 
-// Takes elements away; those behind them are counted anew.
+// Deletes elements; the later ones are renumbered.
 /** @type {(it: Drawing, elements: Set<number>) => Drawing} */
 export function without(it, elements) {
   let count = 0;
@@ -90,7 +90,7 @@ export function without(it, elements) {
     start: port(it.start), end: port(it.end), place: port(it.place), hasLeft: it.hasLeft && port(it.place) >= 0,
   });
 }
-// Elements with the wires among them, to be put elsewhere.
+// Elements with the wires between them, to be added elsewhere.
 /** @type {(it: Drawing, elements: Set<number>) => Group} */
 export function groupOf(it, elements) {
   const listed = [...elements].sort((a, b) => a - b), number = new Map(listed.map((element, k) => [element, k]));
@@ -102,13 +102,13 @@ export function groupOf(it, elements) {
     targets: listed.flatMap(element => [0, 1, 2, 3].map(side => port(it.targets[4 * element + side]))),
   };
 }
-// Turns a part of the drawing by a quarter to the right: its north becomes its east, a bar that lay stands. An element that is
-// turned with its bar does what it did, so the circuit stays the same but for the names of its ports.
+// Rotates a part of the drawing by 90° to the right: north becomes east, and a lying bar becomes upright. An element that is rotated with its
+// bar behaves as before, so the circuit is the same except for the names of its ports.
 /** @type {(it: Drawing, elements: Set<number>) => Drawing} */
 export function rotated(it, elements) {
   const boxes = [...elements].map(element => it.at[element]);
   const [[left, right], [top, bottom]] = [0, 1].map(k => [Math.min(...boxes.map(at => at[k])), Math.max(...boxes.map(at => at[k]))]);
-  // The middle stays where it is, or moves by half a unit.
+  // The centre stays, or moves by half a unit.
   const x0 = Math.round((left + right) / 2), y0 = Math.round((top + bottom) / 2);
   /** @type {(port: number) => number} */
   const port = old => old >= 0 && elements.has(old >> 2) ? (old & ~3) + ((old + 1) & 3) : old;
@@ -121,12 +121,12 @@ export function rotated(it, elements) {
   };
   return /** @type {Drawing} */ (settled(/** @type {Drawing} */ (made)));
 }
-// Whether boxes at these places stand clear of those of the others.
+// Whether boxes at these positions are far enough from the others.
 /** @type {(it: Drawing, boxes: number[][], others: Set<number>, far: number) => boolean} */
 function isClear(it, boxes, others, far) {
   return boxes.every(([x, y]) => it.at.every((at, k) => others.has(k) || Math.abs(at[0] - x) >= far || Math.abs(at[1] - y) >= far));
 }
-// The least way from a wanted place to one where boxes stand clear of all elements but `others`.
+// The least move to a position that is free of all elements except `others`.
 /** @type {(it: Drawing, boxes: number[][], others?: Set<number>, apart?: number) => number[]} */
 export function clearBy(it, boxes, others = new Set(), apart = APART) {
   for (let ring = 0; ring < 400; ring++) {
@@ -143,7 +143,7 @@ export function clearBy(it, boxes, others = new Set(), apart = APART) {
 
 // ---- wires
 
-// Why no wire may lead from an output to an input, or "".
+// Why a wire may not lead from an output to an input, or "".
 /** @type {(it: Drawing, out: number, into: number) => string} */
 export function wireFault(it, out, into) {
   const fed = sourcesOf(it)[into], last = it.targets[out];
@@ -152,7 +152,7 @@ export function wireFault(it, out, into) {
   if (last < 0 && freeOutputs(it).length === 1) return "The last free port must stay free: a circuit needs one input and one output.";
   return "";
 }
-// A wire that leaves this output leads elsewhere from now on.
+// The wire of this output leads to another input now.
 /** @type {(it: Drawing, out: number, into: number) => Drawing} */
 export function wired(it, out, into) {
   if (wireFault(it, out, into)) return it;
@@ -163,7 +163,7 @@ export const unwired = (it, outs) => settled({...it, targets: it.targets.map((ol
 
 // ---- the signal
 
-// The signal stands before an input; where no wire leads there, it is the start.
+// Places the signal before an input; a free input becomes the start.
 /** @type {(it: Drawing, into: number) => Drawing} */
 export const entered = (it, into) =>
   ({...settled({...it, place: into, hasLeft: false}), start: sourcesOf(it)[into] < 0 ? into : it.start});

@@ -1,4 +1,4 @@
-// What pointers do on the canvas: a mouse, a pen, one finger or two.
+// Mouse, pen and touch on the canvas.
 import {
   cutWire, endWire, enter, focusOn, letGo, moveChosen, putGroup, takeWire, turnOne,
 } from "./acts.js";
@@ -9,7 +9,7 @@ import {portAt, waysMoved, waysOf} from "./route.js";
 import {placeName} from "../texts.js";
 
 const LEAST_MOVE = 4, MOST_DRAGGED = 24, WHEEL = .0016, NEAR = 2.4;
-// What a pointer that is down does.
+// What a pressed pointer does.
 /** @typedef {{kind: string, x: number, y: number, isMoved: boolean, grid: number[], element: number, port: number,
  *   isOut: boolean, isBar: boolean, isMore: boolean, by: number[]}} Held */
 /** @type {{held: Held | null, fingers: Map<number, {x: number, y: number}>, pinch: number}} */
@@ -36,7 +36,7 @@ export function takeGestures(svg) {
 /** @type {(event: WheelEvent) => void} */
 function onWheel(event) {
   event.preventDefault();
-  // Two fingers on a pad move, and pinch with Ctrl; a mouse's wheel goes by whole notches, and zooms.
+  // Two fingers on a touchpad pan, and pinch with Ctrl; a mouse wheel moves by whole notches and zooms.
   const isNotch = event.deltaMode !== 0 || event.deltaY % 100 === 0 || event.deltaY % 120 === 0;
   const isWheel = !event.ctrlKey && !event.shiftKey && event.deltaX === 0 && isNotch;
   if (event.ctrlKey || isWheel) zoomBy(Math.exp(-event.deltaY * (event.ctrlKey && Math.abs(event.deltaY) < 50 ? .01 : WHEEL) * (event.deltaMode ? 30 : 1)), event);
@@ -49,7 +49,7 @@ function hitOf(target) {
   return {element: element ? Number(element.dataset.element) : -1, port: port ? Number(port.dataset.port) : -1,
     isOut: port?.dataset.out === "1", isBar: Boolean(target.closest("[data-bar]")), wire: wire ? Number(wire.dataset.wire) : -1};
 }
-// The port under a pointer; where a wire is in the hand, one near it at which the wire may end.
+// The port under the pointer; while a wire is drawn, the nearest port where it may end.
 /** @type {(event: PointerEvent) => {port: number, isOut: boolean, isNear?: boolean} | null} */
 function portUnder(event) {
   const it = hitOf(document.elementFromPoint(event.clientX, event.clientY) ?? event.target), {hand, drawing} = desk;
@@ -147,7 +147,7 @@ function moveWire(event, grid) {
   }
   drawOver();
 }
-// What is chosen goes with the pointer, by whole units. Where that are many, wires to the others are led anew as it is let go.
+// Drags the selection by whole units. If it is large, wires to other elements are routed only at the end.
 /** @type {(held: Held, grid: number[]) => void} */
 function dragTo(held, grid) {
   const by = grid.map((it, k) => Math.round(it - held.grid[k]));
@@ -178,7 +178,7 @@ function onUp(event) {
     deskChanged("hand");
   } else if (held.kind === "end") {
     if (under) {
-      // A wire that is dragged and refused is let go, one that is carried stays in the hand.
+      // A refused wire is cancelled if it was dragged; otherwise it stays.
       if (!endWire(under.port, under.isOut) && held.isMoved) letGo();
     } else if (held.isMoved) dropWire();
   } else if (held.kind === "let") dropWire();
@@ -192,7 +192,7 @@ function onUp(event) {
     choose([held.element]);
   } else if (held.kind === "band") endBand(held);
 }
-// A wire that is let go over nothing isn't drawn; one whose end was pulled off its input is taken away.
+// A wire that is dropped on nothing is not drawn; a detached wire is deleted.
 function dropWire() {
   const {hand} = desk;
   letGo();

@@ -1,5 +1,4 @@
-// What is said of the chosen element, with its ports and where they lead; and all elements as a list, for those who hear the
-// page or like a table.
+// The selected element with its ports and where they lead; and the list of all elements, which screen readers can use.
 import {sideOf} from "../svg.js";
 import {placeName, SIDES} from "../texts.js";
 import {counted, cutWire, drawWire, duplicateChosen, endAt, enter, focusOn, removeChosen, rotateChosen, turnChosen, turnOne} from "./acts.js";

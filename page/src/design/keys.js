@@ -1,6 +1,5 @@
-// The canvas by the keyboard alone. Tab goes from element to element, and on beyond the last one; Enter goes to the ports of
-// an element, Escape back. W begins a wire, of an output or of a side that is named by a letter; Enter, or a letter again,
-// ends it.
+// The canvas with the keyboard alone. Tab goes from element to element, and out after the last one; Enter goes to the ports of an element,
+// Escape back. W starts a wire at an output, or at a side named by a letter; Enter or another letter ends it.
 import {
   chooseAll, copyChosen, counted, cutWire, duplicateChosen, endAt, endWire, enter, focusOn, letGo, moveChosen, pasteCopied, removeChosen, rotateChosen,
   takeWire, tidy, turnChosen, turnOne,
@@ -14,10 +13,10 @@ import {goFar, play, stepOnce} from "./running.js";
 
 const MOVES = /** @type {Record<string, number[]>} */ ({ArrowLeft: [-1, 0], ArrowRight: [1, 0], ArrowUp: [0, -1], ArrowDown: [0, 1]});
 const ZOOM = 1.25;
-// A side is to be named: of which output a wire begins.
+// Whether the side of a new wire is to be named.
 const naming = {isOn: false};
 
-// A port with where it leads, in words.
+// A port and where it leads, in words.
 /** @type {(port: number, isOut: boolean) => string} */
 export function portWords(port, isOut) {
   const {drawing} = desk, other = isOut ? drawing.targets[port] : sourcesOf(drawing)[port];
@@ -30,7 +29,7 @@ function sayFocus() {
   if (element < 0) return;
   tellDesk(port >= 0 ? portWords(port, isOut) : `Element ${element}, ${barWord(desk.drawing.bars[element])}`);
 }
-// The next element, or the next port of the element; false where there is none, so that Tab leaves.
+// The next element, or the next port of the element; false if there is none, so that Tab leaves the canvas.
 /** @type {(by: number) => boolean} */
 function onward(by) {
   const {focus, drawing} = desk, count = drawing.bars.length;
@@ -51,7 +50,7 @@ function onward(by) {
   sayFocus();
   return true;
 }
-// The end of a wire in the hand is seen at what has the focus.
+// Shows the end of the wire at the focus.
 function aimWire() {
   const {hand, focus, drawing} = desk;
   if (hand?.kind !== "wire" || focus.element < 0) return;
@@ -180,7 +179,7 @@ function onArrow(key, isFar) {
   tellDesk(`${desk.chosen.size === 1 ? `Element ${first}` : counted(desk.chosen.size, "element")} at ${x}, ${y}.`);
   return true;
 }
-// Out of the last thing that was begun; false where there is none, so that the editor closes.
+// Cancels the last thing that was started; false if there is none.
 export function escape() {
   const {hand, focus, chosen} = desk;
   if (naming.isOn) {

@@ -1,5 +1,5 @@
-// Where the elements of a text without places stand: columns and banks as they are drawn elsewhere, and the others where
-// their wires are short, by exchanging two of them as long as that helps. The same text is laid out alike each time.
+// Positions for the elements of a text that has none: columns and banks as they are drawn elsewhere; the others so that their wires are short,
+// by exchanging pairs while that helps. The same text always gets the same layout.
 import {banksOf, columnsOf} from "../circuit.js";
 import {SIDES} from "../texts.js";
 import {BOX} from "./drawing.js";
@@ -8,11 +8,11 @@ const ROW_GAP = 3, COLUMN_GAP = 8, TRIES = 160, MOST_TRIES = 60000, AWAY = 1.3;
 /** @type {number[][]} */
 const STEP = [[0, -1], [1, 0], [0, 1], [-1, 0]];
 const LEAST_GAP = 5, MOST_GAP = 9, GAP_BY_WIRES = 1.8;
-// The room between two elements, by how many wires there are of each.
+// The distance between two elements, by the number of wires.
 /** @type {(it: {targets: number[]}) => number} */
 const gapOf = it => Math.max(LEAST_GAP, Math.min(MOST_GAP, Math.round(3 + GAP_BY_WIRES * 4 * it.targets.filter(into => into >= 0).length / it.targets.length)));
 
-// The drawing as the module that knows columns has it.
+// The drawing in the form of the module that finds columns.
 /** @type {(it: {bars: Bar[], targets: number[]}) => any} */
 function asRows(it) {
   const lines = it.targets.map(into => into < 0 ? null : {element: into >> 2, side: SIDES[into & 3]});
@@ -36,7 +36,7 @@ export function laidOut(it) {
   return at;
 }
 
-// Banks from left to right, in rows; gives where the last one ends.
+// Places banks from left to right, line by line; returns the lower end.
 /** @type {(banks: any[], at: number[][]) => number} */
 function layBanks(banks, at) {
   const all = banks.reduce((sum, bank) => sum + bank.elements.length, 0);
@@ -58,7 +58,7 @@ function laySingles(it, at, others, top) {
   if (!others.length) return;
   const pitch = BOX + gapOf(it), wide = Math.max(1, others.length <= 4 ? others.length : Math.ceil(Math.sqrt(1.5 * others.length)));
   const high = Math.ceil(others.length / wide), slots = inOrder(it, others);
-  // Where an element is, in slots; those of banks stand above.
+  // The position of an element, in slots; banks are above.
   /** @type {Map<number, number[]>} */
   const where = new Map();
   for (const [element, place] of at.entries()) if (place) where.set(element, [place[0] / pitch, (place[1] - top) / pitch]);
@@ -97,7 +97,7 @@ function laySingles(it, at, others, top) {
   const tries = Math.min(MOST_TRIES, TRIES * others.length * Math.max(4, wide));
   for (let k = 0; k < tries; k++) {
     const a = draw(held.length);
-    // At first any two, and then near ones alone.
+    // At first any two, later only near ones.
     const reach = Math.max(1, Math.ceil(Math.max(wide, high) * (1 - k / tries)));
     const [x, y] = spot(a), other = [x + draw(2 * reach + 1) - reach, y + draw(2 * reach + 1) - reach];
     if (other[0] < 0 || other[1] < 0 || other[0] >= wide || other[1] >= high) continue;
@@ -110,7 +110,7 @@ function laySingles(it, at, others, top) {
   }
   for (const [slot, element] of held.entries()) if (element !== null) at[element] = [spot(slot)[0] * pitch, top + spot(slot)[1] * pitch];
 }
-// Elements as the wires lead from the start, and then the rest.
+// Elements in the order in which wires lead from the start, then the rest.
 /** @type {(it: {targets: number[], start: number}, others: number[]) => number[]} */
 function inOrder(it, others) {
   const wanted = new Set(others), found = new Set(), begins = [it.start >> 2, ...others];

@@ -1,5 +1,5 @@
-// Which machine the circuit is: its table, found by the program from the bars as they stand, each entry to be played; and
-// whether it is a given table, with the shortest inputs that tell the two apart.
+// The panel Machine: the table of the circuit, whose entries can be played, and the comparison with another table, with the shortest inputs that
+// show a difference.
 import {STATUS, answer, LANES} from "../answer.js";
 import {circuitFault} from "../circuits.js";
 import {escaped} from "../state.js";
@@ -38,7 +38,7 @@ export function makeMachinePanel(box) {
     if (it && panel.found) playEntry(panel.found, panel.found.entries[Number(it.dataset.entry)]);
   };
 }
-// What was found is of another circuit, where that has changed.
+// Marks the table as out of date if the circuit has changed.
 export function forgetMachine() {
   if (!panel.box || panel.isAsking) return;
   const {found} = panel;
@@ -104,16 +104,16 @@ async function copyTable() {
   tellDesk("Table copied; it is also in the field below.");
 }
 
-// The same machine as a bank, beside the circuit.
+// Adds the bank of the same machine beside the circuit.
 async function putBank() {
   const reply = await answer(["realise", "1", "1"], tableOf(panel.found?.entries ?? []), {lane: LANES.design});
   if (reply.status !== STATUS.done) tellDesk(circuitFault(reply), true);
   else if (putText(reply.text)) tellDesk("Added the bank of this table: one column for each state. It is the same machine.");
 }
 
-// ---- played
+// ---- playing
 
-// The signal enters in a state, and goes through.
+// Lets the signal enter in a state and pass through.
 /** @type {(it: Behaviour, entry: Entry) => void} */
 function playEntry(it, entry) {
   if (!sameCircuit()) {
@@ -122,14 +122,14 @@ function playEntry(it, entry) {
   }
   playWord(it.states[entry.state - 1], [it.inputs[entry.input - 1]]);
 }
-// Lets the signal enter by one port after another, each time where it has left.
+// Lets the signal enter by one port after another.
 /** @type {(bars: string, ports: number[]) => Promise<void>} */
 export async function playWord(bars, ports) {
   pause();
   commit(entered(withBars(desk.drawing, /** @type {Bar[]} */ ([...bars])), ports[0]));
   running.playing = 1;
   for (const [k, port] of ports.entries()) {
-    // All of it is one change, which undo takes back.
+    // All of it is one change for undo.
     Object.assign(desk, {trail: [], turned: -1});
     showRun(entered(desk.drawing, port));
     tellDesk(`${ports.length > 1 ? `${k + 1} of ${ports.length}: in` : "In"} at ${placeName(port)} …`);
@@ -144,14 +144,14 @@ export async function playWord(bars, ports) {
   pause();
 }
 
-// ---- compared
+// ---- comparing
 
 async function compare() {
   const said = part("g-compared"), table = part("g-wanted").value, text = textOf(desk.drawing);
   part("g-playword").hidden = true;
   said.className = "";
   if (!text) return;
-  // The program says what is wrong with a table.
+  // The program checks the table.
   const judged = await answer(["realise", "1", "1"], table.endsWith("\n") ? table : `${table}\n`, {lane: LANES.design});
   if (judged.status !== STATUS.done) {
     said.textContent = circuitFault(judged);

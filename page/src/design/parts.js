@@ -1,5 +1,5 @@
-// The palette: one element, and groups to begin with, dragged onto the drawing, or clicked and put there with a second click;
-// and texts that are pasted, of configurations, or tables of which the program makes a bank.
+// The palette: an element and groups, which are dragged onto the canvas, or clicked and placed by a second click; saved parts; and pasted
+// configuration texts or tables, from which the program builds a bank.
 import {circuitFault, circuitText} from "../circuits.js";
 import {escaped} from "../state.js";
 import {LANES, STATUS} from "../answer.js";
@@ -13,7 +13,7 @@ import {pathOf, waysOf} from "./route.js";
 import {keepGroups, savedGroups} from "./saved.js";
 
 const PITCH = 7, MOST_ROWS = 30, MOST_GROUPS = 40;
-// A group of elements by their bars, wires as E.L E.L, and places.
+// A group of elements by their bars, wires as E.L E.L, and positions.
 /** @type {(bars: string, wires: string, at: number[][], ends?: string) => Group} */
 export function groupOf(bars, wires, at, ends = "0.w 0.e") {
   const targets = new Array(4 * bars.length).fill(-1);
@@ -26,14 +26,14 @@ export function groupOf(bars, wires, at, ends = "0.w 0.e") {
   const [start, end] = ends.split(" ").map(port);
   return {bars: /** @type {Bar[]} */ ([...bars]), targets, at, start, end};
 }
-// A column of so many rows, unmarked: docs/use/formats.md, Column and bank.
+// An unmarked column with this number of rows: docs/use/formats.md, Column and bank.
 /** @type {(rows: number) => Group} */
 export function column(rows) {
   const wires = [`${rows}.s ${rows}.s`, `${rows}.w 0.n`, `0.n ${rows}.e`];
   for (let k = 0; k < rows; k++) wires.push(`${k}.s ${k + 1}.n`, `${k + 1}.n ${k}.s`);
   return groupOf("V".repeat(rows + 1), wires.join(","), Array.from({length: rows + 1}, (_, k) => [0, k * PITCH]));
 }
-// A group has the key of a puzzle that it solves, where it does.
+// `puzzle` is the key of the puzzle that the group solves, if any.
 /** @type {{key: string, title: string, about: string, puzzle?: string, make: (rows: number) => Group}[]} */
 export const PARTS = [
   {key: "lying", title: "Lying", about: "a rotary element with its bar lying, west to east", make: () => oneElement("H")},
@@ -56,7 +56,7 @@ function small(group) {
   const wide = (right - left) * unit, high = (bottom - top) * unit;
   return `<svg aria-hidden="true" width="${Math.min(64, wide)}" height="${Math.min(52, high)}" viewBox="${left * unit} ${top * unit} ${wide} ${high}">${ways.map(way => `<path class="wire" d="${pathOf(way, unit)}"/>`).join("")}${boxes.join("")}</svg>`;
 }
-// At a puzzle a group can't be used that solves it, or whose own puzzle isn't solved yet.
+// During a puzzle, groups are locked that solve it, or whose own puzzle is not solved yet.
 /** @type {(box: HTMLElement, puzzle: string | null, solved: Record<string, number>) => void} */
 export function lockParts(box, puzzle, solved) {
   for (const tile of /** @type {NodeListOf<HTMLButtonElement>} */ (box.querySelectorAll("[data-group]"))) tile.disabled = puzzle !== null;
@@ -113,7 +113,7 @@ function takeTile(box, tile, own) {
   const group = () => it.make(Math.min(MOST_ROWS, Math.max(1, Number(/** @type {any} */ (box.querySelector("#g-rows")).value) || 1)));
   /** @type {{x: number, y: number, isMoved: boolean} | null} */
   let held = null;
-  // A click of the keyboard, which has no place, puts it into the middle.
+  // A click by the keyboard has no position: the group goes to the centre.
   tile.addEventListener("click", event => {
     if (event.detail === 0) putGroup(group(), undefined, it.title);
   });
@@ -170,7 +170,7 @@ async function paste(box, isInPlace) {
     deskChanged("view");
   } else putText(reply.text);
 }
-// Puts the circuit of a text that the program has judged beside what is drawn.
+// Adds the circuit of an accepted text beside the drawing.
 /** @type {(text: string) => boolean} */
 export function putText(text) {
   const it = drawingOf(text);

@@ -1,4 +1,4 @@
-// The puzzles: a list with what is solved, and a card of the one at hand. It is judged by the comparison with its table.
+// The panel Puzzles: the list, and the card of the current puzzle. An answer is checked by comparison with the puzzle's table.
 import {answer, LANES, STATUS} from "../answer.js";
 import {escaped} from "../state.js";
 import {counted} from "./acts.js";
@@ -20,7 +20,7 @@ const MORE = 2, STARS = 3;
 const starsOf = (it, elements) => "★".repeat(Math.max(1, STARS - Math.max(0, elements - it.most))).padEnd(STARS, "☆");
 /** @type {{box: HTMLElement, card: HTMLElement, parts: HTMLElement, at: Puzzle | null, solved: Record<string, number>, shown: string}} */
 const panel = /** @type {any} */ ({at: null, solved: {}, shown: ""});
-// In the box stands their list, on the card the one at hand; the parts are those that may be used for it.
+// `box` has the list, `card` the current puzzle; `parts` is the palette.
 /** @type {(box: HTMLElement, card: HTMLElement, parts: HTMLElement) => void} */
 export function makePuzzles(box, card, parts) {
   box.innerHTML = `<div id="g-puzzlelist"></div>${OWN_HTML}`;
@@ -59,7 +59,7 @@ export function beginAny(it) {
   showCard();
   deskChanged("run");
 }
-// What is asked for, in a table of words.
+// The goal as a table of words.
 /** @type {(it: Puzzle) => string} */
 function goalHtml(it) {
   const entries = entriesIn(it.table), states = Math.max(...entries.map(one => one.state));
@@ -113,7 +113,7 @@ async function search(it) {
   panel.shown = JSON.stringify(desk.drawing.targets);
   deskChanged("view");
 }
-// What stands against a solution, in words, and what plays it.
+// Checks the circuit and shows the result; a difference can be played.
 /** @type {(it: Puzzle) => Promise<void>} */
 async function check(it) {
   const said = /** @type {HTMLElement} */ (panel.card.querySelector("#g-puzzlesaid")), count = desk.drawing.bars.length;

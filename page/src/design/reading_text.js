@@ -1,4 +1,4 @@
-// A configuration text that the program has judged, as a drawing without places; of either version.
+// Reads a configuration text of either version, which the program has accepted, as a drawing without positions.
 import {readCircuit, readPlace} from "../texts.js";
 
 /** @type {(text: string, at?: number[][]) => Drawing} */
@@ -10,7 +10,7 @@ export function drawingOf(text, at = []) {
     place: readPlace(head[5][1]),
   };
 }
-// The same circuit in another configuration: bars, signal and steps of a text.
+// The same circuit with the bars, the signal and the steps of a text.
 /** @type {(it: Drawing, text: string) => Drawing} */
 export function stepped(it, text) {
   const other = drawingOf(text);

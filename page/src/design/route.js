@@ -1,15 +1,14 @@
-// How wires run: along the lines of the grid, around the boxes, with few bends and crossings, no two along one line. Each is
-// the cheapest way that is left when its turn comes, the short ones first; so a wire that was drawn stays where it is until
-// what it joins is moved, or something stands in its way.
+// Routes of wires: along the lines of the grid, around the boxes, with few bends and crossings, no two along one line. Each wire takes the
+// cheapest route that is left, short wires first. A wire keeps its route until its ends move or a box is placed on it.
 import {BOX} from "./drawing.js";
 
 const MARGIN = 14, FAR_MARGIN = 30;
 const AHEAD = 2, BEND = 7, CROSS = 7, NEAR = 2, TOUCH = 26, ALONG = 46;
-// The directions north, east, south, west, as the sides.
+// The directions north, east, south, west, in the order of the sides.
 const DX = [0, 1, 0, -1], DY = [-1, 0, 1, 0];
 const MOST_COST = 20000;
 
-// Where a port is on the edge of its box: who drives out of a side keeps right, so that boxes side by side are joined straight.
+// The position of a port on the edge of its box. Outputs are on the right, seen from the element, so neighbours are connected straight.
 /** @type {(at: number[], port: number, isOut: boolean) => number[]} */
 export function portAt([x, y], port, isOut) {
   const near = isOut ? 3 : 1, far = BOX - near;
@@ -21,7 +20,7 @@ const stubAt = (at, port, isOut) => {
   return [x + DX[port & 3], y + DY[port & 3]];
 };
 
-// The grid, with what stands and runs there.
+// The grid with its boxes and wires.
 class Ground {
   /** @param {Drawing} it @param {Way[]} ways */
   constructor(it, ways) {
@@ -32,7 +31,7 @@ class Ground {
     this.wide = greatest(xs) + BOX + margin - this.x + 1;
     this.high = greatest(ys) + BOX + margin - this.y + 1;
     const size = this.wide * this.high;
-    // Boxes; lines of the grid in use, from a point to the right and down; points that are passed, and where wires bend.
+    // Boxes; grid lines in use, to the right and down; points on wires; bends.
     const made = () => new Uint8Array(size);
     this.boxes = made();
     this.nears = made();
@@ -52,7 +51,7 @@ class Ground {
   }
   /** @type {(x: number, y: number) => number} */
   point(x, y) { return (y - this.y) * this.wide + x - this.x; }
-  // A wire is put there, or taken away.
+  // Adds a wire, or removes it.
   /** @type {(way: Way, by: number) => void} */
   put(way, by) {
     for (let k = 1; k < way.length; k++) {
@@ -63,7 +62,7 @@ class Ground {
       if (k > 1) this.bends[this.point(x, y)] += by;
     }
   }
-  // The cheapest way from one point to another, which leaves and arrives in these directions; null where there is none.
+  // The cheapest route between two points with the given directions at its ends, or null.
   /** @type {(from: number[], leaves: number, to: number[], arrives: number) => Way | null} */
   way(from, leaves, to, arrives) {
     const {wide, best, before} = this, goal = this.point(...pair(to)), start = this.point(...pair(from));
@@ -97,7 +96,7 @@ class Ground {
           if (nx < 0 || ny < 0 || nx >= wide || ny >= this.high || this.boxes[next]) continue;
           const isLevel = way & 1, line = isLevel ? this.rights : this.downs;
           let more = AHEAD + NEAR * this.nears[next] + ALONG * line[way === 1 || way === 2 ? at : next];
-          // A bend where another wire passes, and a way through another one's bend, would look like a joint.
+          // A bend on another wire, or a wire through a bend, would look like a joint.
           if (way !== came) more += BEND + TOUCH * (this.level[at] || this.upright[at] ? 1 : 0);
           more += TOUCH * (this.bends[next] ? 1 : 0) + CROSS * ((isLevel ? this.upright : this.level)[next] ? 1 : 0);
           reach(4 * next + way, best[key] + more, came);
@@ -122,14 +121,14 @@ const least = list => list.reduce((a, b) => Math.min(a, b), list[0] ?? 0);
 const greatest = list => list.reduce((a, b) => Math.max(a, b), list[0] ?? 0);
 /** @type {(list: number[]) => [number, number]} */
 const pair = ([x, y]) => [x, y];
-// The corners of a way alone.
+// Only the corners of a route.
 /** @type {(way: Way) => Way} */
 const corners = way => way.filter(([x, y], k) => {
   if (k === 0 || k === way.length - 1) return true;
   const [a, b] = way[k - 1], [c, d] = way[k + 1];
   return !(a === x && x === c || b === y && y === d);
 });
-// Where no way is left, for boxes that stand upon one another: straight over all.
+// If there is no route: straight over everything.
 /** @type {(from: number[], to: number[]) => Way} */
 const over = (from, to) => [from, [to[0], from[1]], to];
 
@@ -138,7 +137,7 @@ function reachOf(it, out) {
   const [x, y] = it.at[out >> 2], [a, b] = it.at[it.targets[out] >> 2];
   return Math.abs(a - x) + Math.abs(b - y);
 }
-// The way of each wire by its output. `old` has those of the drawing before, which are kept where they still lead right.
+// The route of each wire by its output. Routes of the previous drawing, `old`, are kept if they are still right.
 /** @type {(it: Drawing, old?: Map<number, Way>) => Map<number, Way>} */
 export function waysOf(it, old = new Map()) {
   const outs = [...it.targets.keys()].filter(out => it.targets[out] >= 0);
@@ -169,7 +168,7 @@ function oneWay(ground, it, out) {
   const ends = [portAt(from, out, true), portAt(to, into, false)];
   return way ? corners([ends[0], ...way, ends[1]]) : over(ends[0], ends[1]);
 }
-// Whether a box stands on a way, but for those at its two ends.
+// Whether a box is on a route, except at its ends.
 /** @type {(ground: Ground, way: Way) => boolean} */
 function isBarred(ground, way) {
   for (let k = 1; k < way.length; k++) {
@@ -181,7 +180,7 @@ function isBarred(ground, way) {
   }
   return false;
 }
-// The ways of wires that lead from one moved element to another, moved with them.
+// The routes, with those between moved elements moved along.
 /** @type {(ways: Map<number, Way>, it: Drawing, elements: Set<number>, by: number[]) => Map<number, Way>} */
 export function waysMoved(ways, it, elements, [dx, dy]) {
   return new Map([...ways].map(([out, way]) => elements.has(out >> 2) && elements.has(it.targets[out] >> 2)
@@ -190,7 +189,7 @@ export function waysMoved(ways, it, elements, [dx, dy]) {
 
 // ---- as a path
 
-// The path of a way, with round corners; a unit has so many pixels.
+// The SVG path of a route, with rounded corners; `unit` is in pixels.
 /** @type {(way: Way, unit: number, round?: number) => string} */
 export function pathOf(way, unit, round = .62) {
   const points = way.map(([x, y]) => [x * unit, y * unit]);

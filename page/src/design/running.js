@@ -1,4 +1,4 @@
-// The signal on its way: each step on or back is the program's, which gets the text of what is drawn and answers another one.
+// Runs: the program computes each step forward and back from the configuration text.
 import {answer, LANES, STATUS, stopLane} from "../answer.js";
 import {sideOf} from "../svg.js";
 import {placeName} from "../texts.js";
@@ -13,7 +13,7 @@ const MOST_TRAIL = 400, MOST_OUT = 1000000, MOST_SINGLE = 400;
 /** @type {{playing: number, pace: number, isFar: boolean, most: number, later: ReturnType<typeof setTimeout> | undefined}} */
 export const running = {playing: 0, pace: 420, isFar: false, most: 0, later: undefined};
 
-// What the program was asked, and how it answers what is drawn; a change meanwhile makes an answer one of the past.
+// Asks the program about the drawing; an answer is ignored if the drawing has changed meanwhile.
 /** @type {(words: any[]) => Promise<Drawing | null>} */
 async function asked(words) {
   const before = desk.drawing;
@@ -28,7 +28,7 @@ async function asked(words) {
 }
 /** @type {(before: Drawing, after: Drawing) => boolean} */
 const isSame = (before, after) => before.steps === after.steps;
-// The trail and what has turned, where the signal has gone from one place to the next.
+// Updates the trail and the element that turned last, after one step.
 /** @type {(before: Drawing, after: Drawing, direction: number) => void} */
 function mark(before, after, direction) {
   desk.turned = before.bars.findIndex((bar, k) => bar !== after.bars[k]);
@@ -39,7 +39,7 @@ function mark(before, after, direction) {
   if (before.steps === "0") Object.assign(desk, {began: before.bars, trail: []});
   if (!after.hasLeft) desk.trail = [...desk.trail, sourcesOf(after)[after.place]].slice(-MOST_TRAIL);
 }
-// A step on or back; whether there was one.
+// One step forward or back; returns whether there was one.
 /** @type {(direction: number) => Promise<boolean>} */
 export async function go(direction) {
   const before = desk.drawing, after = await asked([direction > 0 ? "step" : "back", "1"]);
@@ -48,7 +48,7 @@ export async function go(direction) {
   showRun(after);
   return true;
 }
-// A signal that has left enters again by the start, with the bars as they stand; whether it had left.
+// A signal that has left enters at the start again, with the present bars; returns whether it had left.
 function again() {
   const {drawing} = desk;
   if (!drawing.bars.length || !drawing.hasLeft) return false;
@@ -56,7 +56,7 @@ function again() {
   tellDesk(`The signal enters again at ${placeName(drawing.start)}, the start. The bars stay as they are.`);
   return true;
 }
-// On to where it leaves, or back to where it began.
+// To the exit, or back to the start.
 /** @type {(direction: number) => Promise<void>} */
 export async function far(direction) {
   pause();
@@ -72,7 +72,7 @@ export async function far(direction) {
     return;
   }
   const made = direction > 0 ? Number(after.steps) - Number(before.steps) : Infinity;
-  // The way is drawn where it isn't long: the same steps, one by one.
+  // If the path is not long, the same steps are made one by one to draw it.
   let at = before;
   if (before.steps === "0") Object.assign(desk, {began: before.bars, trail: []});
   for (let k = 0; made <= MOST_SINGLE && k < made; k++) {
@@ -125,7 +125,7 @@ export function stepOnce(direction) {
 /** @type {(direction: number) => Promise<any>} */
 export const goFar = direction => inTurn(() => far(direction));
 
-// To a step of the run so far.
+// Goes to a step of the run so far.
 /** @type {(step: number) => Promise<any>} */
 export function scrubTo(step) {
   pause();

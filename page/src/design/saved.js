@@ -1,5 +1,5 @@
-// A drawing as it is kept: its configuration text, which says nothing of places, and beside it where its elements stand.
-// As a file it is JSON that can be read, in a link it is deflated, and the browser keeps the last one where it keeps anything.
+// How a drawing is saved: the configuration text, which has no positions, and the positions beside it. A file is JSON, a link is deflated, and
+// the browser keeps the last drawing if it keeps anything.
 import {textOf} from "./drawing.js";
 
 const FORM = "hithwelor design 1", KEPT_AS = "hithwelor design", SOLVED_AS = "hithwelor puzzles", GROUPS_AS = "hithwelor groups";
@@ -7,7 +7,7 @@ const MOST_LINK = 400000;
 
 /** @type {(it: Drawing) => string} */
 export const fileOf = it => `${JSON.stringify({form: FORM, text: textOf(it), places: it.at}, null, 1).replace(/\n\s+(?=[-\d\]])/g, "")}\n`;
-// What stands in a file: its text, and the places where each element has one. A file that is a configuration text has none.
+// The content of a file: its text and its positions. A configuration text has no positions.
 /** @type {(given: string) => {text: string, places: number[][]}} */
 export function readFile(given) {
   try {
@@ -45,7 +45,7 @@ export async function unpacked(word) {
 }
 /** @type {(it: Drawing) => Promise<string>} */
 export const wordOf = it => packed(JSON.stringify([textOf(it), it.at.flat()]));
-// What a link's word says, or null where it says nothing.
+// The circuit of a link, or null.
 /** @type {(word: string) => Promise<{text: string, places: number[][]} | null>} */
 export async function readWord(word) {
   try {
@@ -85,7 +85,7 @@ export function savedGroups() {
 }
 /** @type {(groups: {title: string, group: Group}[]) => void} */
 export const keepGroups = groups => keep(GROUPS_AS, JSON.stringify(groups));
-// How many elements each puzzle was solved with.
+// The number of elements with which each puzzle was solved.
 /** @type {() => Record<string, number>} */
 export function solved() {
   try {

@@ -1,5 +1,5 @@
-// The configuration text of what is drawn. It is changed here too: the program judges what is typed, its fault stands at its
-// line, and what it takes becomes the drawing; elements that were there stay where they are.
+// The panel Text: the configuration text of the drawing, which can be edited. The program checks what is typed; an error is shown at its line,
+// and an accepted text becomes the drawing. Elements keep their positions.
 import {answer, LANES, STATUS} from "../answer.js";
 import {circuitFault} from "../circuits.js";
 import {commit, desk, deskChanged, tellDesk} from "./desk.js";
@@ -48,7 +48,7 @@ export function makeTextPanel(box) {
     box.hidden = false;
   };
 }
-// The text of what is drawn, where nothing else is being typed.
+// Shows the text of the drawing, unless another one is being typed.
 export function showText() {
   if (!panel.box || panel.isTyped && document.activeElement === part("g-text")) return;
   const text = textOf(desk.drawing), field = part("g-text");
@@ -61,7 +61,7 @@ export function showText() {
 function showLines() {
   const count = part("g-text").value.split("\n").length - Number(/\n$/.test(part("g-text").value)), lines = part("g-lines");
   if (lines.childElementCount !== count) lines.innerHTML = Array.from({length: count}, (_, k) => `<div>${k + 1}</div>`).join("");
-  // The lines of the head are six, and those of the elements follow.
+  // Six lines come before those of the elements.
   const chosen = panel.isTyped ? [] : [...desk.chosen].map(element => element + 7);
   const marked = new Map(/** @type {[number, string][]} */ ([...chosen.map(line => [line, "now"]), [panel.fault, "fault"]]));
   for (const line of lines.querySelectorAll("[class]")) if (!marked.has(Number(line.textContent))) line.removeAttribute("class");
@@ -92,7 +92,7 @@ async function take() {
   commit(placed(it, desk.drawing), {key: "text"});
   if (isNew) deskChanged("view");
 }
-// Elements that were there stay; a text that is another one is laid out, and what is more stands below.
+// Known elements keep their positions, new ones are placed below; a different circuit gets a new layout.
 /** @type {(it: Drawing, before?: Drawing) => Drawing} */
 export function placed(it, before = EMPTY) {
   const count = it.bars.length, {at} = before;
@@ -102,7 +102,7 @@ export function placed(it, before = EMPTY) {
   const more = Array.from({length: count - at.length}, (_, k) => [left + k % wide * (BOX + 4), low + Math.floor(k / wide) * (BOX + 4)]);
   return {...it, at: [...at, ...more]};
 }
-// Whether a drawing is another one, and no change of the one before: most elements or most wires are.
+// Whether a drawing is a different circuit: most of its elements or wires are new.
 /** @type {(it: Drawing, before: Drawing) => boolean} */
 function isOther(it, before) {
   const both = [...it.targets.keys()].filter(out => it.targets[out] >= 0 || before.targets[out] >= 0);
