@@ -104,7 +104,7 @@ def check_verdicts(page, program, draw, count):
             if status == 5:
                 right = [it, f"letter {said.split()[1]} is not in the table", "", "", ""]
             elif status == 12:
-                right = [it, "no answer: it runs on", "more than 100,000", "", ""]
+                right = [it, "no answer: the machine runs on", "more than 100,000", "", ""]
             else:
                 answer = answer_of(rest, accept, reject)
                 counts[answer] = counts.get(answer, 0) + 1
@@ -402,9 +402,9 @@ def check_changed(page, program, draw, count):
         settle(page)
         count.hold(text_shown(page) == texts[1], f"{name}: what was taken back isn't made again")
     refused = [
-        ("d-rename", "d-name", "Odd", "There is a state Odd already."),
+        ("d-rename", "d-name", "Odd", "State Odd already exists."),
         ("d-rename", "d-name", "", "Enter a name"),
-        ("d-change", "d-other", "1", "a letter of the table already"),
+        ("d-change", "d-other", "1", "already a letter of the table"),
         ("d-change", "d-other", ",", "Enter one character"),
     ]
     page.visit(f"file://{PAGE}{link(t=PARITY, w='1')}")
