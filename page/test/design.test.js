@@ -173,3 +173,20 @@ test("sources and targets say the same", () => {
   for (const [out, into] of it.targets.entries()) if (into >= 0) assert.equal(sources[into], out);
   assert.equal(sources.filter(out => out >= 0).length, it.targets.filter(into => into >= 0).length);
 });
+
+test("in the layout of 300 elements wires hardly ever share a line of the grid", () => {
+  let seed = 7;
+  const share = () => (seed = seed * 48271 % 2147483647) / 2147483647, count = 300, free = Array.from({length: 4 * count}, (_, k) => k).sort(() => share() - .5);
+  const start = free.pop(), targets = Array.from({length: 4 * count}, () => free.length && share() < .45 ? free.pop() : -1);
+  const it = {bars: new Array(count).fill("V"), targets, start, end: targets.indexOf(-1), place: start, hasLeft: false, steps: "0"};
+  const used = new Map(), ways = waysOf({...it, at: laidOut(it)});
+  for (const way of ways.values()) for (let k = 1; k < way.length; k++) {
+    const [[x, y], [a, b]] = [way[k - 1], way[k]], isLevel = y === b;
+    for (let n = Math.min(isLevel ? x : y, isLevel ? a : b); n < Math.max(isLevel ? x : y, isLevel ? a : b); n++) {
+      const key = isLevel ? `${n} ${y} -` : `${x} ${n} |`;
+      used.set(key, (used.get(key) ?? 0) + 1);
+    }
+  }
+  const shared = [...used.values()].filter(many => many > 1).length;
+  assert.ok(shared < used.size / 500, `${shared} of ${used.size} lines are shared`);
+});

@@ -7,7 +7,7 @@ import {BOX} from "./drawing.js";
 const ROW_GAP = 3, COLUMN_GAP = 8, TRIES = 160, MOST_TRIES = 60000, AWAY = 1.3;
 /** @type {number[][]} */
 const STEP = [[0, -1], [1, 0], [0, 1], [-1, 0]];
-const LEAST_GAP = 5, MOST_GAP = 9, GAP_BY_WIRES = 1.8;
+const LEAST_GAP = 5, MOST_GAP = 9, GAP_BY_WIRES = 1.8, CHANNEL = 4, CHANNEL_BY_WIRES = .3, MOST_CHANNEL = 12;
 // The distance between two elements, by the number of wires.
 /** @type {(it: {targets: number[]}) => number} */
 const gapOf = it => Math.max(LEAST_GAP, Math.min(MOST_GAP, Math.round(3 + GAP_BY_WIRES * 4 * it.targets.filter(into => into >= 0).length / it.targets.length)));
@@ -108,7 +108,24 @@ function laySingles(it, at, others, top) {
     const heat = 1.2 * (1 - k / tries) ** 2, after = pair.reduce((sum, element) => sum + cost(element), 0);
     if (after - before > heat * (draw(1000) / 1000)) exchange(a, b);
   }
-  for (const [slot, element] of held.entries()) if (element !== null) at[element] = [spot(slot)[0] * pitch, top + spot(slot)[1] * pitch];
+  const cells = new Map(/** @type {[number, number[]][]} */ ([...held.entries()].flatMap(([slot, element]) => element === null ? [] : [[element, spot(slot)]])));
+  const [lefts, tops] = [0, 1].map(axis => widened(it, cells, axis, axis ? high : wide));
+  for (const [element, [x, y]] of cells) at[element] = [lefts[x], top + tops[y]];
+}
+// Positions of the lines of elements along one axis. A channel between two lines is the wider, the more wires run along it: those that leave
+// or enter beside it and lead to another line of the other axis.
+/** @type {(it: {targets: number[]}, cells: Map<number, number[]>, axis: number, count: number) => number[]} */
+function widened(it, cells, axis, count) {
+  const loads = new Array(count + 1).fill(0);
+  for (const [out, into] of it.targets.entries()) {
+    const [from, to] = [cells.get(out >> 2), cells.get(into >> 2)];
+    if (into < 0 || !from || !to || from[1 - axis] === to[1 - axis]) continue;
+    // The channel beside the element that the wire leaves: before it on the north or west side, else behind it.
+    loads[from[axis] + (STEP[out & 3][axis] < 0 ? 0 : 1)]++;
+  }
+  const found = [0];
+  for (let k = 1; k < count; k++) found.push(found[k - 1] + BOX + Math.max(LEAST_GAP, Math.min(MOST_CHANNEL, Math.round(CHANNEL + CHANNEL_BY_WIRES * loads[k]))));
+  return found;
 }
 // Elements in the order in which wires lead from the start, then the rest.
 /** @type {(it: {targets: number[], start: number}, others: number[]) => number[]} */
