@@ -89,7 +89,7 @@ def check_undone(page, text, count):
     settle(page, 350)
     said = page.ask(VERDICT)
     count.hold(
-        text_shown(page) == text and turned != text and "Read it so" in said,
+        text_shown(page) == text and turned != text and "Read it" in said,
         f"undone, the editor has {text_shown(page)[:60]!r}, and it says {said[:80]!r}",
     )
     comes(
@@ -128,7 +128,7 @@ def check_typed(page, listed, count):
         page.call("Input.insertText", text=letter)
     settle(page, 450)
     count.hold(
-        text_shown(page) == "q0 1 1 R q0" and "Turn it so" in page.ask(VERDICT),
+        text_shown(page) == "q0 1 1 R q0" and "Convert" in page.ask(VERDICT),
         f"typed, the editor has {text_shown(page)!r}, and it says {page.ask(VERDICT)[:90]!r}",
     )
     set_value(page, "table", "S,_,_,+,Go")

@@ -288,7 +288,7 @@ const HELP = [
   ["drag a box · the background", "move the selection · select; with Alt or the middle button, pan"],
   ["Tab, Shift Tab · Enter, Esc", "next or previous element · to its ports and back"],
   ["W, then n e s w · Tab · n e s w", "start a wire at this side · go to the target element · end the wire at that side"],
-  ["Space · R · arrows · Delete", "turn the bar · rotate · move (with Shift: by less) · delete"],
+  ["Space or B · R · arrows · Delete", "turn the bar · rotate · move (with Shift: by less) · delete"],
   ["T", "route all wires again"],
   ["I", "let the signal enter here, at the next free input"],
   [". , · P, Shift P · Home, End", "step forward, back · play forward, backward · to the start, to the exit"],

@@ -70,7 +70,7 @@ const COMMANDS = {
 };
 /** @type {Record<string, () => any>} */
 const KEYS = {
-  Delete: remove, Backspace: remove, r: rotateChosen, t: tidy, "+": () => zoomBy(ZOOM), "=": () => zoomBy(ZOOM), "-": () => zoomBy(1 / ZOOM), 0: () => fit(),
+  b: () => onSpace(), Delete: remove, Backspace: remove, r: rotateChosen, t: tidy, "+": () => zoomBy(ZOOM), "=": () => zoomBy(ZOOM), "-": () => zoomBy(1 / ZOOM), 0: () => fit(),
   ".": () => stepOnce(1), ",": () => stepOnce(-1), p: () => play(1), P: () => play(-1), ">": () => goFar(1), "<": () => goFar(-1),
   End: () => goFar(1), Home: () => goFar(-1),
 };

@@ -13,9 +13,10 @@ import {entered, textOf, withBars} from "./drawing.js";
 import {putText} from "./parts.js";
 import {go, pause, running} from "./running.js";
 
-const MOST_ACROSS = 6;
-/** @type {{box: HTMLElement, found: Behaviour | null, text: string, isStopped: boolean, isAsking: boolean}} */
-const panel = /** @type {any} */ ({found: null, text: "", isStopped: false, isAsking: false});
+// Up to how many ports the table is a grid; and how many milliseconds a table takes that is always up to date.
+const MOST_ACROSS = 6, QUICK = 100;
+/** @type {{box: HTMLElement, found: Behaviour | null, text: string, isStopped: boolean, isAsking: boolean, isQuick: boolean}} */
+const panel = /** @type {any} */ ({found: null, text: "", isStopped: false, isAsking: false, isQuick: false});
 /** @type {(id: string) => any} */
 const part = id => panel.box.querySelector(`#${id}`);
 
@@ -45,7 +46,10 @@ export function forgetMachine() {
   if (!found) return;
   const isOther = !sameCircuit();
   part("g-table").classList.toggle("stale", isOther);
-  if (isOther) part("g-found").textContent = "The circuit has changed; find its table again.";
+  if (!isOther) return;
+  part("g-found").textContent = "The circuit has changed; find its table again.";
+  // While the panel is visible, a table that is found quickly follows the drawing.
+  if (panel.isQuick && desk.drawing.bars.length && part("g-table").offsetParent) find();
 }
 const circuitKey = () => JSON.stringify(desk.drawing.targets);
 const sameCircuit = () => panel.text === circuitKey();
@@ -53,6 +57,7 @@ const sameCircuit = () => panel.text === circuitKey();
 async function find() {
   const text = textOf(desk.drawing);
   if (!text) return;
+  const began = performance.now();
   Object.assign(panel, {isStopped: false, isAsking: true, text: circuitKey()});
   part("g-stopfind").hidden = false;
   try {
@@ -61,8 +66,9 @@ async function find() {
   } catch (fault) {
     part("g-found").textContent = `Not found: ${fault instanceof Error ? fault.message : fault}`;
   }
-  panel.isAsking = false;
+  Object.assign(panel, {isAsking: false, isQuick: performance.now() - began < QUICK});
   part("g-stopfind").hidden = true;
+  forgetMachine();
 }
 /** @type {(it: Behaviour) => void} */
 function showFound(it) {
