@@ -3,7 +3,7 @@ import {editorText, renderLines} from "./editor.js";
 import {EXAMPLES} from "./examples.js";
 import {openFile} from "./files.js";
 import {on} from "./listen.js";
-import {asPasted} from "./judging.js";
+import {asPasted, pasted} from "./judging.js";
 import {changed, OWN_WORDS, showOutcome, takeMachine, typed} from "./machine.js";
 import {redraw} from "./notices.js";
 import {keepPast, takeBack} from "./past.js";
@@ -17,7 +17,11 @@ const PASTES = new Set(["insertFromPaste", "insertFromDrop", "insertFromYank"]),
 
 export function onMachine() {
   on("table", "input", event => takeTyped(/** @type {InputEvent} */ (event)));
-  on("table", "paste", event => takeLong(event, event.clipboardData?.getData("text")));
+  on("table", "paste", event => {
+    const text = event.clipboardData?.getData("text");
+    keepPart(text);
+    takeLong(event, text);
+  });
   on("table", "drop", event => takeLong(event, event.dataTransfer?.getData("text")));
   on("table", "scroll", () => { byId("lines").scrollTop = byId("table").scrollTop; });
   on("word", "input", () => { keepPast(true); state.word = byId("word").value.trim(); typed(); });
@@ -37,6 +41,12 @@ export function onMachine() {
   };
   document.addEventListener("keydown", onChangeKey);
 }
+// Several lines that are pasted into another table may be meant to replace it.
+/** @param {string | undefined} text */
+function keepPart(text) {
+  const {value, selectionStart, selectionEnd} = byId("table"), isAll = selectionEnd - selectionStart >= value.trim().length;
+  pasted.part = text && value.trim() && !isAll && text.trim().includes("\n") ? text : null;
+}
 /** @param {InputEvent} event */
 function takeTyped({inputType, data}) {
   const more = byId("table").value.length - state.text.length;
@@ -44,6 +54,7 @@ function takeTyped({inputType, data}) {
   keepPast(true);
   Object.assign(state, {text: byId("table").value, example: ""});
   if (isWhole) asPasted();
+  if (!PASTES.has(inputType)) pasted.part = null;
   byId("examples").value = "";
   if (taskAtHand() === null) byId("about").textContent = OWN_WORDS;
   if (isTooLong()) editorText();

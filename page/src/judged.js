@@ -41,6 +41,14 @@ export function showFault({fault, also, lines = [], turn, standard, blanks = [],
   for (const it of blanks.slice(0, MOST_BLANKS)) {
     addButton(`${it} is the blank`, "", () => { state.blank = it; turnTo(turned(state.text, it, state.names)); });
   }
+  const {part} = pasted;
+  if (part !== null && state.text !== part) addButton("Replace the table by the pasted text", "main", () => {
+    keepPast();
+    Object.assign(state, {text: part, example: ""});
+    pasted.part = null;
+    asPasted();
+    acts.changed(0);
+  });
   if (read) addButton("Read it", "main", () => { asPasted(); acts.typed(0); }).title = "the page can read this notation";
   if (isLong) addButton("Clear", "", () => { keepPast(); state.text = ""; acts.changed(0); });
   if (again) addButton("Try it again", "main", () => acts.typed(0, state.e));

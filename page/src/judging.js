@@ -7,8 +7,8 @@ import {number} from "./words.js";
 
 // The text that came as a whole, and is to be read in whatever notation it is; and the one that was made of it, with what stood
 // there before.
-/** @type {{text: string | null, made: {text: string, reading: Reading, before: Partial<Typed>} | null}} */
-export const pasted = {text: null, made: null};
+/** @type {{text: string | null, part: string | null, made: {text: string, reading: Reading, before: Partial<Typed>} | null}} */
+export const pasted = {text: null, made: null, part: null};
 
 // What stands there came as a whole: it is read in any notation, once.
 export function asPasted() {

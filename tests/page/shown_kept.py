@@ -104,6 +104,26 @@ def paste_long(page, text):
     )
 
 
+def check_replaced(page, count):
+    """A table that is pasted into another one may be meant to replace it: a button does so, and undo restores the other."""
+    page.visit(f"file://{PAGE}#m=least")
+    page.ask("(it => { it.focus(); it.setSelectionRange(0, 0); })(document.getElementById('table')); 0")
+    paste_long(page, json.dumps(INCREMENT))
+    page.ask(f"document.execCommand('insertText', false, {json.dumps(INCREMENT)}); 0")
+    page.ask(
+        "document.getElementById('table').dispatchEvent(new InputEvent('input', {inputType: 'insertFromPaste', data: null})); 0"
+    )
+    button = (
+        "[...document.querySelectorAll('#verdict button')].find(it => it.textContent.startsWith('Replace the table'))"
+    )
+    count.hold(comes(page, f"Boolean({button})"), "a table that is pasted into another one is not offered in its place")
+    page.ask(f"{button}.click(); 0")
+    shown = "document.getElementById('table').value"
+    count.hold(comes(page, f"{shown} === {json.dumps(INCREMENT)}"), f"replaced, the table is {page.ask(shown)[:60]!r}")
+    page.ask("document.getElementById('undo').click(); 0")
+    count.hold(comes(page, f"{shown}.endsWith('T,_,_,0,F\\n')"), f"undone, the table is {page.ask(shown)[:60]!r}")
+
+
 def check_too_long(page, count):
     """A million characters are pasted: the verdict comes, with a word that they are too many, and nothing stands still."""
     said, box = "document.getElementById('verdict').textContent", "document.getElementById('table')"
@@ -151,5 +171,5 @@ def check_too_long(page, count):
 
 
 def check_kept(page, count):
-    for check in (check_reload, check_back, check_sought, check_end, check_too_long):
+    for check in (check_reload, check_back, check_sought, check_end, check_replaced, check_too_long):
         check(page, count)
