@@ -15,6 +15,8 @@ const WALK = 6, BEFORE = 2, MOST_TRIES = 14;
 // How many places a piece has at most; how many symbols a picture is drawn of; up to which step a circuit is run element by element.
 const MOST_PIECE = 65536, PICTURE_SYMBOLS = 5e5, MOST_STEPPED = 5e7;
 
+// At which shares of a run it is surveyed.
+const SURVEY = 8, SURVEYED = [4, 2, 6, 1, 3, 5, 7];
 /** @typedef {{time: number, e: number}} Knot */
 
 export class LongRun extends Run {
@@ -45,6 +47,19 @@ export class LongRun extends Run {
     });
     this.weights = weightsOf(this);
     this.learn([{time: 0, e: 0}, {time: this.moments.length - 1, e: this.end}]);
+  }
+  async open() {
+    await super.open();
+    this.survey().catch(() => {});
+    return this;
+  }
+  // Looks at some steps over the run while nobody asks, so that what is estimated between them is near.
+  async survey() {
+    for (const k of SURVEYED) {
+      if (current.run && current.run !== this) return;
+      const seen = await this.viewAt({time: NaN, e: Math.round(this.end * k / SURVEY)}, LANES.ahead);
+      if (seen) this.learn([seen]);
+    }
   }
   // All moments are there.
   async askMoments() { return true; }
@@ -124,10 +139,10 @@ export class LongRun extends Run {
     return {time: NaN, e: this.between(before, after, time)};
   }
   // The time of an element step: within a moment, of which `view` tells.
-  /** @type {(at: Knot) => Promise<Knot | null>} */
-  async viewAt(at) {
+  /** @type {(at: Knot, lane?: number) => Promise<Knot | null>} */
+  async viewAt(at, lane = LANES.now) {
     if (!Number.isNaN(at.time)) return at;
-    const reply = await answer(["view", ...this.words, at.e], this.table);
+    const reply = await answer(["view", ...this.words, at.e], this.table, {lane});
     if (reply.status !== STATUS.done) return null;
     const q = this.momentOf(readView(reply.text.split("\n"), 0), this.momentIndex(at.e));
     return q < 0 ? null : {time: q + .5, e: at.e};

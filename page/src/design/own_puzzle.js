@@ -38,7 +38,7 @@ export async function readPuzzle(word) {
 
 /** @type {(title: string) => string} */
 const field = title => `<label>${title} <input data-own="${title.toLowerCase().split(" ")[0]}" autocomplete="off"></label>`;
-export const OWN_HTML = `<details id="g-own"><summary>Make a puzzle</summary>
+export const OWN_HTML = `<details id="g-own" aria-label="Make a puzzle"><summary>Make a puzzle</summary>
   <p class="quiet">The goal is a table: state, port in, next state, port out.</p>
   ${["Title", "Task", "Hint", "Inputs (names with commas)", "Outputs (names with commas)"].map(field).join("")}
   <textarea id="g-owntable" rows="5" spellcheck="false" aria-label="the table of the puzzle"></textarea>
