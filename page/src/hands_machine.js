@@ -6,6 +6,7 @@ import {on} from "./listen.js";
 import {asPasted, pasted} from "./judging.js";
 import {changed, OWN_WORDS, showOutcome, takeMachine, typed} from "./machine.js";
 import {redraw} from "./notices.js";
+import {NONE} from "./machines.js";
 import {keepPast, takeBack} from "./past.js";
 import {pause} from "./play.js";
 import {taskAtHand} from "./sheet.js";
@@ -81,7 +82,7 @@ async function takeFile() {
   try {
     takeMachine({word: state.word, ...openFile(file.name, await file.text())});
   } catch (fault) {
-    toast(String(/** @type {Error} */ (fault).message));
+    toast(String(/** @type {Error} */ (fault).message).replace(NONE, "Format not recognised"));
   }
 }
 // The last change of the machine, taken back or made again.
