@@ -70,7 +70,8 @@ export function placeHint() {
   const it = document.querySelector(HINTS[shownHint].at);
   if (!it) return;
   const place = it.getBoundingClientRect();
-  if (place.top < 0 || place.bottom > innerHeight) it.scrollIntoView({block: "center"});
+  // The first hint leaves the page where it is: on a phone the machine comes first.
+  if (shownHint > 0 && (place.top < 0 || place.bottom > innerHeight)) it.scrollIntoView({block: "center"});
   const target = it.getBoundingClientRect(), {width, height} = box.getBoundingClientRect();
   const left = Math.max(HINT_GAP, Math.min(innerWidth - width - HINT_GAP, target.left));
   const above = Math.min(innerHeight, byId("time").getBoundingClientRect().top, target.top > innerHeight / 2 ? target.top : Infinity) - height - HINT_GAP;

@@ -103,6 +103,34 @@ def check_still(page, count):
             count.hold(not cut, f"{width} wide, {layer}: cut off is {cut[:2]}")
 
 
+def check_keys(page, count):
+    """By the keyboard alone: details of a state and of an element, and a module of the map that is opened and left again."""
+    size(page, 1280, 800)
+    page.visit(f"file://{PAGE}#m=increment&e=700000")
+    comes(page, "document.querySelector('#bank .element.now') !== null")
+    where = "document.getElementById('where').innerText"
+    before = page.ask(where)
+    page.ask("document.querySelector('#diagram [data-state=Go]').focus(); 0")
+    page.strike("Enter", 13, "\r")
+    count.hold(comes(page, f"{LENS}.includes('State Go')"), f"Enter on a state shows {page.ask(LENS)[:90]!r}")
+    page.strike("Escape", 27)
+    page.ask("document.getElementById('map').focus(); 0")
+    page.strike("ArrowRight", 39)
+    count.hold(comes(page, f"{where}.startsWith('Work tape, cell ')"), f"→ in the map opens {page.ask(where)!r}")
+    page.strike("ArrowDown", 40)
+    count.hold(comes(page, f"{where}.startsWith('History tape, cell 0')"), f"↓ in the map opens {page.ask(where)!r}")
+    bars = page.ask("document.querySelectorAll('#bank [data-element]').length")
+    count.hold(bars > 10, f"a module that is opened shows {bars} elements")
+    page.strike("Escape", 27)
+    count.hold(comes(page, f"{where} === {json.dumps(before)}"), f"Escape in the map leads to {page.ask(where)!r}")
+    press(page, "#map [data-bank]")
+    count.hold(comes(page, f"{where}.startsWith('Control')"), f"a click in the map opens {page.ask(where)!r}")
+    page.ask("document.getElementById('bank').focus(); 0")
+    page.strike("Enter", 13, "\r")
+    count.hold(comes(page, f"{LENS}.includes('Element ')"), f"Enter in a module shows {page.ask(LENS)[:90]!r}")
+    page.strike("Escape", 27)
+
+
 def check_lens(page, count):
     size(page, 1280, 800)
     page.visit(f"file://{PAGE}#m=increment&e=700000")
@@ -277,7 +305,16 @@ def check_reached(page, count):
 
 
 def check_glance(page, program, count):
-    for check in (check_sizes, check_still, check_lens, check_marked, check_diagram, check_large, check_reached):
+    for check in (
+        check_sizes,
+        check_still,
+        check_lens,
+        check_keys,
+        check_marked,
+        check_diagram,
+        check_large,
+        check_reached,
+    ):
         check(page, count)
     size(page, 1680, 1050)
     count.hold(not page.faults(), f"{page.faults()}")
