@@ -220,7 +220,7 @@ export function giveUp() {
     stale(true);
     return;
   }
-  run.lacking = "Stopped. There is no circuit.";
+  run.lacking = "Stopped: there is no circuit.";
   settleEarly();
 }
 export function showOutcome() {

@@ -144,8 +144,8 @@ def check_cut_elsewhere(page, program, count):
     page.ask(
         "document.getElementById('workshop').close(); bench.beginTask(6); document.getElementById('taskcheck').click(); 0"
     )
-    said = comes_to(page, "document.getElementById('tasksaid').textContent", "Not judged")
-    count.hold(said.startswith("Not judged. There was no memory"), f"an exercise that can't be judged says {said!r}")
+    said = comes_to(page, "document.getElementById('tasksaid').textContent", "Not checked")
+    count.hold(said.startswith("Not checked. There was no memory"), f"an exercise that can't be judged says {said!r}")
     page.ask("document.getElementById('taskend').click(); 0")
     page.call("Page.removeScriptToEvaluateOnNewDocument", identifier=script)
 
