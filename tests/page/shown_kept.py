@@ -109,9 +109,9 @@ def check_replaced(page, count):
     page.visit(f"file://{PAGE}#m=least")
     page.ask("(it => { it.focus(); it.setSelectionRange(0, 0); })(document.getElementById('table')); 0")
     paste_long(page, json.dumps(INCREMENT))
-    page.ask(f"document.execCommand('insertText', false, {json.dumps(INCREMENT)}); 0")
     page.ask(
-        "document.getElementById('table').dispatchEvent(new InputEvent('input', {inputType: 'insertFromPaste', data: null})); 0"
+        f"(it => {{ it.value = {json.dumps(INCREMENT)} + it.value; it.dispatchEvent(new InputEvent('input', {{inputType: 'insertFromPaste', data: null}})); }})"
+        "(document.getElementById('table')); 0"
     )
     button = (
         "[...document.querySelectorAll('#verdict button')].find(it => it.textContent.startsWith('Replace the table'))"
