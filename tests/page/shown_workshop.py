@@ -82,10 +82,10 @@ def check_mirror(page, program, count):
                 f"mirror of {name}, step {k}: the bars {seen}, and not {bars(right)}",
             )
             count.hold(
-                "bars stand as the circuit's stood" in said(page, "m-said"),
+                "its bars are those of the circuit" in said(page, "m-said"),
                 f"mirror of {name}, step {k}: {said(page, 'm-said')}",
             )
-        count.hold("All is undone" in said(page, "m-said"), f"mirror of {name}: {said(page, 'm-said')}")
+        count.hold("Everything is undone" in said(page, "m-said"), f"mirror of {name}: {said(page, 'm-said')}")
 
 
 def check_farm(page, program, count):
@@ -113,7 +113,10 @@ def check_farm(page, program, count):
         f"two boards, undone: {said(page, 'f-said')}",
     )
     fill(page, "farm", f_schedule="+ 3 1\n")
-    count.hold("no such board" in said(page, "f-fault"), f"a schedule of a third board: {said(page, 'f-fault')!r}")
+    count.hold(
+        "this circuit does not exist" in said(page, "f-fault"),
+        f"a schedule of a third board: {said(page, 'f-fault')!r}",
+    )
 
 
 def check_erase(page, program, count):
@@ -214,7 +217,7 @@ def check_reversible(page, program, count):
         given = said(page, "r-circuit")
         numbers = [f"{int(driven[at].split()[-1]):,}" for at in (0, 2, 3)]
         count.hold(
-            driven[1] == "exit end" and all(it in given for it in numbers) and "show the tapes" in given,
+            driven[1] == "exit end" and all(it in given for it in numbers) and "show the final tapes" in given,
             f"{name}: the circuit's words are {given}, and the program says {driven}",
         )
     for at in range(4):
@@ -227,7 +230,7 @@ def check_reversible(page, program, count):
             f"the machine {at} to begin with: {said(page, 'r-fault')} {said(page, 'r-said')}",
         )
     fill(page, "reversible", r_table=text_of("examples", "irreversible.csv"), r_word1="")
-    count.hold("alike" in said(page, "r-fault"), f"a table that isn't reversible: {said(page, 'r-fault')!r}")
+    count.hold("overlap in" in said(page, "r-fault"), f"a table that isn't reversible: {said(page, 'r-fault')!r}")
 
 
 def check_plan(page, program, count):
