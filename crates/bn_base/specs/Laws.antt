@@ -1,4 +1,4 @@
--- The laws of this crate, a named field each. `Laws` is the contract of `number_laws`.
+-- The laws of this crate, a named field each. `Laws` is the contract of `base_laws`.
 use Rattle.bn_base.specs.CutLaws.{CutsAreOne, CutsAreNotUncut, CutsOrNot}
 use Rattle.bn_base.specs.Line.{LinesAgree, CutLinesDiffer}
 use Rattle.bn_base.specs.Number.{WhatIsReadIsSpelled, WhatIsSpelledIsRead, SpellingsDiffer}

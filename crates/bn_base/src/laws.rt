@@ -2,6 +2,6 @@
 ghost use Rattle.bn_base.specs.Laws.{Laws};
 
 /// The laws of this crate, a named field each.
-pub fn number_laws()
+pub fn base_laws()
     ensures { Laws }
 {}

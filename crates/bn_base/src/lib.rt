@@ -9,7 +9,7 @@ mod numbers;
 
 pub use bn_lists::NoMemory;
 pub use cut::cut_input;
-pub use laws::number_laws;
+pub use laws::base_laws;
 pub use limits::MOST_COUNT;
 pub use lines::{Lines, NextLine};
 pub use numbers::{Digits, GREATEST, push_u64, read_u64};

@@ -17,7 +17,7 @@ use Rattle.bn_quad.specs.declared.quad.Quad.{Quad}
 use Rattle.bn_bennett_laws.proofs.MembershipLemmas.{in_map}
 use Rattle.bn_bennett_laws.specs.Laws.{ListCountsNames, ListHasLength, ListIsInRange, NumbersPassTests}
 use Rattle.bn_bennett_laws.specs.Names.{states_in}
-use Rattle.bn_standard.specs.Standard.{IsStandard}
+use Rattle.bn_machine.specs.Standard.{IsStandard}
 use Rattle.bn_table.specs.Rows.{FitsTable}
 use Rattle.bn_bennett.specs.Translation.{IsTranslation, is_same, translation_of}
 use Rattle.bn_bennett.proofs.Counting.{each_mentioned, numbers_states}

@@ -2,6 +2,6 @@
 ghost use Rattle.bn_bennett.specs.Laws.{Laws};
 
 /// Laws on the machine of a translation, a named field each.
-pub fn translation_laws()
+pub fn bennett_translation_laws()
     ensures { Laws }
 {}

@@ -3,7 +3,7 @@ use Rattle.std.specs.Prelude.{◌≡◌, ◌≢◌, ℕ, ◌-◌, ◌<◌, List,
 use Rattle.std.proofs.Common.{sym, ◌∙◌, arith, inl}
 use Rattle.bn_machine.specs.Machine.{Program, final_of}
 use Rattle.bn_machine.specs.declared.quint.Quint.{Quint}
-use Rattle.bn_standard.specs.Standard.{IsStandard, IsUnambiguous, HasLoneFinal}
+use Rattle.bn_machine.specs.Standard.{IsStandard, IsUnambiguous, HasLoneFinal}
 use Rattle.bn_quad.specs.Quadruples.{Rule}
 use Rattle.bn_quad.specs.Overlap.{OverlapsInDomain, OverlapsInRange, IsDeterministic, IsReversible}
 use Rattle.bn_bennett_laws.proofs.MembershipLemmas.{each_of_one, each_of_two}

@@ -5,7 +5,7 @@ use Rattle.std.proofs.lemmas.Bool.Decides.{eqb_tells}
 use Rattle.bn_machine.specs.Machine.{Program, start_of, final_of}
 use Rattle.bn_lists.specs.Lists.{nth, IsIn}
 use Rattle.bn_machine.specs.declared.quint.Quint.{Quint}
-use Rattle.bn_standard.specs.Standard.{IsStandard}
+use Rattle.bn_machine.specs.Standard.{IsStandard}
 use Rattle.bn_quad.specs.Quadruples.{Deed, Rewrite, Move, Rule}
 use Rattle.bn_quad.specs.Overlap.{IsAlike, HaveSameTapes, IsSilent, HasNoClash}
 use Rattle.bn_quad.specs.declared.clash.Clash.TheVariants.{Reads, Writes}

@@ -9,7 +9,7 @@ use Rattle.bn_machine.specs.Machine.{Program, program_of, Moment, GoesBy, IsFina
 use Rattle.bn_lists.specs.Lists.{nth, IsIn}
 use Rattle.bn_machine.specs.Run.{After, Follows, IsOutput}
 use Rattle.bn_machine.specs.Outcome.{Limits, Outcome, HasOutcome, Outside}
-use Rattle.bn_standard.specs.Standard.{IsStandard}
+use Rattle.bn_machine.specs.Standard.{IsStandard}
 use Rattle.bn_quad.specs.Quadruples.{Rewrite, Move, Rule, Configuration, Quadruples, QuadruplesRunTo, Rooms, everywhere}
 use Rattle.bn_quad.specs.Quadruples.{deeds_of, AreDeedsInRange, initial_of, final_state_of}
 use Rattle.bn_quad.specs.Overlap.{IsDeterministic, IsReversible, IsUniform}

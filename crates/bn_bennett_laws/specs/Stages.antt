@@ -10,7 +10,7 @@ use Rattle.bn_machine.specs.declared.quint.Quint.{Quint}
 use Rattle.bn_machine.specs.declared.quint.Shift.TheVariants.{Right}
 use Rattle.bn_machine.specs.declared.quint.Side.{Side}
 use Rattle.bn_machine.specs.declared.quint.Side.TheVariants as side
-use Rattle.bn_standard.specs.Standard.{IsStandard}
+use Rattle.bn_machine.specs.Standard.{IsStandard}
 use Rattle.bn_quad.specs.Quadruples.{Configuration, Rooms}
 use Rattle.bn_bennett_laws.specs.List.{bennett, final_name}
 use Rattle.bn_bennett_laws.specs.Steps.{Steps, Exit, Finished, Stopped, Leaving, HasExit, HasNoFirstRead}

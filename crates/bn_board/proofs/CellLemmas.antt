@@ -7,7 +7,7 @@ use Rattle.std.proofs.lemmas.List.FromFn.{length-range_with_len, get_or-range_wi
 use Rattle.std.proofs.lemmas.Option.{same_Some, slice_get_within, slice_get-get_or}
 use Rattle.std.proofs.Math.Nat.{mul-le-mul_right}
 use Rattle.bn_realise.specs.Banks.{column_at}
-use Rattle.bn_board_spec.proofs.FirstLemmas.{position_at}
+use Rattle.bn_boards.proofs.FirstLemmas.{position_at}
 use Rattle.bn_board.proofs.MomentLemmas.{position_never}
 
 -- the bottom of a column is in the bank

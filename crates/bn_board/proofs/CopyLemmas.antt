@@ -5,7 +5,7 @@ use Rattle.std.proofs.Common.{zero, suc, arith, sym, ap, ◌∙◌, append-nil, 
 use Rattle.bn_element.specs.Tables.{Table}
 use Rattle.bn_element.specs.Rotary.{horizontal, vertical}
 use Rattle.bn_realise.specs.Banks.{bottom_at}
-use Rattle.bn_board_spec.specs.Boards.{bars_of, size_of}
+use Rattle.bn_boards.specs.Boards.{bars_of, size_of}
 
 -- one item more
 pub take_next : {X : Type 0} (xs : List X) (n : ℕ) (x : X) → slice_get xs n ≡ Some x

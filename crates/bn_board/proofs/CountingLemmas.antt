@@ -13,12 +13,12 @@ use Rattle.bn_circuits.specs.declared.place.Place.{Place}
 use Rattle.bn_circuits.specs.declared.place.Place.TheVariants.{Enter, Left}
 use Rattle.bn_circuits.specs.declared.config.Config.{Config}
 use Rattle.bn_circuits.proofs.CountingLemmas.{tally-zero, tallies-add, one_low as at_most_one}
-use Rattle.bn_net.specs.Watching.{Hears}
-use Rattle.bn_net.specs.Walking.{HasWalked}
-use Rattle.bn_net.proofs.WalkLemmas.{hears-joins, walk_starts, walk_ends}
-use Rattle.bn_net.specs.RotaryNets.{rotary_circuit}
-use Rattle.bn_board_spec.specs.Layouts.{Layout, is_moment, moment_at, first_element, symbol_count_at}
-use Rattle.bn_board_spec.proofs.FirstLemmas.{below, not_below}
+use Rattle.bn_circuits.specs.Watching.{Hears}
+use Rattle.bn_circuits.specs.Walking.{HasWalked}
+use Rattle.bn_circuits.proofs.WalkLemmas.{hears-joins, walk_starts, walk_ends}
+use Rattle.bn_circuits.specs.RotaryNets.{rotary_circuit}
+use Rattle.bn_boards.specs.Layouts.{Layout, is_moment, moment_at, first_element, symbol_count_at}
+use Rattle.bn_boards.proofs.FirstLemmas.{below, not_below}
 use Rattle.bn_element.specs.Rotary.{west}
 use Rattle.std.proofs.lemmas.Bool.Decides.{eqb_tells}
 use Rattle.bn_packed.specs.Stopping.{PassesBy, passes_by}

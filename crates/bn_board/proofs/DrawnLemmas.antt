@@ -5,16 +5,16 @@ use Rattle.std.proofs.Common.{zero, suc, sym, subst}
 use Rattle.bn_circuits.specs.Circuits.{line_at, target}
 use Rattle.bn_circuits.specs.declared.line.Line.{Line}
 use Rattle.bn_circuits.specs.declared.line.Wire.{Wire}
-use Rattle.bn_net.specs.Parts.{Parts}
-use Rattle.bn_net.specs.Wirings.{AreApart, AreFitting, AreWiresOf}
-use Rattle.bn_net.proofs.WiringsLemmas.{apart-wire}
+use Rattle.bn_circuits.specs.Parts.{Parts}
+use Rattle.bn_circuits.specs.Wirings.{AreApart, AreFitting, AreWiresOf}
+use Rattle.bn_circuits.proofs.WiringsLemmas.{apart-wire}
 use Rattle.bn_packed.specs.Drafts.{AreDrawn}
 use Rattle.bn_packed.specs.Ends.{EndList}
 use Rattle.bn_realise.specs.Banks.{IsBankWire}
-use Rattle.bn_board_spec.specs.Boards.{AreModules, IsBoardWire, own, between, base, size}
-use Rattle.bn_board_spec.proofs.ListedLemmas.{within}
-use Rattle.bn_assembly.specs.Modules.{module_table}
-use Rattle.bn_assembly.specs.declared.module.Module.{Module}
+use Rattle.bn_boards.specs.Boards.{AreModules, IsBoardWire, own, between, base, size}
+use Rattle.bn_boards.proofs.ListedLemmas.{within}
+use Rattle.bn_network_assembly.specs.Modules.{module_table}
+use Rattle.bn_network_assembly.specs.declared.module.Module.{Module}
 use Rattle.bn_board.specs.BoardWires.{AreBases, IsBetween, IsDrawn, IsOwnWire, IsWireBefore, module_circuit}
 use Rattle.bn_board.proofs.WireLemmas.{all_wired, base_of, line_added, line_skipped, module_at, module_ended, no_own}
 use Rattle.bn_board.proofs.WireLemmas.{own_added, owned}

@@ -4,7 +4,7 @@ use Rattle.bn_element.specs.Rotary.{west}
 use Rattle.bn_circuits.specs.declared.line.Line.{Line}
 use Rattle.bn_circuits.proofs.StepLemmas.{same_lines}
 use Rattle.bn_realise.specs.Banks.{bank_input_line}
-use Rattle.bn_board_spec.specs.Layouts.{Layout}
+use Rattle.bn_boards.specs.Layouts.{Layout}
 use Rattle.bn_board.specs.Entered.{IsEntryIn}
 use Rattle.bn_leap.specs.declared.entry.Entry.{Entry}
 

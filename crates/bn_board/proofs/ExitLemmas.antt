@@ -18,15 +18,15 @@ use Rattle.bn_network.specs.declared.cell_line.CellLine.TheVariants.{TakeRight, 
 use Rattle.bn_network.specs.Cells.{line_number, cell_line_count}
 use Rattle.bn_network.specs.Controls.{lines_before}
 use Rattle.bn_network.specs.Networks.{cells_in}
-use Rattle.bn_board_spec.specs.declared.exit.Exit.{Exit}
-use Rattle.bn_board_spec.specs.declared.exit.Exit.TheVariants as exit
-use Rattle.bn_board_spec.specs.Layouts.{Layout, symbol_count_at, lines_at, cell_element, cell_output, end_place}
-use Rattle.bn_board_spec.specs.Layouts.{IsNamedExit, inside, ends, stuck, right, left}
-use Rattle.bn_board_spec.proofs.PlaceLemmas.{output-within}
-use Rattle.bn_net.specs.declared.net.TheConstants.{MOST_ELEMENTS}
+use Rattle.bn_boards.specs.declared.exit.Exit.{Exit}
+use Rattle.bn_boards.specs.declared.exit.Exit.TheVariants as exit
+use Rattle.bn_boards.specs.Layouts.{Layout, symbol_count_at, lines_at, cell_element, cell_output, end_place}
+use Rattle.bn_boards.specs.Layouts.{IsNamedExit, inside, ends, stuck, right, left}
+use Rattle.bn_boards.proofs.PlaceLemmas.{output-within}
+use Rattle.bn_circuits.specs.declared.net.TheConstants.{MOST_ELEMENTS}
 use Rattle.bn_board.specs.Flattened.{IsLayoutKept}
 use Rattle.bn_board.proofs.LayoutLemmas.{control_within, cell_within}
-use Rattle.bn_board_spec.proofs.ExitLemmas.{elements as left_parts}
+use Rattle.bn_boards.proofs.ExitLemmas.{elements as left_parts}
 
 -- another line is at another place
 pub other_line : (one two : Line) (p : Place) → (one ≡ two → ⊥) → Left two.element two.line ≡ p

@@ -11,12 +11,12 @@ use Rattle.bn_network.specs.Controls.{sent_kept}
 use Rattle.bn_network.specs.declared.cell_line.CellLine.TheVariants.{Read}
 use Rattle.bn_network.specs.Networks.{elements_by}
 use Rattle.bn_control.specs.Controlled.{Controlled, IsControlOf, IsAwaiting, IsTapeAwaited}
-use Rattle.bn_board_spec.proofs.ModuleLemmas.{found}
-use Rattle.bn_board_spec.specs.Layouts.{Layout, IsLayout, elements_of}
-use Rattle.bn_board_spec.proofs.CommandLemmas.{command_number, entry-IsCommandMove}
-use Rattle.bn_assembly.specs.Assembled.{Assembled, IsAssembledFrom, IsKept}
-use Rattle.bn_assembly.specs.declared.module.Module.{Module}
-use Rattle.bn_assembly.specs.declared.module.Module.TheVariants.{Control}
+use Rattle.bn_boards.proofs.ModuleLemmas.{found}
+use Rattle.bn_boards.specs.Layouts.{Layout, IsLayout, elements_of}
+use Rattle.bn_boards.proofs.CommandLemmas.{command_number, entry-IsCommandMove}
+use Rattle.bn_network_assembly.specs.Assembled.{Assembled, IsAssembledFrom, IsKept}
+use Rattle.bn_network_assembly.specs.declared.module.Module.{Module}
+use Rattle.bn_network_assembly.specs.declared.module.Module.TheVariants.{Control}
 use Rattle.bn_network.specs.declared.limits.TheConstants.{MOST_SYMBOLS}
 use Rattle.bn_board.specs.Flattened.{IsFirstWithin, IsLayoutKept}
 use Rattle.bn_board.specs.Starts.{layout_by, IsLayoutOf}

@@ -3,9 +3,9 @@ use Rattle.std.specs.Prelude.{ℕ, ◌+◌, ◌*◌, ◌<◌, ◌≤◌, ◌^◌
 use Rattle.std.proofs.Common.{zero, suc, arith}
 use Rattle.std.proofs.Math.Nat.{mul-le-mul_right, mul-le-mul_left}
 use Rattle.bn_network.specs.Networks.{cell_size, cells_in}
-use Rattle.bn_board_spec.specs.Layouts.{Layout, symbol_count_at, lines_at, first_element, cell_element, elements_of}
+use Rattle.bn_boards.specs.Layouts.{Layout, symbol_count_at, lines_at, first_element, cell_element, elements_of}
 use Rattle.bn_network.specs.declared.limits.TheConstants.{MOST_SYMBOLS}
-use Rattle.bn_net.specs.declared.net.TheConstants.{MOST_ELEMENTS}
+use Rattle.bn_circuits.specs.declared.net.TheConstants.{MOST_ELEMENTS}
 use Rattle.bn_board.specs.Flattened.{IsLayoutKept}
 
 -- a product of bounded numbers

@@ -6,7 +6,7 @@ use Rattle.std.proofs.Math.Nat.{mul-le-mul_right, div-lt_iff_lt-mul}
 use Rattle.bn_circuits.specs.declared.place.Place.TheVariants.{Enter}
 use Rattle.bn_network.specs.Cells.{cell_line_count}
 use Rattle.bn_network.specs.Networks.{bank_size, cell_size, cells_in, left_of}
-use Rattle.bn_board_spec.specs.Layouts.{Layout, symbol_count_at, lines_at, cell_element}
+use Rattle.bn_boards.specs.Layouts.{Layout, symbol_count_at, lines_at, cell_element}
 use Rattle.bn_board.specs.Locations.{IsLocated, IsInputLine, in_control, in_cell}
 use Rattle.bn_board.specs.declared.located.Located.TheVariants.{Control, Cell}
 

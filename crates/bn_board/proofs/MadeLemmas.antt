@@ -5,12 +5,12 @@ use Rattle.bn_circuits.specs.Circuits.{IsConfig}
 use Rattle.bn_circuits.specs.declared.line.Line.{Line}
 use Rattle.bn_circuits.specs.declared.config.Config.{Config}
 use Rattle.bn_element.specs.declared.rotary.Rotary.{Rotary}
-use Rattle.bn_net.specs.Parts.{Parts}
-use Rattle.bn_net.specs.Order.{AreInOrder}
-use Rattle.bn_net.specs.RotaryNets.{rotary_circuit}
-use Rattle.bn_board_spec.specs.Boards.{IsBoard, size}
-use Rattle.bn_board_spec.specs.Layouts.{Layout, elements_of}
-use Rattle.bn_assembly.specs.Assembled.{Assembled, IsKept, network_of}
+use Rattle.bn_circuits.specs.Parts.{Parts}
+use Rattle.bn_circuits.specs.Order.{AreInOrder}
+use Rattle.bn_circuits.specs.RotaryNets.{rotary_circuit}
+use Rattle.bn_boards.specs.Boards.{IsBoard, size}
+use Rattle.bn_boards.specs.Layouts.{Layout, elements_of}
+use Rattle.bn_network_assembly.specs.Assembled.{Assembled, IsKept, network_of}
 use Rattle.bn_board.specs.Flattened.{Flattened, IsBoardKept, IsFlattened, start_line, end_line}
 use Rattle.bn_board.specs.Starts.{IsLayoutOf, start_by}
 use Rattle.bn_board.proofs.KeptLemmas.{kept-layout, layout-size, layout-of-each}

@@ -16,10 +16,10 @@ use Rattle.bn_element.specs.Rotary.{west}
 use Rattle.bn_machine.specs.Outcome.{Limits}
 use Rattle.bn_network.specs.Controls.{lines_before}
 use Rattle.bn_network.specs.Networks.{cell_size, cells_in}
-use Rattle.bn_board_spec.specs.Layouts.{Layout, symbol_count_at, lines_at, first_element, elements_of, command_place}
-use Rattle.bn_board_spec.specs.Layouts.{end_place, is_sent, moment_at, same_place}
-use Rattle.bn_board_spec.proofs.PlaceLemmas.{later_tape}
-use Rattle.bn_board_spec.proofs.FirstLemmas.{position_at, below, not_below}
+use Rattle.bn_boards.specs.Layouts.{Layout, symbol_count_at, lines_at, first_element, elements_of, command_place}
+use Rattle.bn_boards.specs.Layouts.{end_place, is_sent, moment_at, same_place}
+use Rattle.bn_boards.proofs.PlaceLemmas.{later_tape}
+use Rattle.bn_boards.proofs.FirstLemmas.{position_at, below, not_below}
 use Rattle.bn_board.specs.Flattened.{IsLayoutKept, IsFirstWithin}
 use Rattle.bn_board.specs.Moments.{IsCommandTo}
 

@@ -7,19 +7,19 @@ use Rattle.bn_element.specs.declared.rotary.Rotary.{Rotary}
 use Rattle.bn_circuits.specs.Stepping.{back}
 use Rattle.bn_circuits.specs.declared.config.Config.{Config}
 use Rattle.bn_circuits.proofs.RunLemmas.{back-zero}
-use Rattle.bn_net.specs.Parts.{Parts}
-use Rattle.bn_net.specs.RotaryNets.{rotary_circuit}
-use Rattle.bn_net.proofs.RotaryNetLemmas.{rotary-tables}
+use Rattle.bn_circuits.specs.Parts.{Parts}
+use Rattle.bn_circuits.specs.RotaryNets.{rotary_circuit}
+use Rattle.bn_circuits.proofs.RotaryNetLemmas.{rotary-tables}
 use Rattle.bn_network.specs.Cells.{cell_table}
 use Rattle.bn_network.specs.Controls.{symbol_count, lines_before}
 use Rattle.bn_network.specs.Networks.{cells_in, first_cell}
 use Rattle.bn_network.specs.Starts.{start_from}
-use Rattle.bn_board_spec.specs.Boards.{IsBoard, StandsFor, base, board_start, size}
-use Rattle.bn_board_spec.specs.Layouts.{Layout, IsLayout, symbol_count_at}
-use Rattle.bn_board_laws.specs.NetworkMoments.{IsUniformNetwork}
-use Rattle.bn_board_laws.proofs.NetworkReadLemmas.{networks-read}
-use Rattle.bn_board_laws.proofs.StartsLemmas.{start-stands}
-use Rattle.bn_assembly.specs.Assembled.{Assembled, IsKept, network_of}
+use Rattle.bn_boards.specs.Boards.{IsBoard, StandsFor, base, board_start, size}
+use Rattle.bn_boards.specs.Layouts.{Layout, IsLayout, symbol_count_at}
+use Rattle.bn_boards.specs.Builds.{IsUniformNetwork}
+use Rattle.bn_boards.proofs.NetworkReadLemmas.{networks-read}
+use Rattle.bn_boards.proofs.StartsLemmas.{start-stands}
+use Rattle.bn_network_assembly.specs.Assembled.{Assembled, IsKept, network_of}
 use Rattle.bn_board.specs.Flattened.{Flattened, IsBoardKept, IsOnNetwork, origin, origin_by}
 use Rattle.bn_board.specs.Starts.{IsLayoutOf, start_by}
 use Rattle.bn_board.specs.Entered.{IsEntryIn, of_control, of_cell}

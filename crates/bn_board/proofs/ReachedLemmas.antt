@@ -7,13 +7,13 @@ use Rattle.bn_lists.proofs.RunsLemmas.{runs_join}
 use Rattle.bn_circuits.specs.Circuits.{Circuit, IsCircuit, IsConfig, Goes}
 use Rattle.bn_circuits.specs.Stepping.{back}
 use Rattle.bn_circuits.proofs.RunLemmas.{Reaches-back, back_composes}
-use Rattle.bn_board_spec.specs.Layouts.{Layout}
+use Rattle.bn_boards.specs.Layouts.{Layout}
 use Rattle.bn_circuits.specs.declared.config.Config.{Config}
 use Rattle.bn_circuits.specs.declared.line.Line.{Line}
 use Rattle.bn_circuits.proofs.RunPartLemmas.{runs_split, steps_of_run}
 use Rattle.bn_element.specs.declared.rotary.Rotary.{Rotary}
-use Rattle.bn_net.specs.Parts.{Parts}
-use Rattle.bn_net.specs.RotaryNets.{rotary_circuit}
+use Rattle.bn_circuits.specs.Parts.{Parts}
+use Rattle.bn_circuits.specs.RotaryNets.{rotary_circuit}
 use Rattle.bn_packed.specs.PackedNets.{PackedNet}
 use Rattle.bn_packed.specs.Running.{LeadsTo}
 use Rattle.bn_packed.specs.declared.direction.Direction.{Direction}

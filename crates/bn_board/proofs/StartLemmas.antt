@@ -14,11 +14,11 @@ use Rattle.bn_network.specs.Controls.{ControlState}
 use Rattle.bn_network.specs.Networks.{IsNetwork, elements_by}
 use Rattle.bn_network.specs.Starts.{start_from}
 use Rattle.bn_network.specs.Moments.{HasLetters}
-use Rattle.bn_board_spec.specs.Boards.{AreModules, StandsFor, bars_of, board_start, size, size_of}
-use Rattle.bn_board_spec.proofs.TabledLemmas.{whole}
-use Rattle.bn_board_laws.proofs.NetworkLemmas.{networks-modules}
-use Rattle.bn_board_laws.proofs.StartsLemmas.{start-stands}
-use Rattle.bn_assembly.proofs.SymbolLemmas.{some_letters}
+use Rattle.bn_boards.specs.Boards.{AreModules, StandsFor, bars_of, board_start, size, size_of}
+use Rattle.bn_boards.proofs.TabledLemmas.{whole}
+use Rattle.bn_boards.proofs.NetworkLemmas.{networks-modules}
+use Rattle.bn_boards.proofs.StartsLemmas.{start-stands}
+use Rattle.bn_network_assembly.proofs.SymbolLemmas.{some_letters}
 use Rattle.std.proofs.lemmas.Bool.{cases_lt}
 use Rattle.std.proofs.lemmas.Bool.Decides.{eqb_tells}
 use Rattle.std.proofs.Math.Nat.{mul-le-mul_right}
@@ -30,17 +30,17 @@ use Rattle.bn_circuits.proofs.RunLemmas.{back-zero}
 use Rattle.bn_circuits.proofs.StepLemmas.{slice_get-set_same, slice_get-set_other}
 use Rattle.bn_element.specs.Rotary.{west}
 use Rattle.bn_element.specs.declared.rotary.Rotary.{Rotary}
-use Rattle.bn_net.specs.Parts.{Parts}
-use Rattle.bn_net.specs.RotaryNets.{rotary_circuit}
-use Rattle.bn_net.proofs.RotaryNetLemmas.{bars-IsConfig, rotary-table_at}
-use Rattle.bn_board_spec.proofs.ModuleLemmas.{found, replicated}
-use Rattle.bn_board_spec.proofs.BankedLemmas.{base-within as bank_within}
-use Rattle.bn_board_spec.proofs.StartedLemmas.{get_left, get_right, bars-length}
+use Rattle.bn_circuits.specs.Parts.{Parts}
+use Rattle.bn_circuits.specs.RotaryNets.{rotary_circuit}
+use Rattle.bn_circuits.proofs.RotaryNetLemmas.{bars-IsConfig, rotary-table_at}
+use Rattle.bn_boards.proofs.ModuleLemmas.{found, replicated}
+use Rattle.bn_boards.proofs.BankedLemmas.{base-within as bank_within}
+use Rattle.bn_boards.proofs.StartedLemmas.{get_left, get_right, bars-length}
 use Rattle.bn_board.specs.Flattened.{IsReached}
 use Rattle.bn_board.specs.Starts.{start_by}
 use Rattle.bn_board.proofs.CopyLemmas.{bank_bars}
-use Rattle.bn_assembly.specs.Assembled.{Assembled, IsKept, network_of}
-use Rattle.bn_net.specs.declared.net.TheConstants.{MOST_ELEMENTS}
+use Rattle.bn_network_assembly.specs.Assembled.{Assembled, IsKept, network_of}
+use Rattle.bn_circuits.specs.declared.net.TheConstants.{MOST_ELEMENTS}
 
 -- a machine by its parts
 abbrev by_parts : List (Rule ℕ) → ℕ → List ℕ → Quadruples

@@ -11,18 +11,18 @@ use Rattle.bn_circuits.specs.Circuits.{Circuit, target}
 use Rattle.bn_circuits.specs.declared.line.Line.{Line}
 use Rattle.bn_circuits.specs.declared.line.Wire.{Wire}
 use Rattle.bn_circuits.specs.Circuits.{line_at}
-use Rattle.bn_net.specs.Wirings.{AreWiresOf}
-use Rattle.bn_net.proofs.WiringsLemmas.{same_wires}
+use Rattle.bn_circuits.specs.Wirings.{AreWiresOf}
+use Rattle.bn_circuits.proofs.WiringsLemmas.{same_wires}
 use Rattle.bn_realise.specs.Banks.{IsBankWire, bank_input_line, bank_output_line}
 use Rattle.bn_realise.specs.BankNets.{HasRoom}
-use Rattle.bn_board_spec.specs.Boards.{AreModules, IsBoardWire, base, size, size_of}
-use Rattle.bn_board_spec.proofs.ListedLemmas.{IsOwnBelow, own_none, own_more}
-use Rattle.bn_board_spec.proofs.ModuleLemmas.{wired_input, found}
-use Rattle.bn_board_spec.proofs.BankedLemmas.{base-within as bank_within}
-use Rattle.bn_board_spec.proofs.GrownLemmas.{IsGrown, grown_own, grown_skip, grown_more, grown_next, grown_all}
-use Rattle.bn_net.specs.Parts.{Parts}
-use Rattle.bn_assembly.specs.Modules.{module_table}
-use Rattle.bn_assembly.specs.declared.module.Module.{Module}
+use Rattle.bn_boards.specs.Boards.{AreModules, IsBoardWire, base, size, size_of}
+use Rattle.bn_boards.proofs.ListedLemmas.{IsOwnBelow, own_none, own_more}
+use Rattle.bn_boards.proofs.ModuleLemmas.{wired_input, found}
+use Rattle.bn_boards.proofs.BankedLemmas.{base-within as bank_within}
+use Rattle.bn_boards.proofs.GrownLemmas.{IsGrown, grown_own, grown_skip, grown_more, grown_next, grown_all}
+use Rattle.bn_circuits.specs.Parts.{Parts}
+use Rattle.bn_network_assembly.specs.Modules.{module_table}
+use Rattle.bn_network_assembly.specs.declared.module.Module.{Module}
 use Rattle.bn_board.specs.BoardWires.{AreBases, module_circuit, IsOwnWire, of_bank, IsBetween, IsWireBefore, own_wire}
 use Rattle.bn_board.specs.BoardWires.{between_banks}
 

@@ -4,14 +4,14 @@ use Rattle.bn_element.specs.Tables.{Table}
 use Rattle.bn_circuits.specs.Circuits.{Circuit, target}
 use Rattle.bn_circuits.specs.declared.line.Line.{Line}
 use Rattle.bn_circuits.specs.declared.line.Wire.{Wire}
-use Rattle.bn_net.specs.Parts.{Parts, circuit}
-use Rattle.bn_net.specs.Wirings.{AreWiresOf}
+use Rattle.bn_circuits.specs.Parts.{Parts, circuit}
+use Rattle.bn_circuits.specs.Wirings.{AreWiresOf}
 use Rattle.bn_packed.specs.Drafts.{AreDrawn}
 use Rattle.bn_packed.specs.Ends.{EndList}
 use Rattle.bn_realise.specs.Banks.{IsBankWire, bank_input_line, bank_output_line}
-use Rattle.bn_board_spec.specs.Boards.{base}
-use Rattle.bn_assembly.specs.Modules.{module_table}
-use Rattle.bn_assembly.specs.declared.module.Module.{Module}
+use Rattle.bn_boards.specs.Boards.{base}
+use Rattle.bn_network_assembly.specs.Modules.{module_table}
+use Rattle.bn_network_assembly.specs.declared.module.Module.{Module}
 
 -- the circuit of a net of modules
 abbrev pub module_circuit : Parts Module → Circuit

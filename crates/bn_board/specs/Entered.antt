@@ -2,7 +2,7 @@
 use Rattle.std.specs.Prelude.{◌≡◌, ℕ, ◌*◌, ◌<◌}
 use Rattle.bn_network.specs.Cells.{cell_line_count}
 use Rattle.bn_network.specs.Networks.{IsTape, cells_in}
-use Rattle.bn_board_spec.specs.Layouts.{Layout, symbol_count_at, lines_at, cell_element}
+use Rattle.bn_boards.specs.Layouts.{Layout, symbol_count_at, lines_at, cell_element}
 use Rattle.bn_leap.specs.declared.entry.Entry.{Entry}
 
 -- it is an input line of the control, or of a cell

@@ -5,17 +5,17 @@ use Rattle.bn_element.specs.Tables.{Table}
 use Rattle.bn_circuits.specs.Situations.{Situation}
 use Rattle.bn_network.specs.Cells.{cell_table}
 use Rattle.bn_network.specs.Networks.{IsTape, cells_in, first_cell}
-use Rattle.bn_board_spec.specs.Boards.{AreModules, StandsFor, base}
-use Rattle.bn_board_spec.specs.Layouts.{symbol_count_at, cell_element}
+use Rattle.bn_boards.specs.Boards.{AreModules, StandsFor, base}
+use Rattle.bn_boards.specs.Layouts.{symbol_count_at, cell_element}
 use Rattle.bn_lists.specs.Runs.{Reaches}
 use Rattle.bn_circuits.specs.Circuits.{Circuit, Goes, IsCircuit, IsConfig}
 use Rattle.bn_circuits.specs.Stepping.{back}
 use Rattle.bn_circuits.specs.declared.line.Line.{Line}
 use Rattle.bn_circuits.specs.declared.config.Config.{Config}
 use Rattle.bn_element.specs.declared.rotary.Rotary.{Rotary}
-use Rattle.bn_net.specs.Parts.{Parts}
-use Rattle.bn_net.specs.Order.{AreInOrder}
-use Rattle.bn_net.specs.RotaryNets.{rotary_circuit}
+use Rattle.bn_circuits.specs.Parts.{Parts}
+use Rattle.bn_circuits.specs.Order.{AreInOrder}
+use Rattle.bn_circuits.specs.RotaryNets.{rotary_circuit}
 use Rattle.bn_quad.specs.Quadruples.{Configuration, Quadruples}
 use Rattle.bn_realise.specs.Banks.{bank_input_line, column_at}
 use Rattle.bn_element.specs.Rotary.{east}
@@ -24,11 +24,11 @@ use Rattle.bn_network.specs.declared.limits.TheConstants.{MOST_SYMBOLS}
 use Rattle.bn_control.specs.Controlled.{IsTapeAwaited}
 use Rattle.bn_network.specs.Controls.{ControlState}
 use Rattle.bn_network.specs.Starts.{start_from}
-use Rattle.bn_board_spec.specs.Boards.{IsBoard, board_start}
-use Rattle.bn_board_spec.specs.Layouts.{Layout, IsLayout, lines_at, elements_of}
+use Rattle.bn_boards.specs.Boards.{IsBoard, board_start}
+use Rattle.bn_boards.specs.Layouts.{Layout, IsLayout, lines_at, elements_of}
 use Rattle.bn_network.specs.Limits.{AreSmall}
-use Rattle.bn_assembly.specs.Assembled.{Assembled, IsAssembledFrom, network_of}
-use Rattle.bn_net.specs.declared.net.TheConstants.{MOST_ELEMENTS}
+use Rattle.bn_network_assembly.specs.Assembled.{Assembled, IsAssembledFrom, network_of}
+use Rattle.bn_circuits.specs.declared.net.TheConstants.{MOST_ELEMENTS}
 
 -- a net, a configuration of it, the line by which the signal enters at the start, the line by which it leaves at the
 -- end, and the layout

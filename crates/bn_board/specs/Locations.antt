@@ -5,7 +5,7 @@ use Rattle.bn_circuits.specs.declared.place.Place.TheVariants.{Enter, Left}
 use Rattle.bn_element.specs.Rotary.{west}
 use Rattle.bn_network.specs.Cells.{cell_line_count}
 use Rattle.bn_network.specs.Networks.{IsTape, bank_size, cell_size, cells_in, left_of}
-use Rattle.bn_board_spec.specs.Layouts.{Layout, symbol_count_at, lines_at, cell_element}
+use Rattle.bn_boards.specs.Layouts.{Layout, symbol_count_at, lines_at, cell_element}
 use Rattle.bn_board.specs.declared.located.Located.{Located}
 use Rattle.bn_board.specs.declared.located.Located.TheVariants.{Control, Cell, Outside}
 

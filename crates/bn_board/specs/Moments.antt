@@ -3,7 +3,7 @@ use Rattle.std.specs.Prelude.{◌≡◌, ◌↔◌, ℕ, ◌+◌, ◌-◌, ◌<�
 use Rattle.bn_circuits.specs.declared.line.Line.{Line}
 use Rattle.bn_circuits.specs.declared.place.Place.TheVariants.{Enter}
 use Rattle.bn_element.specs.Rotary.{west}
-use Rattle.bn_board_spec.specs.Layouts.{Layout, first_element, symbol_count_at, lines_at, command_place}
+use Rattle.bn_boards.specs.Layouts.{Layout, first_element, symbol_count_at, lines_at, command_place}
 use Rattle.bn_board.specs.declared.first_rows.FirstRows.{FirstRows}
 
 -- the control's output line to a tape whose command leads to the west of this element, if one does

@@ -4,12 +4,12 @@ use Rattle.bn_element.specs.Tables.{Table}
 use Rattle.bn_circuits.specs.declared.place.Place.TheVariants.{Enter}
 use Rattle.bn_circuits.specs.declared.config.Config.{Config}
 use Rattle.bn_element.specs.Rotary.{west}
-use Rattle.bn_board_spec.specs.Boards.{bars_of}
+use Rattle.bn_boards.specs.Boards.{bars_of}
 use Rattle.bn_machine.specs.Outcome.{Limits}
 use Rattle.bn_control.specs.Controlled.{Controlled, IsTapeAwaited}
-use Rattle.bn_board_spec.specs.Layouts.{Layout}
-use Rattle.bn_assembly.specs.Assembled.{Assembled}
-use Rattle.bn_assembly.specs.declared.module.Module.TheVariants.{Control}
+use Rattle.bn_boards.specs.Layouts.{Layout}
+use Rattle.bn_network_assembly.specs.Assembled.{Assembled}
+use Rattle.bn_network_assembly.specs.declared.module.Module.TheVariants.{Control}
 
 -- the numbers of a board with this control in these limits
 abbrev pub layout_by : Controlled → Limits → Layout

@@ -5,14 +5,14 @@ ghost use Rattle.std.specs.Prelude.{IfOk, OnOk};
 ghost use Rattle.bn_element.specs.Tables.{Table};
 ghost use Rattle.bn_element.specs.Rotary.{horizontal, vertical};
 ghost use Rattle.bn_realise.specs.Banks.{bottom_at};
-ghost use Rattle.bn_board_spec.specs.Boards.{AreModules, bars_of, size, size_of};
-ghost use Rattle.bn_assembly.specs.Modules.{module_table};
+ghost use Rattle.bn_boards.specs.Boards.{AreModules, bars_of, size, size_of};
+ghost use Rattle.bn_network_assembly.specs.Modules.{module_table};
 ghost use Rattle.bn_board.specs.BoardWires.{module_circuit};
 
 use crate::wiring::size_of;
-use bn_assembly::Module;
+use bn_circuits::{MOST_ELEMENTS, Net, NoMemory};
 use bn_element::{Element, HORIZONTAL, VERTICAL};
-use bn_net::{MOST_ELEMENTS, Net, NoMemory};
+use bn_network_assembly::Module;
 use std::alloc::Global;
 
 // The bars of the board of this net of modules in these states.

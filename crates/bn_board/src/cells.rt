@@ -5,12 +5,12 @@ ghost use Rattle.std.specs.List.{range_with_len};
 ghost use Rattle.std.specs.Option.{option_map};
 ghost use Rattle.bn_realise.specs.Banks.{column_at};
 ghost use Rattle.bn_network.specs.Networks.{cells_in};
-ghost use Rattle.bn_board_spec.specs.Layouts.{spelled_by, spelled_tape, cells_shown, head_shown, has_head, symbol_by};
-ghost use Rattle.bn_board_spec.specs.Layouts.{marked_column, cell_state_at, symbol_count_at, elements_of};
+ghost use Rattle.bn_boards.specs.Layouts.{spelled_by, spelled_tape, cells_shown, head_shown, has_head, symbol_by};
+ghost use Rattle.bn_boards.specs.Layouts.{marked_column, cell_state_at, symbol_count_at, elements_of};
 
 use crate::board::Board;
-use bn_board_spec::{Cells, Spelled, SpelledTape};
-use bn_net::{MOST_ELEMENTS, NoMemory};
+use bn_boards::{Cells, Spelled, SpelledTape};
+use bn_circuits::{MOST_ELEMENTS, NoMemory};
 use std::alloc::Global;
 
 impl Board {

@@ -3,13 +3,13 @@
 ghost use Rattle.std.specs.Prelude.{◌≡◌, ◌+◌, ◌<◌, ◌^◌};
 ghost use Rattle.bn_circuits.specs.Counting.{tally, one_if};
 ghost use Rattle.bn_circuits.specs.Stepping.{run, places};
-ghost use Rattle.bn_net.specs.Watching.{Hears};
-ghost use Rattle.bn_net.specs.RotaryNets.{rotary_circuit};
-ghost use Rattle.bn_board_spec.specs.Layouts.{is_moment};
+ghost use Rattle.bn_circuits.specs.Watching.{Hears};
+ghost use Rattle.bn_circuits.specs.RotaryNets.{rotary_circuit};
+ghost use Rattle.bn_boards.specs.Layouts.{is_moment};
 ghost use Rattle.bn_board.specs.Flattened.{IsSameBoard};
 
 use crate::board::Board;
-use bn_net::Watch;
+use bn_circuits::Watch;
 
 impl Board {
     /// Makes at most `e` element steps, as `run` does, tells the watch the place after each, and answers after

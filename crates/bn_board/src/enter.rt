@@ -2,13 +2,13 @@
 
 ghost use Rattle.std.specs.Prelude.{◌≡◌, ◌+◌, ◌*◌, ◌<◌, ◌≤◌, IfSome};
 ghost use Rattle.bn_network.specs.Networks.{cell_size, cells_in};
-ghost use Rattle.bn_board_spec.specs.Layouts.{symbol_count_at, first_element, elements_of};
+ghost use Rattle.bn_boards.specs.Layouts.{symbol_count_at, first_element, elements_of};
 ghost use Rattle.bn_board.specs.Entered.{IsEntryIn};
 
 use crate::layout::Layout;
+use bn_circuits::Line;
 use bn_element::WEST;
 use bn_leap::{Banks, Entry};
-use bn_net::Line;
 
 impl Banks for Layout {
     ghost use Rattle.bn_board.specs.Entered.{IsEntryIn};

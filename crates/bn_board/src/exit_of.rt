@@ -6,17 +6,17 @@ ghost use Rattle.bn_network.specs.Cells.{cell_line_count};
 ghost use Rattle.bn_network.specs.Controls.{lines_before};
 ghost use Rattle.bn_network.specs.Networks.{cells_in};
 ghost use Rattle.bn_board.specs.Flattened.{end_line};
-ghost use Rattle.bn_board_spec.specs.Layouts.{IsExit, IsNamedExit, cell_output, end_place, symbol_count_at, lines_at};
-ghost use Rattle.bn_board_spec.specs.declared.exit.Exit.{Exit};
-ghost use Rattle.bn_board_spec.specs.declared.exit.Exit.TheVariants.{Stuck, Window};
+ghost use Rattle.bn_boards.specs.Layouts.{IsExit, IsNamedExit, cell_output, end_place, symbol_count_at, lines_at};
+ghost use Rattle.bn_boards.specs.declared.exit.Exit.{Exit};
+ghost use Rattle.bn_boards.specs.declared.exit.Exit.TheVariants.{Stuck, Window};
 ghost use Rattle.bn_machine.specs.declared.quint.Side.{Side};
 
 use crate::board::Board;
 use crate::layout::Layout;
-use bn_board_spec::Exit;
+use bn_boards::Exit;
+use bn_circuits::{Line, Place};
 use bn_element::{EAST, WEST};
 use bn_machine::Side;
-use bn_net::{Line, Place};
 
 impl Board {
     /// By which exit the signal left, or that it has not left. It takes no memory.

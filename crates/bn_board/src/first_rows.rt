@@ -2,13 +2,13 @@
 
 ghost use Rattle.std.specs.Prelude.{◌≡◌, ◌≤◌, ◌<◌, ◌+◌, ℕ, false};
 ghost use Rattle.std.specs.Bool.{OnTrue};
-ghost use Rattle.bn_board_spec.specs.Layouts.{first_element, symbol_count_at};
+ghost use Rattle.bn_boards.specs.Layouts.{first_element, symbol_count_at};
 ghost use Rattle.bn_board.specs.Moments.{AreFirstRows, is_among};
 
 use crate::layout::Layout;
+use bn_circuits::Line;
 use bn_element::WEST;
 use bn_leap::{Entry, Passing};
-use bn_net::Line;
 use bn_packed::Stop;
 
 // Elements one after another: the first, and how many they are.

@@ -1,19 +1,19 @@
 //! The numbers by which a board is read.
 
 ghost use Rattle.std.specs.Prelude.{◌≡◌, ◌<◌, ◌≤◌, ◌+◌, ◌*◌, ◌^◌, length, Some, slice_get, IfOk};
-ghost use Rattle.bn_board_spec.specs.Layouts.{symbol_count_at, lines_at, first_element, cell_element, elements_of};
+ghost use Rattle.bn_boards.specs.Layouts.{symbol_count_at, lines_at, first_element, cell_element, elements_of};
 ghost use Rattle.bn_network.specs.Controls.{lines_before};
 ghost use Rattle.bn_network.specs.Networks.{bank_size, cell_size, cells_in, left_of};
 ghost use Rattle.bn_network.specs.Cells.{cell_line_count};
-ghost use Rattle.bn_board_spec.specs.Costs.{bound_of};
-ghost use Rattle.bn_assembly.specs.Assembled.{limits_of};
+ghost use Rattle.bn_boards.specs.Costs.{bound_of};
+ghost use Rattle.bn_network_assembly.specs.Assembled.{limits_of};
 ghost use Rattle.bn_board.specs.Flattened.{IsLayoutKept, IsFirstWithin};
 ghost use Rattle.bn_control.specs.Controlled.{IsTapeAwaited};
 
-use bn_assembly::Windows;
 use bn_base::MOST_COUNT;
-use bn_net::{MOST_ELEMENTS, NoMemory};
+use bn_circuits::{MOST_ELEMENTS, NoMemory};
 use bn_network::MOST_SYMBOLS;
+use bn_network_assembly::Windows;
 use std::alloc::Global;
 use std::marker::Model;
 
@@ -31,8 +31,8 @@ pub(crate) struct Layout {
 }
 
 impl Model for Layout {
-    ghost use Rattle.bn_board_spec.specs.Layouts.{Layout as Numbers};
-    ghost use Rattle.bn_assembly.specs.Assembled.{limits_of};
+    ghost use Rattle.bn_boards.specs.Layouts.{Layout as Numbers};
+    ghost use Rattle.bn_network_assembly.specs.Assembled.{limits_of};
     ghost use Rattle.bn_board.specs.Flattened.{IsLayoutKept};
 
     ghost Value = { Numbers };

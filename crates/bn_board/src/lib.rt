@@ -17,8 +17,8 @@ mod net_parts;
 mod numbers;
 mod wiring;
 
-pub use bn_board_spec::{Cells, Exit, Spelled, SpelledTape};
-pub use bn_net::NoMemory;
+pub use bn_boards::{Cells, Exit, Spelled, SpelledTape};
+pub use bn_circuits::NoMemory;
 pub use board::Board;
 pub use located::Located;
 pub use make::flatten;

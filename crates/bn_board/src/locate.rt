@@ -4,15 +4,15 @@ ghost use Rattle.std.specs.Prelude.{◌≡◌, ◌+◌, ◌*◌, ◌<◌, ◌≤
 ghost use Rattle.bn_circuits.specs.declared.place.Place.TheVariants.{Enter};
 ghost use Rattle.bn_network.specs.Networks.{bank_size, cell_size, cells_in, left_of};
 ghost use Rattle.bn_network.specs.Cells.{cell_line_count};
-ghost use Rattle.bn_board_spec.specs.Layouts.{symbol_count_at, lines_at, elements_of, first_element, cell_element};
+ghost use Rattle.bn_boards.specs.Layouts.{symbol_count_at, lines_at, elements_of, first_element, cell_element};
 ghost use Rattle.bn_board.specs.Flattened.{IsBoardKept};
 ghost use Rattle.bn_board.specs.Locations.{IsLocated, IsInputLine};
 
 use crate::board::Board;
 use crate::layout::Layout;
 use crate::located::Located;
+use bn_circuits::{Line, Place};
 use bn_element::WEST;
-use bn_net::{Line, Place};
 use bn_network::MOST_SYMBOLS;
 
 impl Board {

@@ -1,10 +1,10 @@
 //! Boards are made here.
 
 ghost use Rattle.std.specs.Prelude.{◌≡◌, ◌≤◌, length, IfOk};
-ghost use Rattle.bn_net.specs.Order.{AreInOrder};
-ghost use Rattle.bn_net.specs.RotaryNets.{rotary_circuit};
-ghost use Rattle.bn_board_spec.specs.Boards.{AreModules, IsBoard, IsBoardWire, size};
-ghost use Rattle.bn_assembly.specs.Assembled.{network_of};
+ghost use Rattle.bn_circuits.specs.Order.{AreInOrder};
+ghost use Rattle.bn_circuits.specs.RotaryNets.{rotary_circuit};
+ghost use Rattle.bn_boards.specs.Boards.{AreModules, IsBoard, IsBoardWire, size};
+ghost use Rattle.bn_network_assembly.specs.Assembled.{network_of};
 ghost use Rattle.bn_board.specs.BoardWires.{IsDrawn, module_circuit};
 ghost use Rattle.bn_board.specs.Flattened.{IsBoardKept, IsFlattened};
 ghost use Rattle.bn_board.specs.Starts.{start_by};
@@ -13,9 +13,9 @@ use crate::bars::start_bars;
 use crate::board::Board;
 use crate::numbers::layout_of;
 use crate::wiring::{bases, board_draft};
-use bn_assembly::{Assembly, Module};
+use bn_circuits::{Config, Line, MOST_ELEMENTS, Net, NoMemory, Place, States};
 use bn_element::WEST;
-use bn_net::{Config, Line, MOST_ELEMENTS, Net, NoMemory, Place, States};
+use bn_network_assembly::{Assembly, Module};
 use bn_packed::{Draft, Packed};
 use std::alloc::Global;
 

@@ -4,14 +4,14 @@ ghost use Rattle.std.specs.Prelude.{◌≡◌, ℕ, ◌<◌, length, Some, None}
 ghost use Rattle.bn_circuits.specs.declared.place.Place.TheVariants.{Enter};
 ghost use Rattle.bn_element.specs.Rotary.{west};
 ghost use Rattle.bn_realise.specs.Banks.{bottom_at};
-ghost use Rattle.bn_board_spec.specs.Layouts.{moment_at, is_sent, is_marked_at, end_place, lines_at, elements_of};
+ghost use Rattle.bn_boards.specs.Layouts.{moment_at, is_sent, is_marked_at, end_place, lines_at, elements_of};
 ghost use Rattle.bn_board.specs.Flattened.{IsBoardKept, IsFirstWithin};
 ghost use Rattle.bn_board.specs.Moments.{IsCommandTo};
 
 use crate::board::Board;
 use crate::layout::Layout;
+use bn_circuits::{Line, Place};
 use bn_element::{HORIZONTAL, WEST};
-use bn_net::{Line, Place};
 
 impl Board {
     /// The state of the machine of quadruples, counted from 0, whose moment this is: in the final state the signal has

@@ -4,8 +4,8 @@ ghost use Rattle.std.specs.Prelude.{◌≡◌, IfOk};
 ghost use Rattle.bn_board.specs.Flattened.{IsBoardKept};
 
 use crate::board::Board;
+use bn_circuits::{Config, Line, Net, NoMemory};
 use bn_element::Rotary;
-use bn_net::{Config, Line, Net, NoMemory};
 use std::alloc::Global;
 
 /// A copy of a board, not packed (this project's own profile): its net with the wires of the board and no others, its

@@ -2,14 +2,14 @@
 
 ghost use Rattle.std.specs.Prelude.{◌≡◌, All, length, IfOk, OnOk};
 ghost use Rattle.bn_control.specs.Controlled.{IsTapeAwaited};
-ghost use Rattle.bn_assembly.specs.Assembled.{IsKept};
+ghost use Rattle.bn_network_assembly.specs.Assembled.{IsKept};
 ghost use Rattle.bn_board.specs.Starts.{IsLayoutOf};
 
 use crate::layout::Layout;
-use bn_assembly::{Assembly, Module};
+use bn_circuits::NoMemory;
 use bn_control::Control;
 use bn_element::Element;
-use bn_net::NoMemory;
+use bn_network_assembly::{Assembly, Module};
 use std::alloc::Global;
 
 // The numbers of the board of this network.

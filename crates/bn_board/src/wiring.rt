@@ -3,13 +3,13 @@
 ghost use Rattle.std.specs.Prelude.{◌≡◌, ◌+◌, ◌<◌, ◌≤◌, length, Some, IfOk, OnOk};
 ghost use Rattle.bn_circuits.specs.Circuits.{IsOutputOf, target};
 ghost use Rattle.bn_realise.specs.Banks.{bank_output_line, bank_input_line};
-ghost use Rattle.bn_board_spec.specs.Boards.{AreModules, IsBoardWire, size, size_of};
-ghost use Rattle.bn_assembly.specs.Modules.{module_table};
+ghost use Rattle.bn_boards.specs.Boards.{AreModules, IsBoardWire, size, size_of};
+ghost use Rattle.bn_network_assembly.specs.Modules.{module_table};
 ghost use Rattle.bn_board.specs.BoardWires.{AreBases, IsDrawn, IsOwnWire, IsBetween, IsWireBefore, module_circuit};
 
-use bn_assembly::Module;
+use bn_circuits::{Line, MOST_ELEMENTS, Net, NoMemory, Wire};
 use bn_element::{EAST, Element, WEST};
-use bn_net::{Line, MOST_ELEMENTS, Net, NoMemory, Wire};
+use bn_network_assembly::Module;
 use bn_packed::Draft;
 use bn_realise::bank_wires;
 use std::alloc::Global;

@@ -6,3 +6,16 @@ pub mod SituationLemmas
 pub mod AlikeLemmas
 pub mod TableLemmas
 pub mod LawLemmas
+pub mod StatesInRange
+pub mod RotaryNetLemmas
+pub mod WiringsLemmas
+pub mod WireListLemmas
+pub mod RowLemmas
+pub mod WireLemmas
+pub mod NetSteps
+pub mod FaultLemmas
+pub mod OrderLemmas
+pub mod WalkLemmas
+pub mod HeardLemmas
+pub mod SituationNumberLemmas
+pub mod LeavingLemmas

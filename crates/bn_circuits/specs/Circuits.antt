@@ -74,6 +74,11 @@ abbrev pub IsPlace : Circuit → Place → Type 0
 IsPlace k (Enter e i) = i < inputs_of k.tables e
 IsPlace k (Left e o) = (o < outputs_of k.tables e) × (target k.wires (record { element = e; line = o }) ≡ None)
 
+-- One state for each element, each in range.
+pub record AreStates (tables : List Table) (states : List ℕ) : Type 0 where
+  pub count : length states ≡ length tables
+  pub range : (e q : ℕ) → slice_get states e ≡ Some q → q < states_of tables e
+
 -- A configuration of the circuit: one state an element, each in range; an admissible place; and at most the greatest
 -- number of steps.
 pub record IsConfig (k : Circuit) (c : Config) : Type 0 where

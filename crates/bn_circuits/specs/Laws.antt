@@ -1,14 +1,20 @@
--- The laws of this crate, a named field each. `Laws` is the contract of `circuit_laws`.
-use Rattle.bn_circuits.specs.Alike.{AlikeRunAlike, TablesAreOne, ConsistentMovesAreReversible}
+-- The laws of this crate, a named field each. `Laws` is the contract of `circuits_laws`.
+use Rattle.bn_circuits.specs.Alike.{AlikeRunAlike, ConsistentMovesAreReversible, TablesAreOne}
 use Rattle.bn_circuits.specs.Circuits.{Circuit, Goes, IsCircuit, IsConfig, IsFirst}
 use Rattle.bn_circuits.specs.Counting.{TalliesAdd}
 use Rattle.bn_circuits.specs.RunLaws.{Makes}
-use Rattle.bn_circuits.specs.RunParts.{RunsUndoInPart, PathsPassBetween, PlacesAreThoseOfRuns, PlacesAreThoseOfRunsBack}
-use Rattle.bn_circuits.specs.Situations.{StepsAreCounted, PathsAreCounted}
-use Rattle.bn_circuits.specs.Stepping.{next, previous, run, back}
+use Rattle.bn_circuits.specs.RunParts.{PathsPassBetween, PlacesAreThoseOfRuns, PlacesAreThoseOfRunsBack}
+use Rattle.bn_circuits.specs.RunParts.{RunsUndoInPart}
+use Rattle.bn_circuits.specs.Situations.{PathsAreCounted, StepsAreCounted}
+use Rattle.bn_circuits.specs.Stepping.{back, next, previous, run}
 use Rattle.bn_circuits.specs.declared.config.Config.{Config}
 use Rattle.bn_lists.specs.Runs.{Reaches}
-use Rattle.std.specs.Prelude.{◌≡◌, Some, ◌↔◌, ℕ, ◌+◌, ◌≤◌, ◌<◌}
+use Rattle.bn_circuits.specs.Heard.{WatchesTellWithinRoom}
+use Rattle.bn_circuits.specs.Order.{WiresStandOnce}
+use Rattle.bn_circuits.specs.declared.net.TheConstants.{MOST_ELEMENTS}
+use Rattle.std.specs.Prelude.{Some, ℕ, ◌+◌, ◌<◌, ◌^◌, ◌↔◌, ◌≡◌, ◌≤◌}
+use Rattle.bn_circuits.specs.BehaviourLaws.{SignalsLeaveOrHang, SignalsComeOnce, CircuitsAreLeft, BehavioursStay}
+use Rattle.bn_circuits.specs.BehaviourLaws.{BehavioursAreOneToOne, BehavioursAreOnto, BehavioursAreRuns}
 
 pub record Laws : Type 0 where
   -- One configuration at most follows another, and in a circuit one at most comes before: this is
@@ -58,3 +64,23 @@ pub record Laws : Type 0 where
   pub tables_are_one : TablesAreOne
   -- A list of moves in which two moves that agree on a side are one makes a reversible table.
   pub consistent_moves_are_reversible : ConsistentMovesAreReversible
+  -- A watch in memory that is told n places tells its list exactly as long as n is at most its room.
+  pub watches_tell_within_room : WatchesTellWithinRoom
+  -- Of wires in order, as those of a net are, no two leave one line.
+  pub wires_stand_once : WiresStandOnce
+  -- `MOST_ELEMENTS`, the limit of a circuit that is read, made or written, is 2^22.
+  pub most_elements_are_stated : MOST_ELEMENTS ≡ 2 ^ 22
+  -- A signal that comes in from outside leaves, or it stops where an element has no move.
+  pub signals_leave_or_hang : SignalsLeaveOrHang
+  -- It does one of the two, and that in one way.
+  pub signals_come_once : SignalsComeOnce
+  -- Where each element has a move from each of its states and input lines, the signal leaves.
+  pub circuits_are_left : CircuitsAreLeft
+  -- The states are in range then, and the line has no wire.
+  pub behaviours_stay : BehavioursStay
+  -- Two pairs of states and free input line that lead to one pair are one.
+  pub behaviours_are_one_to_one : BehavioursAreOneToOne
+  -- Where a move leads to each state and output line of each element, each pair of states and free output line is led to.
+  pub behaviours_are_onto : BehavioursAreOnto
+  -- A behaviour is the run of the circuit, where the clock has room, and that run taken back.
+  pub behaviours_are_runs : BehavioursAreRuns

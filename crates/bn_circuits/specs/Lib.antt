@@ -5,4 +5,16 @@ pub mod RunParts
 pub mod Situations
 pub mod Counting
 pub mod Alike
+pub mod Wirings
+pub mod RotaryNets
+pub mod Rows
+pub mod Parts
+pub mod Order
+pub mod Faults
+pub mod Watching
+pub mod Walking
+pub mod Heard
+pub mod Ends
+pub mod Behaviours
+pub mod BehaviourLaws
 pub mod Laws

@@ -2,6 +2,6 @@
 ghost use Rattle.bn_circuits.specs.Laws.{Laws};
 
 /// Laws over the definitions alone, a named field each.
-pub fn circuit_laws()
+pub fn circuits_laws()
     ensures { Laws }
 {}

@@ -12,7 +12,7 @@ use Rattle.bn_circuits.specs.declared.place.Place.{Place}
 use Rattle.bn_circuits.specs.declared.place.Place.TheVariants.{Enter}
 use Rattle.bn_circuits.specs.declared.config.Config.{Config}
 use Rattle.bn_element.specs.Rotary.{rotary, horizontal, vertical, north, east, south, west}
-use Rattle.bn_net.proofs.RotaryNetLemmas.{set_same}
+use Rattle.bn_circuits.proofs.RotaryNetLemmas.{set_same}
 use Rattle.bn_column.specs.Columns.{IsInner, down, up, under, over, top, IsColumn, bar, IsAtRest, entry_side}
 use Rattle.bn_column.specs.Columns.{crossing_cost, IsEntering, crossed, IsBeside, IsWithin}
 use Rattle.bn_circuits.specs.Circuits.{line_at}

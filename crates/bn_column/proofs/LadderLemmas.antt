@@ -7,15 +7,15 @@ use Rattle.bn_circuits.specs.declared.line.Line.{Line}
 use Rattle.bn_circuits.specs.declared.line.Wire.{Wire}
 use Rattle.bn_element.specs.Rotary.{north, east, south, west}
 use Rattle.bn_element.specs.declared.rotary.Rotary.{Rotary}
-use Rattle.bn_net.specs.Parts.{Parts}
-use Rattle.bn_net.specs.Wirings.{AreWiresOf, AreFitting}
-use Rattle.bn_net.proofs.WiringsLemmas.{IsWire, no_wires, more_wire, same_wires, apart-wire, apart-IsOneToOne}
+use Rattle.bn_circuits.specs.Parts.{Parts}
+use Rattle.bn_circuits.specs.Wirings.{AreWiresOf, AreFitting}
+use Rattle.bn_circuits.proofs.WiringsLemmas.{IsWire, no_wires, more_wire, same_wires, apart-wire, apart-IsOneToOne}
 use Rattle.bn_column.specs.Columns.{IsInner, down, up, under, over, top}
 use Rattle.bn_circuits.specs.Circuits.{line_at}
-use Rattle.bn_net.specs.RotaryNets.{IsNetOf}
+use Rattle.bn_circuits.specs.RotaryNets.{IsNetOf}
 use Rattle.bn_column.specs.Nets.{IsColumnNet, wire_of}
 use Rattle.bn_column.proofs.Rungs.{IsRung, rung_down, rung_up}
-use Rattle.bn_net.proofs.RotaryNetLemmas.{rotary-table_at}
+use Rattle.bn_circuits.proofs.RotaryNetLemmas.{rotary-table_at}
 
 other_element : (e f l m : ℕ) → e ≢ f → line_at e l ≡ line_at f m → ⊥
 other_element e f l m apart same = apart (ap (λ (x : Line). x.element) same)

@@ -5,11 +5,11 @@ use Rattle.bn_circuits.specs.Circuits.{IsConfig}
 use Rattle.bn_circuits.specs.declared.place.Place.TheVariants.{Enter}
 use Rattle.bn_element.specs.Rotary.{vertical}
 use Rattle.bn_element.specs.declared.rotary.Rotary.{Rotary}
-use Rattle.bn_net.specs.Parts.{Parts}
+use Rattle.bn_circuits.specs.Parts.{Parts}
 use Rattle.bn_column.specs.Columns.{bar}
-use Rattle.bn_net.specs.RotaryNets.{rotary_circuit}
+use Rattle.bn_circuits.specs.RotaryNets.{rotary_circuit}
 use Rattle.bn_column.specs.Nets.{IsColumnNet}
-use Rattle.bn_net.proofs.RotaryNetLemmas.{bars-IsConfig, rotary-table_at}
+use Rattle.bn_circuits.proofs.RotaryNetLemmas.{bars-IsConfig, rotary-table_at}
 
 abbrev resting : ℕ → Bool → List ℕ
 resting k marked = replicate k vertical ++ bar marked ∷ []

@@ -2,10 +2,10 @@
 ghost use Rattle.std.specs.Prelude.{◌≡◌, ℕ, ◌≤◌, Bool};
 ghost use Rattle.bn_circuits.specs.Circuits.{IsConfig};
 ghost use Rattle.bn_column.specs.Columns.{crossing_cost, IsColumn, IsEntering, CanCross, IsCrossing};
-ghost use Rattle.bn_net.specs.RotaryNets.{rotary_circuit};
+ghost use Rattle.bn_circuits.specs.RotaryNets.{rotary_circuit};
 
+use bn_circuits::{Config, Net, Place};
 use bn_element::{EAST, HORIZONTAL, Rotary};
-use bn_net::{Config, Net, Place};
 
 /// The element steps of a crossing of a column of `rows` rows, from entering row `row`, counted from
 /// 1, to leaving it. It takes no memory.

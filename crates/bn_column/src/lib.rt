@@ -8,8 +8,8 @@ mod refusal;
 mod standing;
 mod wires;
 
+pub use bn_circuits::rotary_net;
 pub use bn_lists::NoMemory;
-pub use bn_net::rotary_net;
 pub use cross::{cost, cross_in};
 pub use laws::column_laws;
 pub use make::column;

@@ -5,7 +5,7 @@ ghost use Rattle.bn_column.specs.Nets.{IsNoCount, IsStanding};
 use crate::refusal::ColumnRefusal;
 use crate::standing::Column;
 use crate::wires::column_wires;
-use bn_net::rotary_net;
+use bn_circuits::rotary_net;
 use std::alloc::Global;
 
 /// The column of so many rows, which begins marked or not. `Rows` comes exactly where the number of

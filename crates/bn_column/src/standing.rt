@@ -4,9 +4,9 @@ ghost use Rattle.bn_column.specs.Columns.{bar};
 ghost use Rattle.bn_circuits.specs.Circuits.{IsConfig};
 
 use crate::cross::cross_in;
+use bn_circuits::{Config, Net, Place, States};
 use bn_element::{EAST, HORIZONTAL, Rotary, VERTICAL, WEST};
 use bn_lists::NoMemory;
-use bn_net::{Config, Net, Place, States};
 use std::alloc::Global;
 use std::marker::Model;
 
@@ -33,7 +33,7 @@ impl Model for Column {
 impl Column {
     ghost use Rattle.bn_circuits.specs.declared.place.Place.TheVariants.{Left};
     ghost use Rattle.bn_column.specs.Columns.{IsEntering, CanCross, IsCrossing, exit_side};
-    ghost use Rattle.bn_net.specs.RotaryNets.{rotary_circuit};
+    ghost use Rattle.bn_circuits.specs.RotaryNets.{rotary_circuit};
     ghost use Rattle.bn_column.specs.Nets.{IsColumnNet, IsStanding, start_at};
 
     // The column that this net is.

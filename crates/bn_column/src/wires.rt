@@ -1,12 +1,12 @@
 //! The wires of a column.
 ghost use Rattle.std.specs.Prelude.{◌≡◌, ◌+◌, ◌*◌, ◌^◌, ◌<◌, ◌≤◌, ◌++◌, ◌∷◌, [], length, IfOk, OnOk, OnErr, ◌⊎◌};
-ghost use Rattle.bn_net.specs.Wirings.{AreWiresOf};
+ghost use Rattle.bn_circuits.specs.Wirings.{AreWiresOf};
 ghost use Rattle.bn_column.specs.Columns.{IsInner};
 ghost use Rattle.bn_column.specs.Nets.{wire_of};
 
+use bn_circuits::{Line, Wire};
 use bn_element::{EAST, NORTH, SOUTH, WEST};
 use bn_lists::NoMemory;
-use bn_net::{Line, Wire};
 use std::alloc::Global;
 
 /// The inner wires of a column of `rows` rows whose top row is element `first`.

@@ -1,4 +1,4 @@
--- The laws of this crate, a named field each. `Laws` is the contract of `record_laws`.
+-- The laws of this crate, a named field each. `Laws` is the contract of `csv_laws`.
 use Rattle.bn_csv.specs.Entries.{entries_of}
 use Rattle.bn_csv.specs.Lines.{is_plain_entry, lines_of}
 use Rattle.bn_csv.specs.Numbering.{AreNumbered, firsts}

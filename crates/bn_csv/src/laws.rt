@@ -2,6 +2,6 @@
 ghost use Rattle.bn_csv.specs.Laws.{Laws};
 
 /// Laws of the definitions, a named field each.
-pub fn record_laws()
+pub fn csv_laws()
     ensures { Laws }
 {}

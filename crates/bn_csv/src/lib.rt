@@ -13,6 +13,6 @@ pub use bn_lists::NoMemory;
 pub use drafts::{TableDraft, read_entries};
 pub use entries::{Entries, Entry};
 pub use forms::{is_letter, is_state_name, is_symbol};
-pub use laws::record_laws;
+pub use laws::csv_laws;
 pub use names::Names;
 pub use writer::EntryWriter;

@@ -6,7 +6,7 @@ ghost use Rattle.bn_embed.specs.Call.{Ends};
 ghost use Rattle.bn_embed.specs.Words.{words_of};
 
 use crate::split::split_words;
-use bn_net::Quiet;
+use bn_circuits::Quiet;
 use bn_top::{NoMemory, Reply, Status, reply_in_memory};
 use std::alloc::Global;
 

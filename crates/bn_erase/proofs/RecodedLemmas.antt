@@ -10,7 +10,7 @@ use Rattle.bn_lists.specs.Lists.{nth}
 use Rattle.bn_machine.specs.declared.quint.Quint.{Quint}
 use Rattle.bn_erase_laws.proofs.MappedLemmas.{mapped_before, nth_mapped}
 use Rattle.bn_bennett_laws.proofs.Halted.{quint_in_range, some_symbol}
-use Rattle.bn_standard.specs.Standard.{Repeats, BeginsWell, UsesStart, EndsWell, UsesFinal, NamesStart, NamesFinal}
+use Rattle.bn_machine.specs.Standard.{Repeats, BeginsWell, UsesStart, EndsWell, UsesFinal, NamesStart, NamesFinal}
 use Rattle.bn_table.specs.Rows.{FitsTable, states_in}
 use Rattle.bn_erase.specs.Recoded.{recoded_quint, recoded, with_symbols, KeepsSymbols}
 use Rattle.bn_erase.specs.Laws.{RecodedIsStandard}

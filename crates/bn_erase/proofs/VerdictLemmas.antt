@@ -1,11 +1,11 @@
 -- Lists of quintuples that meet the same demands of standard form get the same verdict.
 use Rattle.std.specs.Prelude.{◌↔◌, ℕ, List}
 use Rattle.bn_machine.specs.declared.quint.Quint.{Quint}
-use Rattle.bn_standard.specs.Standard.{BeginsWell, EndsWell, HasLoneFinal, HasLoneStart, IsStandard, IsUnambiguous}
-use Rattle.bn_standard.specs.Standard.{Repeats, UsesFinal, UsesStart}
-use Rattle.bn_standard.specs.Verdict.{IsStandardRefusal}
-use Rattle.bn_standard.specs.declared.why.Why.{Why}
-use Rattle.bn_standard.specs.declared.why.Why.TheVariants.{Repeat, First, StartUsed, Last, FinalUsed, NoMemory}
+use Rattle.bn_machine.specs.Standard.{BeginsWell, EndsWell, HasLoneFinal, HasLoneStart, IsStandard, IsUnambiguous}
+use Rattle.bn_machine.specs.Standard.{Repeats, UsesFinal, UsesStart}
+use Rattle.bn_machine.specs.Verdict.{IsStandardRefusal}
+use Rattle.bn_machine.specs.declared.why.Why.{Why}
+use Rattle.bn_machine.specs.declared.why.Why.TheVariants.{Repeat, First, StartUsed, Last, FinalUsed, NoMemory}
 
 -- each demand holds of both or of neither, and the same quintuples fail it
 pub record AreAlike (qs rs : List Quint) : Type 0 where

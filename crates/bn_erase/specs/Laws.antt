@@ -6,9 +6,9 @@ use Rattle.bn_machine.specs.Tape.{word_tape, blank_tape}
 use Rattle.bn_quad.specs.Quadruples.{Configuration, QuadruplesRunTo, everywhere, final_state_of, initial_of}
 use Rattle.bn_quad.specs.Calls.{IsUniformMachine}
 use Rattle.bn_qtable.specs.Named.{HasNames}
-use Rattle.bn_standard.specs.Standard.{IsStandard}
-use Rattle.bn_standard.specs.Verdict.{IsStandardRefusal}
-use Rattle.bn_standard.specs.declared.why.Why.{Why}
+use Rattle.bn_machine.specs.Standard.{IsStandard}
+use Rattle.bn_machine.specs.Verdict.{IsStandardRefusal}
+use Rattle.bn_machine.specs.declared.why.Why.{Why}
 use Rattle.bn_lists.specs.Lists.{IsIn}
 use Rattle.bn_bennett_laws.specs.Laws.{HaltsAfter}
 use Rattle.bn_bennett_laws.specs.Renamed.{KeepsApart}

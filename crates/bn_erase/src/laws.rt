@@ -2,6 +2,6 @@
 ghost use Rattle.bn_erase.specs.Laws.{Laws};
 
 /// Laws on the erasing machine and on machines over one alphabet, a named field each.
-pub fn joining_laws()
+pub fn erase_joining_laws()
     ensures { Laws }
 {}

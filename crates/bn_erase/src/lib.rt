@@ -12,6 +12,6 @@ pub use bn_erase_laws::ErasingName;
 pub use bn_quad::NoMemory;
 pub use erasing::{Erasing, MOST_QUADRUPLES, erase};
 pub use joined::{Joined, join_letters};
-pub use laws::joining_laws;
+pub use laws::erase_joining_laws;
 pub use naming::erasing_names;
 pub use refusal::EraseRefusal;

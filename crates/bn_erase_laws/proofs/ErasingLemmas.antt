@@ -4,7 +4,7 @@ use Rattle.std.proofs.Common.{refl, sym, ap, ◌∙◌, subst, arith, inl, inr, 
 use Rattle.std.proofs.lemmas.List.{length-map, length-reverse}
 use Rattle.std.proofs.lemmas.Bool.Decides.{eqb_tells}
 use Rattle.bn_machine.specs.Machine.{Program, start_of}
-use Rattle.bn_standard.specs.Standard.{IsStandard}
+use Rattle.bn_machine.specs.Standard.{IsStandard}
 use Rattle.bn_quad.specs.Quadruples.{Deed, Rewrite, Move, Rule, deeds_of, turned_deed, turned, turned_list}
 use Rattle.bn_quad.specs.Quadruples.{IsDeedInRange, AreDeedsInRange}
 use Rattle.bn_quad.specs.Overlap.{HasNoClash}

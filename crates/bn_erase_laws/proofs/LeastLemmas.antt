@@ -9,7 +9,7 @@ use Rattle.bn_lists.specs.Lists.{nth}
 use Rattle.bn_machine.specs.Run.{IsOutput}
 use Rattle.bn_machine.specs.declared.quint.Quint.{Quint}
 use Rattle.bn_machine.specs.declared.quint.Shift.TheVariants.{Stay, Right}
-use Rattle.bn_standard.specs.Standard.{IsStandard}
+use Rattle.bn_machine.specs.Standard.{IsStandard}
 use Rattle.bn_bennett_laws.specs.Stages.{IsStandardMachine}
 use Rattle.bn_bennett_laws.specs.Laws.{HaltsAfter, least}
 use Rattle.bn_erase_laws.proofs.TheoremLemmas.{erases_forth}

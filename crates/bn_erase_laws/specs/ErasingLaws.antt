@@ -5,7 +5,7 @@ use Rattle.bn_machine.specs.Machine.{Program, Moment, IsMachine, IsMachineStuck}
 use Rattle.bn_lists.specs.Lists.{nth, IsIn}
 use Rattle.bn_machine.specs.Run.{After}
 use Rattle.bn_machine.specs.declared.quint.Shift.TheVariants.{Left, Right}
-use Rattle.bn_standard.specs.Standard.{IsStandard}
+use Rattle.bn_machine.specs.Standard.{IsStandard}
 use Rattle.bn_quad.specs.Quadruples.{Deed, Rewrite, Move, Rule, Configuration, Rooms, everywhere, deeds_of}
 use Rattle.bn_quad.specs.Quadruples.{AreDeedsInRange, Quadruples, QuadruplesRunTo, initial_of, final_state_of}
 use Rattle.bn_machine.specs.Window.{Room, anywhere, within}

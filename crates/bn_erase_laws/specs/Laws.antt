@@ -1,4 +1,4 @@
--- The laws of this crate, a named field each. `Laws` is the contract of `erasing_laws`.
+-- The laws of this crate, a named field each. `Laws` is the contract of `erase_laws`.
 use Rattle.bn_erase_laws.specs.ErasingLaws.{ErasingJoins, ErasingPassesTests, ErasingHasLength, ErasingIsInRange}
 use Rattle.bn_erase_laws.specs.ErasingLaws.{LeastErasingIsListed, LeastErases, ComparesOutput, ErasesInput}
 use Rattle.bn_erase_laws.specs.ErasingLaws.{OutcomeIsOne, OutcomeExists, HaltsExactly, ErasingNumbersPassTests}

@@ -2,6 +2,6 @@
 ghost use Rattle.bn_erase_laws.specs.Laws.{Laws};
 
 /// The laws of this crate, a named field each.
-pub fn erasing_laws()
+pub fn erase_laws()
     ensures { Laws }
 {}

@@ -8,5 +8,5 @@ mod laws;
 mod name;
 
 pub use inverses::inverse_laws;
-pub use laws::erasing_laws;
+pub use laws::erase_laws;
 pub use name::ErasingName;

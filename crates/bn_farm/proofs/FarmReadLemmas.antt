@@ -5,7 +5,7 @@ use Rattle.std.proofs.Common.{zero, suc, arith, sym, ap, subst, ◌∙◌, appen
 use Rattle.std.proofs.lemmas.Bool.Decides.{nat_tests}
 use Rattle.std.proofs.lemmas.List.{length-map, map-append}
 use Rattle.bn_lists.specs.Lists.{IsFirstWith, nth}
-use Rattle.bn_net.specs.declared.net.TheConstants.{MOST_ELEMENTS}
+use Rattle.bn_circuits.specs.declared.net.TheConstants.{MOST_ELEMENTS}
 use Rattle.bn_farm.specs.Farms.{board_of, elements_together, FarmBoard, IsSpelled}
 use Rattle.bn_netlist.specs.declared.net_config.NetConfig.{NetConfig}
 use Rattle.bn_base.specs.Cuts.{IsCut, IsUncut}

@@ -9,7 +9,7 @@ use Rattle.bn_lists.specs.Runs.{Reaches}
 use Rattle.bn_circuits.specs.Circuits.{Circuit, Goes, IsConfig}
 use Rattle.bn_circuits.specs.Stepping.{back, run}
 use Rattle.bn_circuits.specs.declared.config.Config.{Config}
-use Rattle.bn_net.specs.RotaryNets.{rotary_circuit}
+use Rattle.bn_circuits.specs.RotaryNets.{rotary_circuit}
 use Rattle.bn_farm.specs.Farms.{board_of, IsAdmitted, FarmBoard, circuit_in, in_config}
 use Rattle.bn_netlist.specs.declared.net_config.NetConfig.{NetConfig}
 use Rattle.bn_netlist.proofs.NetLemmas.{circuits-agree}

@@ -1,7 +1,7 @@
 -- What is read of the bytes of a farm with a schedule, and what a refusal says of them.
 use Rattle.std.specs.Prelude.{◌≡◌, ◌≢◌, ℕ, ◌+◌, ◌<◌, ◌≤◌, List, [], ◌∷◌, ◌++◌, length}
 use Rattle.bn_lists.specs.Lists.{IsFirstWith}
-use Rattle.bn_net.specs.declared.net.TheConstants.{MOST_ELEMENTS}
+use Rattle.bn_circuits.specs.declared.net.TheConstants.{MOST_ELEMENTS}
 use Rattle.bn_netlist.specs.NetText.{IsTextRefusal}
 use Rattle.bn_farm.specs.Farms.{FarmBoard, IsSpelled, board_of, elements_together}
 use Rattle.bn_netlist.specs.declared.net_config.NetConfig.{NetConfig}

@@ -12,7 +12,7 @@ use crate::refusal::ScheduleRefusal;
 use crate::schedule::Schedule;
 use crate::schedule_reader::read_schedule;
 use bn_base::cut_input;
-use bn_net::MOST_ELEMENTS;
+use bn_circuits::MOST_ELEMENTS;
 use bn_netlist::{NetConfig, NetlistRefusal, read_config};
 use std::alloc::Global;
 

@@ -6,7 +6,7 @@ use Rattle.std.proofs.lemmas.Bool.{and_parts, or_cases, eqb-true, ltb-true}
 use Rattle.bn_machine.specs.Machine.{start_of, final_of}
 use Rattle.bn_lists.specs.Lists.{nth}
 use Rattle.bn_machine.specs.declared.quint.Quint.{Quint}
-use Rattle.bn_standard.specs.Standard.{NamesStart, NamesFinal, IsUnambiguous, HasLoneStart, HasLoneFinal}
+use Rattle.bn_machine.specs.Standard.{NamesStart, NamesFinal, IsUnambiguous, HasLoneStart, HasLoneFinal}
 
 -- each quintuple passes the test with its number, the first one's as said
 abbrev pub passes : (ℕ → Quint → Bool) → ℕ → List Quint → Bool

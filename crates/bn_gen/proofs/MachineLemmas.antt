@@ -11,7 +11,7 @@ use Rattle.bn_machine.specs.Machine.{final_of, IsInRange, IsFirstFault}
 use Rattle.bn_lists.specs.Lists.{nth}
 use Rattle.bn_machine.specs.declared.quint.Quint.{Quint}
 use Rattle.bn_machine.specs.declared.quint.Shift.TheVariants.{Stay, Right}
-use Rattle.bn_standard.specs.Standard.{IsStandard}
+use Rattle.bn_machine.specs.Standard.{IsStandard}
 use Rattle.bn_table.specs.Rows.{FitsTable, states_in}
 use Rattle.bn_gen.specs.Increments.{IsRoundCount, incrementer, quints_of, increment_rule, left_going, final}
 use Rattle.bn_gen.proofs.Cases.{by_cases}

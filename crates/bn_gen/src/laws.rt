@@ -2,6 +2,6 @@
 ghost use Rattle.bn_gen.specs.Laws.{Laws};
 
 /// Laws on the machine of k increments, a named field each.
-pub fn increment_laws()
+pub fn gen_laws()
     ensures { Laws }
 {}

@@ -7,6 +7,6 @@ mod rounds;
 mod text;
 
 pub use bn_csv::NoMemory;
-pub use laws::increment_laws;
+pub use laws::gen_laws;
 pub use machine::{MOST_INCREMENTS, increments};
 pub use text::increments_text;

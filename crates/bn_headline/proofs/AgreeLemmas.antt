@@ -4,7 +4,7 @@ use Rattle.std.proofs.Common.{arith, subst, inl, inr, sym, ap, ◌∙◌, append
 use Rattle.std.proofs.lemmas.Bool.{cases_lt}
 use Rattle.std.proofs.lemmas.Int.{ints}
 use Rattle.bn_bennett_laws.specs.Stages.{history}
-use Rattle.bn_board_laws.specs.Runs.{AreEndTapes, HasEndTapes, at_stop, for_number, for_shift, to_read, to_write}
+use Rattle.bn_boards.specs.BoardRuns.{AreEndTapes, HasEndTapes, at_stop, for_number, for_shift, to_read, to_write}
 use Rattle.bn_machine.specs.Machine.{GoesBy, IsFinal, MachineRunsTo, Moment, Program, start}
 use Rattle.bn_machine.specs.declared.quint.Shift.TheVariants.{Right}
 use Rattle.bn_machine.specs.declared.quint.Side.{Side}
@@ -14,11 +14,11 @@ use Rattle.bn_machine.specs.Tape.{Tape, ahead, blank_tape, shift, word_tape}
 use Rattle.bn_machine.proofs.OutputLemmas.{output_once}
 use Rattle.bn_machine.specs.Window.{anywhere}
 use Rattle.bn_machine.proofs.MachineStepLemmas.{goes_by_once, steps_are_functions}
-use Rattle.bn_net.specs.declared.net.TheConstants.{MOST_ELEMENTS}
+use Rattle.bn_circuits.specs.declared.net.TheConstants.{MOST_ELEMENTS}
 use Rattle.bn_table.specs.Rows.{Named}
 use Rattle.bn_reply.specs.declared.status.Status.{Status}
-use Rattle.bn_reply_laws.specs.ToldRuns.{outcome_line}
-use Rattle.bn_reply_laws.specs.RunText.{elements_line, steps_line, tapes_text}
+use Rattle.bn_reply_relations.specs.ToldRuns.{outcome_line}
+use Rattle.bn_reply_relations.specs.RunText.{elements_line, steps_line, tapes_text}
 use Rattle.bn_headline.specs.Elements.{elements, most_steps}
 use Rattle.bn_headline.specs.MachineHeadline.{AreLastLines, MachineHeadline, TellsExit, TookAnswer, TookRun}
 use Rattle.bn_headline.specs.MachineHeadline.{least_steps}

@@ -8,10 +8,10 @@ use Rattle.bn_machine.specs.Machine.{Program}
 use Rattle.bn_machine.specs.Outcome as outcome
 use Rattle.bn_machine.specs.Outcome.{Limits, Outcome, HasOutcome}
 use Rattle.bn_machine.proofs.OutcomeLemmas.{outcome_exists}
-use Rattle.bn_net.specs.declared.net.TheConstants.{MOST_ELEMENTS}
+use Rattle.bn_circuits.specs.declared.net.TheConstants.{MOST_ELEMENTS}
 use Rattle.bn_table.specs.Rows.{Named}
-use Rattle.bn_board_spec.specs.Boards.{size}
-use Rattle.bn_board_spec.specs.Flats.{Flat}
+use Rattle.bn_boards.specs.Boards.{size}
+use Rattle.bn_boards.specs.Flats.{Flat}
 use Rattle.bn_reply.specs.Answering.{AgreeInAll, HasAnswer, IsOneAnswer, IsSettled}
 use Rattle.bn_reply.specs.Codes.{IsReplyStatus}
 use Rattle.bn_reply.specs.TableReply.{ReadsStandard, fit, read, spelled, WordReplies}
@@ -21,13 +21,13 @@ use Rattle.bn_reply.specs.declared.status.Status.TheVariants as statuses
 use Rattle.bn_reply.proofs.SettledLemmas.{agree, standard_settled, standard_tells, word_settled, word_tells}
 use Rattle.bn_reply.proofs.TableLemmas.{reads_table}
 use Rattle.bn_network.specs.Limits.{AreSmall}
-use Rattle.bn_reply_laws.specs.Windows.{BoardReplies, board, large as large_board, long as long_word, ComesTo}
-use Rattle.bn_reply_laws.specs.Windows.{CountsElements, large_line}
+use Rattle.bn_reply_relations.specs.Windows.{BoardReplies, board, large as large_board, long as long_word, ComesTo}
+use Rattle.bn_reply_relations.specs.Windows.{CountsElements, large_line}
 use Rattle.bn_reply.specs.Lines.{long_line}
-use Rattle.bn_reply_laws.specs.RunReply.{RunIsSettled, RunReplies, TellsRun}
-use Rattle.bn_reply_laws.specs.ToldRuns.{outcome_status}
-use Rattle.bn_reply_laws.specs.Laws.{RunsTellOutcomes}
-use Rattle.bn_assembly.specs.Widening.{first_window}
+use Rattle.bn_reply_relations.specs.RunReply.{RunIsSettled, RunReplies, TellsRun}
+use Rattle.bn_reply_relations.specs.ToldRuns.{outcome_status}
+use Rattle.bn_reply_relations.specs.Laws.{RunsTellOutcomes}
+use Rattle.bn_network_assembly.specs.Widening.{first_window}
 use Rattle.bn_headline.specs.Searches.{Finding, Found, HasFinding, Large, Stops, halts, sticks, too_large}
 use Rattle.bn_headline.specs.WindowLaws.{IsOnTheWay, SearchEnds}
 use Rattle.bn_headline.specs.AutoReply.{AutoIsSettled, AutoReplies, EndReplies, FindReplies, MakeRounds}

@@ -1,14 +1,14 @@
 -- The laws of this crate with the laws below them put in, for the crates above that cite them as they are.
 use Rattle.bn_headline.proofs.TotalLemmas.{controls_are_counted}
 use Rattle.bn_table.proofs.MachineLemmas.{tables_machines}
-use Rattle.bn_board_laws.proofs.ClosedLemmas.{flats_there, run_to_exit}
-use Rattle.bn_board_laws.proofs.CountLemmas.{costs-one}
-use Rattle.bn_board_laws.proofs.OutcomeLemmas.{ends-in_time, run-back}
+use Rattle.bn_boards.proofs.ClosedLemmas.{flats_there, run_to_exit}
+use Rattle.bn_boards.proofs.CountLemmas.{costs-one}
+use Rattle.bn_boards.proofs.OutcomeLemmas.{ends-in_time, run-back}
 use Rattle.bn_reply_boards.proofs.GenerateLemmas.{given}
-use Rattle.bn_reply_laws.proofs.ClosedLemmas.{counted, headline_told}
-use Rattle.bn_reply_laws.proofs.ToldRunLemmas.{runs-have_one_of_each}
-use Rattle.bn_reply_laws.proofs.WindowLemmas.{given_accepted}
-use Rattle.bn_reply_laws.specs.Laws.{RunsHaveOneOfEach}
+use Rattle.bn_reply_relations.proofs.ClosedLemmas.{counted, headline_told}
+use Rattle.bn_reply_relations.proofs.ToldRunLemmas.{runs-have_one_of_each}
+use Rattle.bn_reply_relations.proofs.WindowLemmas.{given_accepted}
+use Rattle.bn_reply_relations.specs.Laws.{RunsHaveOneOfEach}
 use Rattle.bn_headline.specs.HeadlineLaws.{BoardsReturn, ElementsAreCounted, GeneratedTellsMachine, RepliesTellMachine}
 use Rattle.bn_headline.specs.CircuitLaws.{HeadlineTellsCircuit}
 use Rattle.bn_headline.proofs.ElementLemmas.{elements-counted}

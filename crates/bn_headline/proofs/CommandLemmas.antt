@@ -17,10 +17,10 @@ use Rattle.bn_reply.specs.Answering.{IsDone, IsOneAnswer}
 use Rattle.bn_reply.specs.TableReply.{WordReplies}
 use Rattle.bn_reply.specs.declared.status.Status.{Status}
 use Rattle.bn_reply.specs.declared.status.Status.TheVariants.{Done}
-use Rattle.bn_reply_laws.proofs.SettledLemmas.{circuits_settled}
-use Rattle.bn_reply_laws.specs.CircuitReply.{CircuitReplies, walked}
-use Rattle.bn_reply_tables.specs.BennettReply.{bennett_text}
-use Rattle.bn_reply_tables.specs.MachineReply.{TellsMachineRun, ending_status, ending_text}
+use Rattle.bn_reply_relations.proofs.SettledLemmas.{circuits_settled}
+use Rattle.bn_reply_relations.specs.CircuitReply.{CircuitReplies, walked}
+use Rattle.bn_reply_machines.specs.BennettReply.{bennett_text}
+use Rattle.bn_reply_machines.specs.MachineReply.{TellsMachineRun, ending_status, ending_text}
 use Rattle.bn_headline.specs.CommandLaws.{BackRepliesTell, BennettRepliesTell, MachineRepliesTell, StepRepliesTell}
 
 pub machine-tells : MachineRepliesTell

@@ -5,8 +5,8 @@ use Rattle.std.specs.Fmt.{digits}
 use Rattle.std.proofs.Common.{arith, lit<, lit≤, sym, ap, ◌∙◌}
 use Rattle.std.proofs.lemmas.Int.{ints}
 use Rattle.bn_machine.specs.Tape.{word_tape}
-use Rattle.bn_board_spec.specs.Layouts.{tape_in}
-use Rattle.bn_board_spec.proofs.ShownHeadLemmas.{shown_inside}
+use Rattle.bn_boards.specs.Layouts.{tape_in}
+use Rattle.bn_boards.proofs.ShownHeadLemmas.{shown_inside}
 use Rattle.bn_machine.specs.Outcome.{Halted}
 use Rattle.bn_csv.specs.Lines.{line_of, lines_of}
 use Rattle.bn_gen.specs.Text.{increments_table, increments_text}
@@ -14,8 +14,8 @@ use Rattle.bn_reply_boards.specs.GenerateReply.{number, window}
 use Rattle.bn_reply.specs.Lines.{line}
 use Rattle.bn_reply.specs.declared.status.Status.{Status}
 use Rattle.bn_reply.specs.declared.status.Status.TheVariants.{Done, Size, Stuck}
-use Rattle.bn_reply_laws.specs.ToldRuns.{run_words}
-use Rattle.bn_reply_laws.specs.RunText.{output_line, quadruple_line, tape_lines}
+use Rattle.bn_reply_relations.specs.ToldRuns.{run_words}
+use Rattle.bn_reply_relations.specs.RunText.{output_line, quadruple_line, tape_lines}
 use Rattle.bn_headline.specs.Generated.{binary}
 use Rattle.bn_headline.specs.MachineHeadline.{MachineHeadline, AreLastLines}
 use Rattle.bn_headline.specs.HeadlineLaws.{IncrementsRun}

@@ -3,23 +3,23 @@ use Rattle.std.specs.Prelude.{◌≡◌, ℕ, ◌≤◌, List, [], refl}
 use Rattle.std.proofs.Common.{arith, sym, ap, subst}
 use Rattle.bn_circuits.specs.declared.line.Line.{Line}
 use Rattle.bn_circuits.specs.declared.place.Place.TheVariants.{Enter, Left}
-use Rattle.bn_net.specs.RotaryNets.{rotary_circuit}
-use Rattle.bn_net.specs.declared.net.TheConstants.{MOST_ELEMENTS}
+use Rattle.bn_circuits.specs.RotaryNets.{rotary_circuit}
+use Rattle.bn_circuits.specs.declared.net.TheConstants.{MOST_ELEMENTS}
 use Rattle.bn_machine.specs.Machine.{Program}
 use Rattle.bn_machine.specs.Outcome.{Limits}
 use Rattle.bn_bennett.specs.Translation.{Translation}
 use Rattle.bn_network.specs.Networks.{network_start}
 use Rattle.bn_network.specs.Starts.{words_on}
-use Rattle.bn_board_spec.specs.Boards.{size, board_start}
-use Rattle.bn_board_spec.specs.Layouts.{IsLayout}
-use Rattle.bn_board_spec.specs.Flats.{Flat, IsFlatOf, IsAccepted}
-use Rattle.bn_assembly.specs.Assembled.{Assembled, IsAssembled, network_of}
+use Rattle.bn_boards.specs.Boards.{size, board_start}
+use Rattle.bn_boards.specs.Layouts.{IsLayout}
+use Rattle.bn_boards.specs.Flats.{Flat, IsFlatOf, IsAccepted}
+use Rattle.bn_network_assembly.specs.Assembled.{Assembled, IsAssembled, network_of}
 use Rattle.bn_board.specs.Flattened.{Flattened}
-use Rattle.bn_board_laws.proofs.ClosedLemmas.{run_to_exit}
+use Rattle.bn_boards.proofs.ClosedLemmas.{run_to_exit}
 use Rattle.bn_headline.specs.FlattenLaws.{MayBeAssembled, IsBoardAtStart, IsFlattenedFor, FlattenedBoardsAreFlats}
 use Rattle.bn_headline.specs.FlattenLaws.{FlattenedBoardsRunToTheirExit}
-use Rattle.bn_board_laws.proofs.NetworkReadLemmas.{networks-read}
-use Rattle.bn_board_laws.proofs.BoardReadLemmas.{uniform_of, word_low}
+use Rattle.bn_boards.proofs.NetworkReadLemmas.{networks-read}
+use Rattle.bn_boards.proofs.ReadingLemmas.{uniform_of, word_low}
 
 -- ---- boards that were flattened
 

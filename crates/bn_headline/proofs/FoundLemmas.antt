@@ -6,19 +6,19 @@ use Rattle.bn_lists.proofs.RunsLemmas.{runs_end_once}
 use Rattle.bn_circuits.specs.declared.place.Place.{Place}
 use Rattle.bn_machine.specs.Machine.{Program}
 use Rattle.bn_machine.specs.Outcome.{Limits, Outcome, HasOutcome}
-use Rattle.bn_net.specs.declared.net.TheConstants.{MOST_ELEMENTS}
+use Rattle.bn_circuits.specs.declared.net.TheConstants.{MOST_ELEMENTS}
 use Rattle.bn_table.specs.Rows.{Named}
-use Rattle.bn_board_spec.specs.Boards.{size}
-use Rattle.bn_board_spec.specs.Flats.{Flat}
-use Rattle.bn_board_laws.specs.Runs.{RunsToExit}
+use Rattle.bn_boards.specs.Boards.{size}
+use Rattle.bn_boards.specs.Flats.{Flat}
+use Rattle.bn_boards.specs.BoardRuns.{RunsToExit}
 use Rattle.bn_reply.specs.TableReply.{JudgedReplies, WordReplies, faulty, fit, foreign, read, spelled, unfit}
-use Rattle.bn_standard.specs.Standard.{IsStandard}
+use Rattle.bn_machine.specs.Standard.{IsStandard}
 use Rattle.bn_reply.specs.declared.status.Status.{Status}
 use Rattle.bn_reply.specs.declared.status.Status.TheVariants as statuses
-use Rattle.bn_reply_laws.specs.Windows.{ComesTo, CountsElements, large_line}
-use Rattle.bn_reply_laws.specs.RunReply.{TellsRun}
-use Rattle.bn_reply_laws.proofs.TellingLemmas.{boards-tell_alike}
-use Rattle.bn_assembly.specs.Widening.{first_window}
+use Rattle.bn_reply_relations.specs.Windows.{ComesTo, CountsElements, large_line}
+use Rattle.bn_reply_relations.specs.RunReply.{TellsRun}
+use Rattle.bn_reply_relations.proofs.TellingLemmas.{boards-tell_alike}
+use Rattle.bn_network_assembly.specs.Widening.{first_window}
 use Rattle.bn_headline.specs.Searches.{Finding, HasBoard, HasFinding, Stops, Widens, halts, sticks, too_large}
 use Rattle.bn_headline.specs.WindowLaws.{IsOnTheWay}
 use Rattle.bn_headline.specs.AutoReply.{EndReplies, FindReplies, SearchReplies, found, found_line, large}

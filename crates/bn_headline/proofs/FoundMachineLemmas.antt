@@ -7,23 +7,23 @@ use Rattle.bn_lists.specs.Runs.{Reaches}
 use Rattle.bn_machine.specs.Machine.{Program}
 use Rattle.bn_machine.specs.Outcome.{Limits, Outcome, HasOutcome}
 use Rattle.bn_machine.specs.Outcome as outcome
-use Rattle.bn_net.specs.declared.net.TheConstants.{MOST_ELEMENTS}
+use Rattle.bn_circuits.specs.declared.net.TheConstants.{MOST_ELEMENTS}
 use Rattle.bn_bennett_laws.specs.Stages.{IsStandardMachine}
 use Rattle.bn_table.proofs.MachineLemmas.{tables_machines}
 use Rattle.bn_table.specs.Rows.{FitsTable, Named}
-use Rattle.bn_board_laws.proofs.ClosedLemmas.{flats_there}
-use Rattle.bn_board_laws.proofs.CountLemmas.{costs-one}
+use Rattle.bn_boards.proofs.ClosedLemmas.{flats_there}
+use Rattle.bn_boards.proofs.CountLemmas.{costs-one}
 use Rattle.bn_reply.specs.declared.status.Status.{Status}
 use Rattle.bn_reply.specs.declared.status.Status.TheVariants.{Size}
-use Rattle.bn_reply_laws.proofs.ClosedLemmas.{counted}
-use Rattle.bn_reply_laws.proofs.WindowLemmas.{standard_machine}
-use Rattle.bn_reply_laws.specs.ToldRuns.{IsGiven}
-use Rattle.bn_reply_laws.specs.Windows.{CountsElements, large_line}
+use Rattle.bn_reply_relations.proofs.ClosedLemmas.{counted}
+use Rattle.bn_reply_relations.proofs.WindowLemmas.{standard_machine}
+use Rattle.bn_reply_relations.specs.ToldRuns.{IsGiven}
+use Rattle.bn_reply_relations.specs.Windows.{CountsElements, large_line}
 use Rattle.bn_headline.specs.FoundHeadline.{IsWordGiven, TellsFoundWindow, TookFinding}
 use Rattle.bn_headline.specs.Searches.{Finding, Found, HasBoard, HasFinding, Large, Stops, Widens}
 use Rattle.bn_headline.specs.Searches.{halts, sticks, too_large}
 use Rattle.bn_headline.proofs.SearchLemmas.{search-ends, windows-whole}
-use Rattle.bn_assembly.specs.Widening.{first_window}
+use Rattle.bn_network_assembly.specs.Widening.{first_window}
 use Rattle.bn_headline.specs.Elements.{elements, most_steps}
 use Rattle.bn_headline.specs.FoundCircuitHeadline.{FoundCircuitHeadline}
 use Rattle.bn_headline.specs.FoundLaws.{EndsAt, FoundTellsMachine, OwnSearchEnds}

@@ -1,13 +1,13 @@
 -- The elements of the boards of the machine of k increments.
 use Rattle.std.specs.Prelude.{◌≡◌, ℕ, ◌+◌, ◌*◌, ◌≤◌, List, length, refl}
 use Rattle.std.proofs.Common.{zero, suc, arith, sym, ap, subst, ◌∙◌}
-use Rattle.bn_net.specs.declared.net.TheConstants.{MOST_ELEMENTS}
+use Rattle.bn_circuits.specs.declared.net.TheConstants.{MOST_ELEMENTS}
 use Rattle.bn_quad.specs.Quadruples.{Rule}
 use Rattle.bn_bennett_laws.specs.List.{symbols_of}
 use Rattle.bn_bennett_laws.specs.Stages.{IsStandardMachine}
 use Rattle.bn_network.specs.Networks.{elements_by}
-use Rattle.bn_reply_laws.proofs.ClosedLemmas.{counted}
-use Rattle.bn_board_laws.proofs.ClosedLemmas.{flats_there}
+use Rattle.bn_reply_relations.proofs.ClosedLemmas.{counted}
+use Rattle.bn_boards.proofs.ClosedLemmas.{flats_there}
 use Rattle.bn_headline.specs.CountLaws.{without_shift, never_entered, never_left}
 use Rattle.bn_headline.proofs.TotalLemmas.{controls_are_counted}
 use Rattle.bn_gen.specs.Increments.{IsRoundCount, incrementer, quints_of}

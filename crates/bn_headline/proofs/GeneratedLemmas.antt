@@ -2,14 +2,14 @@
 use Rattle.std.specs.Prelude.{ℕ, ◌+◌, ◌*◌, ◌≤◌, refl}
 use Rattle.std.proofs.Common.{arith, subst}
 use Rattle.bn_machine.specs.Outcome.{Halted}
-use Rattle.bn_net.specs.declared.net.TheConstants.{MOST_ELEMENTS}
+use Rattle.bn_circuits.specs.declared.net.TheConstants.{MOST_ELEMENTS}
 use Rattle.bn_table.specs.Laws.{TablesAreMachines}
 use Rattle.bn_gen.specs.Increments.{IsRoundCount, incrementer}
 use Rattle.bn_gen.specs.Text.{increments_table, increments_text}
-use Rattle.bn_board_laws.specs.RunLaws.{CostsAreOne}
+use Rattle.bn_boards.specs.RunLaws.{CostsAreOne}
 use Rattle.bn_reply_boards.specs.GenerateReply.{number, window}
 use Rattle.bn_reply_boards.specs.GenerateLaws.{GeneratedTablesAreGiven}
-use Rattle.bn_reply_laws.specs.Laws.{BoardsAreCounted, RunsHaveOneOfEach}
+use Rattle.bn_reply_relations.specs.Laws.{BoardsAreCounted, RunsHaveOneOfEach}
 use Rattle.bn_headline.specs.Elements.{elements}
 use Rattle.bn_headline.specs.Generated.{binary}
 use Rattle.bn_headline.specs.MachineHeadline.{IsOwnRun}

@@ -14,7 +14,7 @@ use Rattle.bn_machine.specs.Machine.{Program, Moment, Matches, IsFirstMatch, Mac
 use Rattle.bn_machine.specs.Outcome.{halts, copied}
 use Rattle.bn_machine.specs.Tape.{cells_from, scanned, write, shift, moved}
 use Rattle.bn_machine.specs.Window.{within, IsBetween}
-use Rattle.bn_board_spec.proofs.FirstLemmas.{below, not_below}
+use Rattle.bn_boards.proofs.FirstLemmas.{below, not_below}
 use Rattle.bn_machine.proofs.TapeLemmas.{symbol_at-cells_from, cells_from-set, cells_from-blanks, cells_from-trailing}
 use Rattle.bn_gen.specs.Increments.{IsRoundCount, incrementer}
 use Rattle.bn_reply_boards.specs.GenerateReply.{digits}

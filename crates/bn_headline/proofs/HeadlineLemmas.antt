@@ -17,38 +17,38 @@ use Rattle.bn_circuits.proofs.CountingLemmas.{one_low, tally_low}
 use Rattle.bn_circuits.proofs.RunLemmas.{Reaches-run}
 use Rattle.bn_circuits.proofs.RunPartLemmas.{runs_split, steps_of_run}
 use Rattle.bn_machine.specs.Tape.{Tape}
-use Rattle.bn_board_spec.specs.declared.spelled.Spelled.{Spelled}
+use Rattle.bn_boards.specs.declared.spelled.Spelled.{Spelled}
 use Rattle.bn_machine.specs.Outcome as outcome
 use Rattle.bn_machine.specs.Outcome.{Limits, Outcome, HasOutcome}
-use Rattle.bn_net.specs.declared.net.TheConstants.{MOST_ELEMENTS}
+use Rattle.bn_circuits.specs.declared.net.TheConstants.{MOST_ELEMENTS}
 use Rattle.bn_element.specs.Rotary.{rotary}
 use Rattle.bn_quad.specs.Quadruples.{Quadruples}
 use Rattle.bn_table.specs.Laws.{TablesAreMachines}
 use Rattle.bn_table.specs.Rows.{Named}
 use Rattle.bn_network.specs.Controls.{ControlState, lines_before}
 use Rattle.bn_network.specs.Networks.{bank_size, cell_size, cells_in, elements_by}
-use Rattle.bn_board_spec.specs.declared.exit.Exit.TheVariants as exit
-use Rattle.bn_board_spec.specs.Layouts.{Layout, IsLayout, elements_of, is_moment, spelled_tape}
-use Rattle.bn_board_spec.specs.Flats.{IsFlatOf, Flat, flat_start}
-use Rattle.bn_board_spec.proofs.SpanLemmas.{spans}
-use Rattle.bn_board_spec.specs.Costs.{HasCost, bound_of}
-use Rattle.bn_board_laws.specs.Runs.{HasEndTapes, RunsToExit, SpellsEnd}
-use Rattle.bn_board_laws.specs.RunLaws.{CostsAreOne}
+use Rattle.bn_boards.specs.declared.exit.Exit.TheVariants as exit
+use Rattle.bn_boards.specs.Layouts.{Layout, IsLayout, elements_of, is_moment, spelled_tape}
+use Rattle.bn_boards.specs.Flats.{IsFlatOf, Flat, flat_start}
+use Rattle.bn_boards.proofs.SpanLemmas.{spans}
+use Rattle.bn_boards.specs.Costs.{HasCost, bound_of}
+use Rattle.bn_boards.specs.BoardRuns.{HasEndTapes, RunsToExit, SpellsEnd}
+use Rattle.bn_boards.specs.RunLaws.{CostsAreOne}
 use Rattle.bn_reply.specs.declared.status.Status.{Status}
 use Rattle.bn_reply.specs.declared.status.Status.TheVariants as statuses
 use Rattle.bn_reply.specs.TableReply.{WordReplies}
 use Rattle.bn_reply.proofs.SettledLemmas.{standard_tells, word_tells}
 use Rattle.bn_reply.proofs.TableLemmas.{reads_table}
-use Rattle.bn_board_spec.specs.Boards.{size}
+use Rattle.bn_boards.specs.Boards.{size}
 use Rattle.bn_base.specs.Number.{greatest}
 use Rattle.bn_reply.specs.declared.limits.TheConstants.{MOST_INPUT_BYTES}
-use Rattle.bn_reply_laws.specs.Windows.{BoardReplies, long, large, board, ComesTo, CountsElements, large_line}
-use Rattle.bn_reply_laws.specs.RunText.{elements_line, exit_line, shown_lines, steps_line, tape_lines, tapes_text}
-use Rattle.bn_reply_laws.specs.RunReply.{RunReplies, TellsRun, board_after}
-use Rattle.bn_reply_laws.specs.ToldRuns as within
-use Rattle.bn_reply_laws.specs.ToldRuns.{ComesOutOn, TellsOutcome, outcome_line, outcome_rest, run_words}
-use Rattle.bn_reply_laws.specs.Laws.{AnswersTellHeadline, BoardsAreCounted, RunsHaveOneOfEach}
-use Rattle.bn_reply_laws.proofs.WindowLemmas.{standard_machine}
+use Rattle.bn_reply_relations.specs.Windows.{BoardReplies, long, large, board, ComesTo, CountsElements, large_line}
+use Rattle.bn_reply_relations.specs.RunText.{elements_line, exit_line, shown_lines, steps_line, tape_lines, tapes_text}
+use Rattle.bn_reply_relations.specs.RunReply.{RunReplies, TellsRun, board_after}
+use Rattle.bn_reply_relations.specs.ToldRuns as within
+use Rattle.bn_reply_relations.specs.ToldRuns.{ComesOutOn, TellsOutcome, outcome_line, outcome_rest, run_words}
+use Rattle.bn_reply_relations.specs.Laws.{AnswersTellHeadline, BoardsAreCounted, RunsHaveOneOfEach}
+use Rattle.bn_reply_relations.proofs.WindowLemmas.{standard_machine}
 use Rattle.bn_headline.specs.Elements.{elements, most_steps}
 use Rattle.bn_headline.specs.MachineHeadline.{AreLastLines, AreTapes, IsOwnRun, MachineHeadline, MachineHeadlineWithin}
 use Rattle.bn_headline.specs.MachineHeadline.{TellsExit, TellsInside, TellsExitWithin, TookAnswer, least_steps}

@@ -1,7 +1,7 @@
 -- The laws of this crate that follow from those of the crates below it, each proved.
-use Rattle.bn_board_laws.proofs.LawLemmas.{flats_are_there, boards_run_to_their_exit}
-use Rattle.bn_board_spec.proofs.ExitLemmas.{exits-one}
-use Rattle.bn_board_spec.proofs.LawLemmas.{flats_are_one}
+use Rattle.bn_boards.proofs.BoardLawLemmas.{flats_are_there, boards_run_to_their_exit}
+use Rattle.bn_boards.proofs.ExitLemmas.{exits-one}
+use Rattle.bn_boards.proofs.LayoutLawLemmas.{flats_are_one}
 use Rattle.bn_headline.proofs.AutoLemmas.{Answers, rounds-search, auto-settled, rounds-begin}
 use Rattle.bn_headline.proofs.ClosedLemmas.{one_of_each}
 use Rattle.bn_headline.proofs.FoundLemmas.{autos-tell_findings, autos-tell_places, autos-end_inside, answers-tell_found}
@@ -16,7 +16,7 @@ use Rattle.bn_headline.specs.AutoReply.{AutoIsSettled}
 use Rattle.bn_headline.specs.HeadlineLaws.{IncrementsRun, OwnRunsAreOne}
 use Rattle.bn_headline.specs.WindowLaws.{ElementsGrow, SearchEnds, SearchIsShort, SearchIsOne}
 use Rattle.bn_reply_boards.proofs.GenerateLemmas.{given}
-use Rattle.bn_reply_laws.proofs.LawLemmas.{boards_are_counted, run_has_one_reply, runs_tell_outcomes}
+use Rattle.bn_reply_relations.proofs.LawLemmas.{boards_are_counted, run_has_one_reply, runs_tell_outcomes}
 use Rattle.bn_table.proofs.MachineLemmas.{tables_machines}
 
 pub increments_run : IncrementsRun

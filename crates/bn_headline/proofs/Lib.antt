@@ -30,3 +30,8 @@ pub mod NameLemmas
 pub mod TotalLemmas
 pub mod FoundMachineLemmas
 pub mod LawLemmas
+pub mod WindowLawLemmas
+pub mod WindowRoundLemmas
+pub mod WindowLemmas
+pub mod WindowToldLemmas
+pub mod WindowClosedLemmas

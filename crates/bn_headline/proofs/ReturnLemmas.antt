@@ -3,9 +3,9 @@ use Rattle.std.specs.Prelude.{◌≡◌, ℕ, ◌+◌, ◌≤◌}
 use Rattle.std.proofs.Common.{arith, subst, ◌∙◌, zero-add}
 use Rattle.bn_circuits.specs.Stepping.{back, run}
 use Rattle.bn_circuits.proofs.RunLemmas.{run-zero}
-use Rattle.bn_board_spec.specs.Flats.{flat_start}
-use Rattle.bn_board_laws.specs.RunLaws.{BoardsEndInTime, BoardsRunBack}
-use Rattle.bn_reply_laws.specs.Laws.{GivenBoardsAreAccepted, RunsHaveOneOfEach}
+use Rattle.bn_boards.specs.Flats.{flat_start}
+use Rattle.bn_boards.specs.RunLaws.{BoardsEndInTime, BoardsRunBack}
+use Rattle.bn_reply_relations.specs.Laws.{GivenBoardsAreAccepted, RunsHaveOneOfEach}
 use Rattle.bn_headline.specs.CircuitHeadline.{CircuitHeadline}
 use Rattle.bn_headline.specs.CircuitLaws.{HeadlineTellsCircuit}
 use Rattle.bn_headline.specs.HeadlineLaws.{BoardsReturn, OwnRunsAreOne}

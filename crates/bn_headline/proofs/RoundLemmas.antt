@@ -17,24 +17,24 @@ use Rattle.bn_machine.specs.declared.quint.Side.{Side}
 use Rattle.bn_bennett_laws.specs.Stages.{IsStandardMachine}
 use Rattle.bn_table.specs.Laws.{TablesAreMachines}
 use Rattle.bn_table.specs.Rows.{FitsTable, Named}
-use Rattle.bn_board_spec.specs.Boards.{size}
-use Rattle.bn_board_spec.specs.declared.exit.Exit.TheVariants as exits
-use Rattle.bn_board_spec.specs.Layouts.{IsNamedExit}
-use Rattle.bn_board_spec.specs.Flats.{Flat, IsAccepted, flat_start}
-use Rattle.bn_board_spec.specs.LayoutLaws.{ExitsAreOne, FlatsAreOne}
-use Rattle.bn_board_laws.specs.ExistenceLaws.{FlatsAreThere}
-use Rattle.bn_board_spec.specs.Costs.{bound_of}
-use Rattle.bn_board_laws.specs.Runs.{IsExitFor, RunsToExit}
-use Rattle.bn_board_laws.specs.RunLaws.{BoardsRunToTheirExit}
-use Rattle.bn_board_laws.proofs.CountLemmas.{places_stop}
-use Rattle.bn_board_laws.proofs.OutcomeLemmas.{at_cost, not_unnamed}
-use Rattle.bn_reply_laws.specs.Windows.{ComesTo}
-use Rattle.bn_reply_laws.specs.RunReply.{board_after, budget, reached}
-use Rattle.bn_reply_laws.specs.ToldRuns.{IsGiven}
-use Rattle.bn_reply_laws.specs.Laws.{BoardsAreCounted}
-use Rattle.bn_reply_laws.proofs.RunLemmas.{named_of}
-use Rattle.bn_reply_laws.proofs.TellingLemmas.{same_boards}
-use Rattle.bn_reply_laws.proofs.WindowLemmas.{given_accepted, standard_machine}
+use Rattle.bn_boards.specs.Boards.{size}
+use Rattle.bn_boards.specs.declared.exit.Exit.TheVariants as exits
+use Rattle.bn_boards.specs.Layouts.{IsNamedExit}
+use Rattle.bn_boards.specs.Flats.{Flat, IsAccepted, flat_start}
+use Rattle.bn_boards.specs.LayoutLaws.{ExitsAreOne, FlatsAreOne}
+use Rattle.bn_boards.specs.ExistenceLaws.{FlatsAreThere}
+use Rattle.bn_boards.specs.Costs.{bound_of}
+use Rattle.bn_boards.specs.BoardRuns.{IsExitFor, RunsToExit}
+use Rattle.bn_boards.specs.RunLaws.{BoardsRunToTheirExit}
+use Rattle.bn_boards.proofs.CountLemmas.{places_stop}
+use Rattle.bn_boards.proofs.OutcomeLemmas.{at_cost, not_unnamed}
+use Rattle.bn_reply_relations.specs.Windows.{ComesTo}
+use Rattle.bn_reply_relations.specs.RunReply.{board_after, budget, reached}
+use Rattle.bn_reply_relations.specs.ToldRuns.{IsGiven}
+use Rattle.bn_reply_relations.specs.Laws.{BoardsAreCounted}
+use Rattle.bn_reply_relations.proofs.RunLemmas.{named_of}
+use Rattle.bn_reply_relations.proofs.TellingLemmas.{same_boards}
+use Rattle.bn_reply_relations.proofs.WindowLemmas.{given_accepted, standard_machine}
 use Rattle.bn_headline.specs.Searches.{HasBoard, Widens}
 use Rattle.bn_headline.specs.WindowLaws.{IsOnTheWay}
 use Rattle.bn_headline.specs.AutoReply.{IsRound, MakeRounds}

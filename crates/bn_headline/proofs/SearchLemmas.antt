@@ -2,7 +2,7 @@
 use Rattle.std.specs.Prelude.{◌≡◌, ℕ, ◌+◌, ◌<◌, ◌≤◌, List, length, refl, ◌⊎◌}
 use Rattle.std.proofs.Common.{zero, suc, arith, sym, ap, subst, ◌∙◌, inl, inr}
 use Rattle.std.proofs.lemmas.Bool.{cases_lt}
-use Rattle.bn_net.specs.declared.net.TheConstants.{MOST_ELEMENTS}
+use Rattle.bn_circuits.specs.declared.net.TheConstants.{MOST_ELEMENTS}
 use Rattle.bn_lists.specs.Runs.{Reaches, IsFunction}
 use Rattle.bn_lists.proofs.RunsLemmas.{runs_end_once}
 use Rattle.bn_machine.specs.Machine.{Program}
@@ -10,11 +10,11 @@ use Rattle.bn_machine.specs.Outcome.{Limits, Outcome, Halted, Stuck, Outside, Ha
 use Rattle.bn_machine.proofs.OutcomeLemmas.{outcome_once, outcome_exists, run_goes_on}
 use Rattle.bn_machine.specs.declared.quint.Side.{Side}
 use Rattle.bn_bennett_laws.specs.Stages.{IsStandardMachine}
-use Rattle.bn_board_spec.specs.Boards.{size}
-use Rattle.bn_board_laws.specs.ExistenceLaws.{FlatsAreThere}
-use Rattle.bn_reply_laws.specs.Windows.{CountsElements}
-use Rattle.bn_reply_laws.specs.Laws.{BoardsAreCounted}
-use Rattle.bn_assembly.specs.Widening.{first_window, widened, IsEnd, IsWhole}
+use Rattle.bn_boards.specs.Boards.{size}
+use Rattle.bn_boards.specs.ExistenceLaws.{FlatsAreThere}
+use Rattle.bn_reply_relations.specs.Windows.{CountsElements}
+use Rattle.bn_reply_relations.specs.Laws.{BoardsAreCounted}
+use Rattle.bn_network_assembly.specs.Widening.{first_window, widened, IsEnd, IsWhole}
 use Rattle.bn_headline.specs.Searches.{Finding, Found, Large, HasBoard, Widens, Stops, too_large, halts, sticks}
 use Rattle.bn_headline.specs.Searches.{HasFinding}
 use Rattle.bn_headline.specs.WindowLaws.{ComesInside, halted, stuck, FoundComesOut, IsOnTheWay, LargeIsTooLarge}

@@ -10,12 +10,12 @@ use Rattle.bn_quad.specs.Quadruples.{Quadruples}
 use Rattle.bn_bennett_laws.specs.Stages.{IsStandardMachine}
 use Rattle.bn_network.specs.Controls.{control_lines, symbol_count}
 use Rattle.bn_network.specs.Networks.{IsTape, bank_size, cell_size, elements_by}
-use Rattle.bn_board_spec.proofs.LetterLemmas.{tape_letters}
+use Rattle.bn_boards.proofs.LetterLemmas.{tape_letters}
 use Rattle.bn_bennett.proofs.Machines.{some_symbols}
 use Rattle.bn_network.specs.Limits.{AreSmall}
-use Rattle.bn_reply_laws.specs.Windows.{CountsElements}
-use Rattle.bn_reply_laws.specs.Laws.{BoardsAreCounted}
-use Rattle.bn_assembly.specs.Widening.{IsEnd, IsWhole, cells, number_at, widened}
+use Rattle.bn_reply_relations.specs.Windows.{CountsElements}
+use Rattle.bn_reply_relations.specs.Laws.{BoardsAreCounted}
+use Rattle.bn_network_assembly.specs.Widening.{IsEnd, IsWhole, cells, number_at, widened}
 use Rattle.bn_headline.specs.Searches.{HasBoard}
 use Rattle.bn_headline.specs.WindowLaws.{ElementsGrow, NumbersStayLow}
 use Rattle.bn_headline.proofs.EndLemmas.{by_end, sums_grow, sums_some}

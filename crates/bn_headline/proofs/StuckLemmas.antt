@@ -14,31 +14,26 @@ use Rattle.bn_machine.specs.Outcome as outcome
 use Rattle.bn_machine.specs.Outcome.{Limits}
 use Rattle.bn_quad.specs.Quadruples.{Configuration, Quadruples, IsQuadMachine}
 use Rattle.bn_rsm.specs.Machines.{machine_table}
-use Rattle.bn_rsm.proofs.CostLemmas.{costs-bounded}
 use Rattle.bn_bennett_laws.specs.Steps.{Stopped, Exit}
 use Rattle.bn_bennett.specs.Runs.{beginning_of}
 use Rattle.bn_network.specs.declared.cell_line.CellLine.TheVariants.{Answer}
 use Rattle.bn_network.specs.Controls.{ControlState, Reads, Tape as to_tape, symbol_count, in_number, lines_before}
 use Rattle.bn_network.specs.Networks.{IsControlAt, network_start}
 use Rattle.bn_network_laws.specs.Ends.{by_stop, IsStoppedAt, tape_of}
-use Rattle.bn_network_laws.proofs.FirstLemmas.{first-moment}
-use Rattle.bn_network_laws.proofs.LastLemmas.{last-moment, letters_are, line_in_range, one_tape}
-use Rattle.bn_network_laws.proofs.NextLemmas.{next-moment}
-use Rattle.bn_network_laws.proofs.CommandLemmas.{commands-walk}
-use Rattle.bn_network.proofs.ExistingLemmas.{have-entries}
+use Rattle.bn_network_laws.proofs.LastLemmas.{letters_are, line_in_range, one_tape}
 use Rattle.bn_control.specs.Controlled.{Controlled, IsStuckAt}
-use Rattle.bn_board_spec.proofs.ListedLemmas.{boards-there}
-use Rattle.bn_board_laws.proofs.LayoutLemmas.{layouts-there}
-use Rattle.bn_board_spec.specs.Flats.{Flat, IsFlatOf, IsAccepted}
-use Rattle.bn_board_laws.specs.Journeys.{Strides, NetworkComes, NetworkEndsAs}
-use Rattle.bn_board_laws.proofs.JourneyedLemmas.{networks-end}
-use Rattle.bn_assembly.specs.Assembled.{Assembled, IsAssembled, network_of}
-use Rattle.bn_assembly.specs.Modules.{module_table}
-use Rattle.bn_board_laws.proofs.ClosedLemmas.{alike, uniform}
-use Rattle.bn_board_laws.specs.NetworkMoments.{IsUniformNetwork}
+use Rattle.bn_boards.proofs.ListedLemmas.{boards-there}
+use Rattle.bn_boards.proofs.LayoutLemmas.{layouts-there}
+use Rattle.bn_boards.specs.Flats.{Flat, build_of, IsFlatOf, IsAccepted}
+use Rattle.bn_boards.specs.Journeys.{Strides, NetworkComes, NetworkEndsAs}
+use Rattle.bn_boards.proofs.JourneyedLemmas.{networks-end}
+use Rattle.bn_network_assembly.specs.Assembled.{Assembled, IsAssembled, network_of}
+use Rattle.bn_network_assembly.specs.Modules.{module_table}
+use Rattle.bn_boards.proofs.ClosedLemmas.{uniform}
+use Rattle.bn_boards.specs.Builds.{IsUniformNetwork}
 use Rattle.bn_headline.specs.StuckLaws.{IsNamedStop, StopsAreNamed, NamedStopsAreEnds, StuckRunsAreNamed}
-use Rattle.bn_board_laws.proofs.BoardReadLemmas.{has_letters, word_low}
-use Rattle.bn_board_laws.proofs.NetworkReadLemmas.{networks-read}
+use Rattle.bn_boards.proofs.ReadingLemmas.{has_letters, word_low}
+use Rattle.bn_boards.proofs.NetworkReadLemmas.{networks-read}
 
 -- ---- of which pairs it is said
 
@@ -149,7 +144,7 @@ stops-named m l word names a machine is s c ended (by_stop t stop place waits lo
 
 -- strides over moments are a run of the network
 strides_run : (f : Flat) (test : Situation → Bool) (n : ℕ) (x y : Situation × Configuration ℕ)
-    → Reaches (Strides f test) n x y
+    → Reaches (Strides (build_of f) test) n x y
     → (k : ℕ) × Reaches (Turns f.network) k x.0 y.0
 strides_run f test zero x y run = (0, ap (λ (z : Situation × Configuration ℕ). z.0) run)
 strides_run f test (suc n) x y run =
@@ -215,10 +210,7 @@ stuck-runs p l word t names a may is_t is i j c out =
       few = omega arith;
     } in
     let ended : NetworkEndsAs f read.0 i (outcome.Stuck j c) =
-    networks-end alike uniform (first-moment costs-bounded have-entries)
-    (next-moment costs-bounded (commands-walk costs-bounded) have-entries)
-    (last-moment costs-bounded (commands-walk costs-bounded) have-entries)
-    p word l f read.0 flat accepted read.1.tells i (outcome.Stuck j c) out in
+    networks-end p word l f read.0 flat accepted read.1.tells i (outcome.Stuck j c) out in
     let comes = ended.1 in
     let run = comes_run f read.0 (2 * i) ended.0 Stopped comes in
     let stop = stops-named t.machine l word names a is_t.machine is comes.last ended.0 comes.ended comes.ends in

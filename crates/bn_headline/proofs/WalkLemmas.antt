@@ -19,7 +19,7 @@ use Rattle.bn_machine.specs.declared.quint.Quint.{Quint}
 use Rattle.bn_machine.specs.declared.quint.Shift.{Shift}
 use Rattle.bn_machine.specs.declared.quint.Shift.TheVariants.{Left, Stay, Right}
 use Rattle.bn_machine.proofs.TapeLemmas.{symbol_at-cells_from, cells_from-set, cells_from-blanks, cells_from-trailing}
-use Rattle.bn_standard.specs.Standard.{IsStandard}
+use Rattle.bn_machine.specs.Standard.{IsStandard}
 use Rattle.bn_gen.specs.Increments.{IsRoundCount, incrementer, quints_of, final}
 use Rattle.bn_gen.proofs.MachineLemmas.{standard}
 use Rattle.bn_reply_boards.specs.GenerateReply.{window}

@@ -7,13 +7,13 @@ use Rattle.bn_circuits.specs.declared.place.Place.{Place}
 use Rattle.bn_machine.specs.Machine.{Program}
 use Rattle.bn_machine.specs.Outcome.{Limits}
 use Rattle.bn_table.specs.Rows.{Named}
-use Rattle.bn_board_spec.specs.Flats.{Flat, flat_start}
-use Rattle.bn_board_spec.specs.Costs.{HasCost}
+use Rattle.bn_boards.specs.Flats.{Flat, flat_start}
+use Rattle.bn_boards.specs.Costs.{HasCost}
 use Rattle.bn_reply.specs.declared.limits.TheConstants.{MOST_INPUT_BYTES}
 use Rattle.bn_reply.specs.declared.status.Status.{Status}
 use Rattle.bn_reply.specs.declared.status.Status.TheVariants as statuses
-use Rattle.bn_reply_laws.specs.Windows.{ComesTo}
-use Rattle.bn_assembly.specs.Widening.{first_window}
+use Rattle.bn_reply_relations.specs.Windows.{ComesTo}
+use Rattle.bn_network_assembly.specs.Widening.{first_window}
 use Rattle.bn_headline.specs.Searches.{Finding, Found, Large, HasFinding, Widens}
 use Rattle.bn_headline.specs.AutoReply.{AutoReplies, MakeRounds}
 use Rattle.bn_headline.specs.FoundHeadline.{IsWordGiven, TellsFinding, TellsFoundWindow, auto_words}

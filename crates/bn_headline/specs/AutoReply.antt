@@ -9,20 +9,20 @@ use Rattle.bn_circuits.specs.declared.place.Place.{Place}
 use Rattle.bn_machine.specs.Machine.{Program}
 use Rattle.bn_machine.specs.Outcome.{Limits}
 use Rattle.bn_machine.specs.declared.quint.Side.{Side}
-use Rattle.bn_net.specs.declared.net.TheConstants.{MOST_ELEMENTS}
+use Rattle.bn_circuits.specs.declared.net.TheConstants.{MOST_ELEMENTS}
 use Rattle.bn_table.specs.Rows.{Named}
-use Rattle.bn_board_spec.specs.declared.exit.Exit.TheVariants as exits
-use Rattle.bn_board_spec.specs.Layouts.{IsNamedExit}
-use Rattle.bn_board_spec.specs.Flats.{Flat, flat_start}
+use Rattle.bn_boards.specs.declared.exit.Exit.TheVariants as exits
+use Rattle.bn_boards.specs.Layouts.{IsNamedExit}
+use Rattle.bn_boards.specs.Flats.{Flat, flat_start}
 use Rattle.bn_reply.specs.Answering.{IsSettled}
 use Rattle.bn_reply.specs.Lines.{line}
 use Rattle.bn_reply.specs.TableReply.{StandardReplies, WordReplies}
 use Rattle.bn_reply.specs.declared.status.Status.{Status}
 use Rattle.bn_reply.specs.declared.status.Status.TheVariants as statuses
-use Rattle.bn_reply_laws.specs.Windows.{ComesTo, CountsElements, large_line}
+use Rattle.bn_reply_relations.specs.Windows.{ComesTo, CountsElements, large_line}
 use Rattle.bn_reply.specs.Lines.{long_line}
-use Rattle.bn_reply_laws.specs.RunReply.{TellsRun, budget, reached}
-use Rattle.bn_assembly.specs.Widening.{first_window, widened}
+use Rattle.bn_reply_relations.specs.RunReply.{TellsRun, budget, reached}
+use Rattle.bn_network_assembly.specs.Widening.{first_window, widened}
 
 -- the line of the window that was found
 abbrev pub found_line : Limits → List ℕ

@@ -3,11 +3,11 @@
 use Rattle.std.specs.Prelude.{ℕ, ◌≤◌, List, length, Option}
 use Rattle.bn_machine.specs.Outcome.{Limits, Outcome}
 use Rattle.bn_table.specs.Rows.{Named}
-use Rattle.bn_board_spec.specs.Flats.{Flat}
+use Rattle.bn_boards.specs.Flats.{Flat}
 use Rattle.bn_reply.specs.declared.limits.TheConstants.{MOST_INPUT_BYTES}
 use Rattle.bn_reply.specs.declared.status.Status.{Status}
-use Rattle.bn_reply_laws.specs.ToldRuns.{AsksRun, ComesOutOn, TookOutcome}
-use Rattle.bn_reply_laws.specs.Windows.{ComesTo}
+use Rattle.bn_reply_relations.specs.ToldRuns.{AsksRun, ComesOutOn, TookOutcome}
+use Rattle.bn_reply_relations.specs.Windows.{ComesTo}
 use Rattle.bn_headline.specs.HeadlineLaws.{RunsBack}
 
 -- Where the words ask for a run whose board isn't too large, the text tells the run of the board, which comes to the

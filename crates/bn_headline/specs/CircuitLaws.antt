@@ -1,7 +1,7 @@
 -- What the answers of `run` tell of the circuit.
 use Rattle.std.specs.Prelude.{ℕ, List, Option}
 use Rattle.bn_reply.specs.declared.status.Status.{Status}
-use Rattle.bn_reply_laws.specs.ToldRuns.{TellsHeadline}
+use Rattle.bn_reply_relations.specs.ToldRuns.{TellsHeadline}
 use Rattle.bn_headline.specs.CircuitHeadline.{CircuitHeadline}
 
 -- what tells the headline of the boards tells that by the circuit

@@ -14,8 +14,8 @@ use Rattle.bn_reply.specs.Words.{IsSpelledBy}
 use Rattle.bn_reply.specs.declared.limits.TheConstants.{MOST_INPUT_BYTES}
 use Rattle.bn_reply.specs.declared.status.Status.{Status}
 use Rattle.bn_reply.specs.declared.status.Status.TheVariants.{Done}
-use Rattle.bn_reply_tables.specs.BennettReply.{bennett_text}
-use Rattle.bn_reply_tables.specs.MachineReply.{ending_status, ending_text}
+use Rattle.bn_reply_machines.specs.BennettReply.{bennett_text}
+use Rattle.bn_reply_machines.specs.MachineReply.{ending_status, ending_text}
 use Rattle.bn_table.specs.Rows.{Named}
 
 -- Where the words are `machine`, a word and a number n, the bytes read as a table whose machine is in standard form,

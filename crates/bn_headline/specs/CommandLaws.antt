@@ -9,9 +9,9 @@ use Rattle.bn_reply.specs.TableReply.{ReadsStandard}
 use Rattle.bn_reply.specs.Words.{IsSpelledBy}
 use Rattle.bn_reply.specs.declared.status.Status.{Status}
 use Rattle.bn_reply.specs.declared.status.Status.TheVariants.{Done}
-use Rattle.bn_reply_laws.specs.CircuitReply.{BackReplies, StepReplies}
-use Rattle.bn_reply_tables.specs.BennettReply.{BennettReplies, bennett_text}
-use Rattle.bn_reply_tables.specs.MachineReply.{MachineReplies, ending_status, ending_text}
+use Rattle.bn_reply_relations.specs.CircuitReply.{BackReplies, StepReplies}
+use Rattle.bn_reply_machines.specs.BennettReply.{BennettReplies, bennett_text}
+use Rattle.bn_reply_machines.specs.MachineReply.{MachineReplies, ending_status, ending_text}
 use Rattle.bn_table.specs.Rows.{Named}
 
 -- the reply of `machine` tells how the machine's own run comes out

@@ -1,17 +1,17 @@
 -- From a board that was flattened to the headline.
 use Rattle.std.specs.Prelude.{◌≡◌, ◌≢◌, ℕ, ◌≤◌, List, All, length}
 use Rattle.bn_circuits.specs.declared.place.Place.TheVariants.{Enter, Left}
-use Rattle.bn_net.specs.RotaryNets.{rotary_circuit}
+use Rattle.bn_circuits.specs.RotaryNets.{rotary_circuit}
 use Rattle.bn_machine.specs.Machine.{Program}
 use Rattle.bn_machine.specs.Outcome.{Limits, Outcome, HasOutcome}
 use Rattle.bn_bennett_laws.specs.Stages.{IsStandardMachine, IsSpelledBy}
 use Rattle.bn_bennett.specs.Translation.{Translation, IsTranslation}
 use Rattle.bn_network.specs.Controls.{ControlState}
-use Rattle.bn_board_spec.specs.Layouts.{end_place}
-use Rattle.bn_board_spec.specs.Flats.{Flat, IsFlatOf, IsAccepted, flat_start}
-use Rattle.bn_board_laws.specs.Runs.{RunsToExit}
+use Rattle.bn_boards.specs.Layouts.{end_place}
+use Rattle.bn_boards.specs.Flats.{Flat, IsFlatOf, IsAccepted, flat_start}
+use Rattle.bn_boards.specs.BoardRuns.{RunsToExit}
 use Rattle.bn_network.specs.Limits.{AreSmall}
-use Rattle.bn_assembly.specs.Assembled.{Assembled, IsAssembled, network_of}
+use Rattle.bn_network_assembly.specs.Assembled.{Assembled, IsAssembled, network_of}
 use Rattle.bn_board.specs.Flattened.{Flattened, IsFlattened}
 
 -- what may be assembled: a machine in standard form, a word of its letters that fits, and a window that isn't too large

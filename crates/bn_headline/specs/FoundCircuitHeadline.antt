@@ -2,10 +2,10 @@
 use Rattle.std.specs.Prelude.{◌≡◌, ℕ, ◌≤◌, List, length, Option}
 use Rattle.bn_machine.specs.Outcome.{Limits}
 use Rattle.bn_table.specs.Rows.{Named}
-use Rattle.bn_board_spec.specs.Flats.{Flat}
+use Rattle.bn_boards.specs.Flats.{Flat}
 use Rattle.bn_reply.specs.declared.limits.TheConstants.{MOST_INPUT_BYTES}
 use Rattle.bn_reply.specs.declared.status.Status.{Status}
-use Rattle.bn_reply_laws.specs.Windows.{ComesTo}
+use Rattle.bn_reply_relations.specs.Windows.{ComesTo}
 use Rattle.bn_headline.specs.FoundHeadline.{IsWordGiven, TookFinding, auto_words}
 use Rattle.bn_headline.specs.Searches.{Found, HasFinding}
 use Rattle.bn_headline.specs.HeadlineLaws.{RunsBack}

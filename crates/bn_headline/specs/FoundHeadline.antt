@@ -5,16 +5,16 @@ use Rattle.bn_base.specs.declared.limits.TheConstants.{MOST_COUNT}
 use Rattle.bn_io.specs.Told.{Grows}
 use Rattle.bn_machine.specs.Outcome.{Limits, Outcome, HasOutcome}
 use Rattle.bn_table.specs.Rows.{Named}
-use Rattle.bn_board_spec.specs.Boards.{size}
-use Rattle.bn_board_spec.specs.Flats.{Flat}
-use Rattle.bn_board_laws.specs.Runs.{RunsToExit}
+use Rattle.bn_boards.specs.Boards.{size}
+use Rattle.bn_boards.specs.Flats.{Flat}
+use Rattle.bn_boards.specs.BoardRuns.{RunsToExit}
 use Rattle.bn_reply.specs.TableReply.{ReadsStandard}
 use Rattle.bn_reply.specs.Words.{IsSpelledBy}
 use Rattle.bn_reply.specs.declared.limits.TheConstants.{MOST_INPUT_BYTES}
 use Rattle.bn_reply.specs.declared.status.Status.{Status}
 use Rattle.bn_reply.specs.declared.status.Status.TheVariants as statuses
-use Rattle.bn_reply_laws.specs.Windows.{ComesTo, CountsElements, large_line}
-use Rattle.bn_reply_laws.specs.ToldRuns.{TellsOutcome}
+use Rattle.bn_reply_relations.specs.Windows.{ComesTo, CountsElements, large_line}
+use Rattle.bn_reply_relations.specs.ToldRuns.{TellsOutcome}
 use Rattle.bn_headline.specs.Searches.{Finding, Found, HasFinding, Large}
 use Rattle.bn_headline.specs.AutoReply.{found_line}
 

@@ -4,10 +4,10 @@ use Rattle.std.specs.Prelude.{ℕ, ◌<◌, ◌≤◌, List, Option, ◌⊎◌}
 use Rattle.bn_lists.specs.Runs.{Reaches}
 use Rattle.bn_machine.specs.Machine.{Program}
 use Rattle.bn_machine.specs.Outcome.{Limits, Outcome, HasOutcome}
-use Rattle.bn_net.specs.declared.net.TheConstants.{MOST_ELEMENTS}
+use Rattle.bn_circuits.specs.declared.net.TheConstants.{MOST_ELEMENTS}
 use Rattle.bn_bennett_laws.specs.Stages.{IsStandardMachine}
 use Rattle.bn_table.specs.Rows.{FitsTable}
-use Rattle.bn_assembly.specs.Widening.{first_window}
+use Rattle.bn_network_assembly.specs.Widening.{first_window}
 use Rattle.bn_reply.specs.declared.status.Status.{Status}
 use Rattle.bn_headline.specs.FoundHeadline.{TellsFoundWindow}
 use Rattle.bn_headline.specs.Elements.{elements}

@@ -7,13 +7,13 @@ use Rattle.bn_lists.specs.Runs.{Reaches}
 use Rattle.bn_machine.specs.Machine.{Program}
 use Rattle.bn_machine.specs.Outcome.{Limits, Outcome, Outside, HasOutcome}
 use Rattle.bn_machine.specs.declared.quint.Side.{Side}
-use Rattle.bn_net.specs.declared.net.TheConstants.{MOST_ELEMENTS}
+use Rattle.bn_circuits.specs.declared.net.TheConstants.{MOST_ELEMENTS}
 use Rattle.bn_table.specs.Rows.{Named}
-use Rattle.bn_assembly.specs.Widening.{first_window, widened}
+use Rattle.bn_network_assembly.specs.Widening.{first_window, widened}
 use Rattle.bn_reply.specs.declared.limits.TheConstants.{MOST_INPUT_BYTES}
 use Rattle.bn_reply.specs.declared.status.Status.{Status}
 use Rattle.bn_reply.specs.declared.status.Status.TheVariants.{Size}
-use Rattle.bn_reply_laws.specs.Windows.{large_line}
+use Rattle.bn_reply_relations.specs.Windows.{large_line}
 use Rattle.bn_headline.specs.AutoReply.{found_line}
 use Rattle.bn_headline.specs.FoundHeadline.{IsWordGiven, auto_words}
 use Rattle.bn_headline.specs.Elements.{elements, most_steps}

@@ -1,13 +1,13 @@
 -- The boards of the machine of k increments on 1011 (this project's own example): how many elements they have, and that
 -- they are there.
 use Rattle.std.specs.Prelude.{◌≡◌, ℕ, zero, suc, ◌+◌, ◌*◌, ◌≤◌, List, length}
-use Rattle.bn_net.specs.declared.net.TheConstants.{MOST_ELEMENTS}
+use Rattle.bn_circuits.specs.declared.net.TheConstants.{MOST_ELEMENTS}
 use Rattle.bn_bennett.specs.Translation.{Translation, IsTranslation}
 use Rattle.bn_network.specs.Controls.{ControlState, IsNumbering}
-use Rattle.bn_board_spec.specs.Boards.{size}
-use Rattle.bn_board_spec.specs.Flats.{Flat}
+use Rattle.bn_boards.specs.Boards.{size}
+use Rattle.bn_boards.specs.Flats.{Flat}
 use Rattle.bn_reply_boards.specs.GenerateReply.{digits, window}
-use Rattle.bn_reply_laws.specs.Windows.{ComesTo, CountsElements}
+use Rattle.bn_reply_relations.specs.Windows.{ComesTo, CountsElements}
 use Rattle.bn_gen.specs.Increments.{IsRoundCount, incrementer}
 
 -- the elements of the board for k increments

@@ -4,14 +4,14 @@ use Rattle.bn_io.specs.Told.{Grows}
 use Rattle.bn_machine.specs.Machine.{Program}
 use Rattle.bn_circuits.specs.Stepping.{back, run}
 use Rattle.bn_circuits.specs.declared.place.Place.TheVariants.{Enter}
-use Rattle.bn_board_spec.specs.Flats.{Flat, flat_start}
-use Rattle.bn_board_spec.specs.Costs.{HasCost}
-use Rattle.bn_reply_laws.specs.ToldRuns.{IsGiven, run_words}
-use Rattle.bn_reply_laws.specs.RunText.{steps_line}
+use Rattle.bn_boards.specs.Flats.{Flat, flat_start}
+use Rattle.bn_boards.specs.Costs.{HasCost}
+use Rattle.bn_reply_relations.specs.ToldRuns.{IsGiven, run_words}
+use Rattle.bn_reply_relations.specs.RunText.{steps_line}
 use Rattle.bn_reply.specs.declared.limits.TheConstants.{MOST_INPUT_BYTES}
-use Rattle.bn_reply_laws.specs.Windows.{ComesTo}
+use Rattle.bn_reply_relations.specs.Windows.{ComesTo}
 use Rattle.bn_machine.specs.Outcome.{Limits, Outcome, Halted}
-use Rattle.bn_net.specs.declared.net.TheConstants.{MOST_ELEMENTS}
+use Rattle.bn_circuits.specs.declared.net.TheConstants.{MOST_ELEMENTS}
 use Rattle.bn_gen.specs.Increments.{IsRoundCount, incrementer}
 use Rattle.bn_gen.specs.Text.{increments_table, increments_text}
 use Rattle.bn_reply_boards.specs.GenerateReply.{number, window}
@@ -22,7 +22,7 @@ use Rattle.bn_bennett_laws.specs.Stages.{IsStandardMachine}
 use Rattle.bn_table.specs.Rows.{FitsTable, Named}
 use Rattle.bn_bennett.specs.Translation.{Translation, IsTranslation}
 use Rattle.bn_reply.specs.declared.status.Status.{Status}
-use Rattle.bn_reply_laws.specs.Laws.{TookReplies}
+use Rattle.bn_reply_relations.specs.Laws.{TookReplies}
 use Rattle.bn_headline.specs.Elements.{elements, most_steps}
 use Rattle.bn_headline.specs.Generated.{TellsIncrements, binary}
 use Rattle.bn_headline.specs.MachineHeadline.{IsOwnRun, MachineHeadline, MachineHeadlineWithin, TookRun, least_steps}

@@ -1,23 +1,34 @@
 -- The laws of this crate, a named field each. `Laws` is the contract of `headline_laws`.
-use Rattle.bn_headline.specs.AutoLaws.{RoundsAreTheSearchs, AutosTellFindings, AutosTellPlaces, AutosEndInside}
-use Rattle.bn_headline.specs.AutoLaws.{AnswersTellFoundWindow, RoundsBeginAnswers}
-use Rattle.bn_headline.specs.AutoReply.{AutoIsSettled}
+use Rattle.bn_network_assembly.specs.Widening.{IsEnd, first_window, number_at}
+use Rattle.bn_circuits.specs.declared.net.TheConstants.{MOST_ELEMENTS}
+use Rattle.bn_circuits.specs.declared.place.Place.{Place}
+use Rattle.bn_headline.specs.AutoLaws.{AnswersTellFoundWindow, AutosEndInside, AutosTellFindings, AutosTellPlaces}
+use Rattle.bn_headline.specs.AutoLaws.{RoundsAreTheSearchs, RoundsBeginAnswers}
+use Rattle.bn_headline.specs.AutoReply.{AutoIsSettled, MakeRounds, SearchReplies}
 use Rattle.bn_headline.specs.CircuitLaws.{HeadlineTellsCircuit}
-use Rattle.bn_headline.specs.CommandLaws.{MachineRepliesTell, BennettRepliesTell, StepRepliesTell, BackRepliesTell}
+use Rattle.bn_headline.specs.CommandLaws.{BackRepliesTell, BennettRepliesTell, MachineRepliesTell, StepRepliesTell}
 use Rattle.bn_headline.specs.ControlLaws.{TranslationsHaveControls}
 use Rattle.bn_headline.specs.CountLaws.{ControlsAreCounted}
 use Rattle.bn_headline.specs.FlattenLaws.{FlattenedBoardsAreFlats, FlattenedBoardsRunToTheirExit}
+use Rattle.bn_headline.specs.FoundHeadline.{IsWordGiven}
 use Rattle.bn_headline.specs.FoundLaws.{FoundTellsMachine, OwnSearchEnds}
-use Rattle.bn_headline.specs.GeneratedLaws.{GeneratedControlsAreCounted, GeneratedBoardsAreCounted}
-use Rattle.bn_headline.specs.GeneratedLaws.{GeneratedBoardsAreThere}
+use Rattle.bn_headline.specs.GeneratedLaws.{GeneratedBoardsAreCounted, GeneratedBoardsAreThere}
+use Rattle.bn_headline.specs.GeneratedLaws.{GeneratedControlsAreCounted}
 use Rattle.bn_headline.specs.GeneratedRuns.{GeneratedRunsHalt}
-use Rattle.bn_headline.specs.HeadlineLaws.{ElementsAreCounted, RepliesTellMachine, IncrementsAreCounted, IncrementsRun}
-use Rattle.bn_headline.specs.HeadlineLaws.{GeneratedTellsMachine, OwnRunsAreOne, BoardsReturn, HeadlinesAgree}
-use Rattle.bn_headline.specs.StuckLaws.{StopsAreNamed, NamedStopsAreEnds, StuckRunsAreNamed}
-use Rattle.bn_headline.specs.WindowLaws.{EndsAreFour, CellsGrow, ElementsGrow, NumbersStayLow, SearchEnds}
-use Rattle.bn_headline.specs.WindowLaws.{SearchIsShort, SearchIsOne, WindowsAreWhole, FoundComesOut, LargeIsTooLarge}
+use Rattle.bn_headline.specs.HeadlineLaws.{BoardsReturn, ElementsAreCounted, GeneratedTellsMachine, HeadlinesAgree}
+use Rattle.bn_headline.specs.HeadlineLaws.{IncrementsAreCounted, IncrementsRun, OwnRunsAreOne, RepliesTellMachine}
+use Rattle.bn_headline.specs.StuckLaws.{NamedStopsAreEnds, StopsAreNamed, StuckRunsAreNamed}
+use Rattle.bn_headline.specs.WindowLaws.{CellsGrow, ElementsGrow, EndsAreFour, FoundComesOut, LargeIsTooLarge}
+use Rattle.bn_headline.specs.WindowLaws.{NumbersStayLow, SearchEnds, SearchIsOne, SearchIsShort, WindowsAreWhole}
+use Rattle.bn_machine.specs.Machine.{Program}
+use Rattle.bn_machine.specs.Outcome.{Limits}
+use Rattle.bn_machine.specs.declared.quint.Side.{Side}
+use Rattle.bn_network.specs.Limits.{AreSmall}
+use Rattle.bn_reply.specs.declared.status.Status.{Status}
+use Rattle.bn_headline.specs.Rounds.{LeavesBy}
+use Rattle.bn_table.specs.Rows.{Named}
+use Rattle.std.specs.Prelude.{List, length, ℕ, ◌++◌, ◌+◌, ◌≡◌, ◌≤◌}
 
--- Machines are in standard form and fit a table, but where a sentence says otherwise.
 pub record Laws : Type 0 where
   -- The replies of `machine` and `bennett` to a table whose machine is in standard form, and those of `step` and `back`
   -- to a text that spells a configuration: how the machine's own run comes out, the table of its reversible machine,
@@ -98,3 +109,8 @@ pub record Laws : Type 0 where
   pub answers_tell_found_window : AnswersTellFoundWindow
   -- Whatever rounds are made from the first window on, their places begin what is told in the answer.
   pub rounds_begin_answers : RoundsBeginAnswers
+  -- Whatever rounds are made, there are not too many of them, the window to which they lead may be asked for, and where
+  -- the signal of its board leaves by an end of a tape, this end may be doubled.
+  pub rounds_go_on : RoundsGoOn
+  -- Whatever rounds are made, there is an answer to the search whose places begin with theirs.
+  pub rounds_begin_searches : RoundsBeginSearches

@@ -20,4 +20,7 @@ pub mod CountLaws
 pub mod FoundMachineHeadline
 pub mod FoundCircuitHeadline
 pub mod FoundLaws
+pub mod Asked
+pub mod Rounds
+pub mod Told
 pub mod Laws

@@ -7,19 +7,19 @@ use Rattle.bn_circuits.specs.declared.line.Line.{Line}
 use Rattle.bn_machine.specs.Tape.{Tape, blank_tape, word_tape}
 use Rattle.bn_machine.specs.Machine.{Program}
 use Rattle.bn_machine.specs.Outcome.{Limits, Outcome, Halted, HasOutcome}
-use Rattle.bn_net.specs.declared.net.TheConstants.{MOST_ELEMENTS}
+use Rattle.bn_circuits.specs.declared.net.TheConstants.{MOST_ELEMENTS}
 use Rattle.bn_netlist_laws.specs.Sentences.{line_text}
 use Rattle.bn_table.specs.Rows.{Named}
-use Rattle.bn_board_spec.specs.declared.spelled.SpelledTape.{SpelledTape}
-use Rattle.bn_board_spec.specs.Spans.{Spans}
-use Rattle.bn_board_laws.specs.Runs.{HasEndTapes}
+use Rattle.bn_boards.specs.declared.spelled.SpelledTape.{SpelledTape}
+use Rattle.bn_boards.specs.Spans.{Spans}
+use Rattle.bn_boards.specs.BoardRuns.{HasEndTapes}
 use Rattle.bn_reply.specs.Lines.{line}
 use Rattle.bn_reply.specs.declared.limits.TheConstants.{MOST_INPUT_BYTES}
 use Rattle.bn_reply.specs.declared.status.Status.{Status}
 use Rattle.bn_reply.specs.declared.status.Status.TheVariants.{Size, Inside}
-use Rattle.bn_reply_laws.specs.Windows.{large_line}
-use Rattle.bn_reply_laws.specs.RunText.{elements_line, output_line, quadruple_line, steps_line, tape_line, tapes_text}
-use Rattle.bn_reply_laws.specs.ToldRuns.{IsGiven, outcome_line, outcome_status, run_words}
+use Rattle.bn_reply_relations.specs.Windows.{large_line}
+use Rattle.bn_reply_relations.specs.RunText.{elements_line, output_line, quadruple_line, steps_line, tape_line, tapes_text}
+use Rattle.bn_reply_relations.specs.ToldRuns.{IsGiven, outcome_line, outcome_status, run_words}
 use Rattle.bn_headline.specs.Elements.{elements, most_steps}
 
 -- ---- what the machine does

@@ -6,9 +6,9 @@ use Rattle.bn_lists.specs.Runs.{Reaches}
 use Rattle.bn_machine.specs.Machine.{Program}
 use Rattle.bn_machine.specs.Outcome.{Limits, Halted, Stuck, Outside, HasOutcome}
 use Rattle.bn_machine.specs.declared.quint.Side.{Side}
-use Rattle.bn_net.specs.declared.net.TheConstants.{MOST_ELEMENTS}
-use Rattle.bn_reply_laws.specs.Windows.{CountsElements}
-use Rattle.bn_assembly.specs.Widening.{first_window, widened}
+use Rattle.bn_circuits.specs.declared.net.TheConstants.{MOST_ELEMENTS}
+use Rattle.bn_reply_relations.specs.Windows.{CountsElements}
+use Rattle.bn_network_assembly.specs.Widening.{first_window, widened}
 
 -- what is found: a window, or the number of elements of the first board that is too large
 pub data Finding : Type 0 where

@@ -15,7 +15,7 @@ use Rattle.bn_network.specs.Controls.{ControlState}
 use Rattle.bn_network.specs.Networks.{network_start}
 use Rattle.bn_control.specs.Controlled.{Controlled, IsStuckAt}
 use Rattle.bn_network_laws.specs.Ends.{EndsBy, IsStoppedAt, tape_of}
-use Rattle.bn_assembly.specs.Assembled.{Assembled, IsAssembled, network_of}
+use Rattle.bn_network_assembly.specs.Assembled.{Assembled, IsAssembled, network_of}
 use Rattle.bn_headline.specs.FlattenLaws.{MayBeAssembled}
 
 -- The signal is at an input line of the control, in a state, and of this pair alone `stuck_of` says that the machine of

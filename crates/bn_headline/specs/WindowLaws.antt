@@ -5,12 +5,12 @@ use Rattle.bn_lists.specs.Runs.{Reaches}
 use Rattle.bn_machine.specs.Machine.{Program}
 use Rattle.bn_machine.specs.Outcome.{Limits, Halted, Stuck, Outside, HasOutcome}
 use Rattle.bn_machine.specs.declared.quint.Side.{Side}
-use Rattle.bn_net.specs.declared.net.TheConstants.{MOST_ELEMENTS}
+use Rattle.bn_circuits.specs.declared.net.TheConstants.{MOST_ELEMENTS}
 use Rattle.bn_bennett_laws.specs.Stages.{IsStandardMachine}
 use Rattle.bn_table.specs.Rows.{FitsTable}
 use Rattle.bn_network.specs.Limits.{AreSmall}
-use Rattle.bn_reply_laws.specs.Windows.{CountsElements}
-use Rattle.bn_assembly.specs.Widening.{IsEnd, IsWhole, cells, first_window, number_at, widened}
+use Rattle.bn_reply_relations.specs.Windows.{CountsElements}
+use Rattle.bn_network_assembly.specs.Widening.{IsEnd, IsWhole, cells, first_window, number_at, widened}
 use Rattle.bn_headline.specs.Searches.{Finding, Found, HasBoard, HasFinding, Large, Widens}
 
 -- a bounded run comes out at one of four ends alone

@@ -2,6 +2,10 @@
 //! a window that is given or that the search finds. Definitions and laws; no code.
 #![tactic(auto)]
 
+mod auto;
 mod laws;
+mod round;
+mod rounds;
 
+pub use auto::reply_run_auto;
 pub use laws::headline_laws;

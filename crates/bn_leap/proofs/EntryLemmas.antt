@@ -19,10 +19,10 @@ use Rattle.bn_circuits.specs.declared.place.Place.TheVariants.{Enter, Left}
 use Rattle.bn_circuits.specs.declared.config.Config.{Config}
 use Rattle.bn_circuits.proofs.StepLemmas.{same_lines}
 use Rattle.bn_circuits.proofs.RunLemmas.{run_stops, Reaches-back, Reaches-IsConfig}
-use Rattle.bn_net.specs.Parts.{Parts}
-use Rattle.bn_net.specs.Watching.{Hears}
-use Rattle.bn_net.specs.RotaryNets.{rotary_circuit}
-use Rattle.bn_net.specs.declared.net.TheConstants.{MOST_ELEMENTS}
+use Rattle.bn_circuits.specs.Parts.{Parts}
+use Rattle.bn_circuits.specs.Watching.{Hears}
+use Rattle.bn_circuits.specs.RotaryNets.{rotary_circuit}
+use Rattle.bn_circuits.specs.declared.net.TheConstants.{MOST_ELEMENTS}
 use Rattle.bn_packed.specs.Running.{IsLongestRun}
 use Rattle.bn_packed.specs.Stopping.{IsStoppedRun, PassesBy, passes_by, stops_at}
 use Rattle.bn_packed.proofs.StepLemmas.{no_stop}
@@ -33,8 +33,8 @@ use Rattle.bn_realise.specs.Banks.{IsBank, IsWithinBank, bottom_at, column_at, b
 use Rattle.bn_realise.specs.Banks.{states_after, exit_after}
 use Rattle.bn_realise.proofs.BankWiresLemmas.{column_once, bank_wire-IsWithinLines, bank_wire-no_input}
 use Rattle.bn_realise.proofs.BankCrossingLemmas.{later_column}
-use Rattle.bn_board_spec.specs.Boards.{base}
-use Rattle.bn_board_spec.proofs.BankedLemmas.{modules-banks, base-within as bank_within}
+use Rattle.bn_boards.specs.Boards.{base}
+use Rattle.bn_boards.proofs.BankedLemmas.{modules-banks, base-within as bank_within}
 use Rattle.bn_leap.specs.Leaps.{IsUnderWay, IsEntered}
 use Rattle.bn_leap.specs.Inside.{IsInside, PassesThrough}
 use Rattle.bn_leap.specs.Entries.{IsLeapable, IsAt, Fits, IsMoveOf, IsLeap, IsCrossing, IsAdvance, leap_of}

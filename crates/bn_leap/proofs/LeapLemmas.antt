@@ -21,7 +21,7 @@ use Rattle.bn_circuits.proofs.StepLemmas.{same_lines}
 use Rattle.bn_circuits.proofs.RunLemmas.{Reaches-run}
 use Rattle.bn_circuits.proofs.RunPartLemmas.{paths-between}
 use Rattle.bn_circuits.proofs.SituationLemmas.{steps-counted}
-use Rattle.bn_net.specs.declared.net.TheConstants.{MOST_ELEMENTS}
+use Rattle.bn_circuits.specs.declared.net.TheConstants.{MOST_ELEMENTS}
 use Rattle.bn_rsm.specs.Costs.{table_cost, cost_by}
 use Rattle.bn_rsm.specs.RunCosts.{step_cost, entry_cost}
 use Rattle.bn_rsm.proofs.RunCostLemmas.{some_cost}
@@ -31,15 +31,15 @@ use Rattle.bn_realise.specs.Banks.{AreMarked, IsResting, across, IsBankEntering,
 use Rattle.bn_realise.specs.Banks.{turning_line}
 use Rattle.bn_realise.proofs.BankWiresLemmas.{bank_wire-IsWithinLines, bank_wire-no_input}
 use Rattle.bn_realise.proofs.BankCrossingLemmas.{bank_crosses}
-use Rattle.bn_board_spec.specs.Boards.{AreModules, IsBoard, own, base, size, size_of, on_board, output_at, StandsFor}
-use Rattle.bn_board_spec.specs.Boards.{IsAmid}
-use Rattle.bn_board_spec.specs.Layouts.{same_place}
-use Rattle.bn_board_spec.proofs.BankedLemmas.{modules-banks}
-use Rattle.bn_board_spec.proofs.MovedLemmas.{in_bank, one-move}
-use Rattle.bn_board_spec.proofs.LooseLemmas.{loose-move, no_turning_wire}
-use Rattle.bn_board_spec.proofs.ModuleLemmas.{input_table, one_table, place_once, banks_apart}
-use Rattle.bn_board_spec.proofs.BankedLemmas.{base-within as bank_within}
-use Rattle.bn_board_spec.proofs.AgreedLemmas.{same_place_not, same_place_is}
+use Rattle.bn_boards.specs.Boards.{AreModules, IsBoard, own, base, size, size_of, on_board, output_at, StandsFor}
+use Rattle.bn_boards.specs.Boards.{IsAmid}
+use Rattle.bn_boards.specs.Layouts.{same_place}
+use Rattle.bn_boards.proofs.BankedLemmas.{modules-banks}
+use Rattle.bn_boards.proofs.MovedLemmas.{in_bank, one-move}
+use Rattle.bn_boards.proofs.LooseLemmas.{loose-move, no_turning_wire}
+use Rattle.bn_boards.proofs.ModuleLemmas.{input_table, one_table, place_once, banks_apart}
+use Rattle.bn_boards.proofs.BankedLemmas.{base-within as bank_within}
+use Rattle.bn_boards.proofs.AgreedLemmas.{same_place_not, same_place_is}
 use Rattle.bn_leap.specs.Laws.{BoundariesStand, BoundariesRest, BoardsLeap, BoardsStayUnderWay, MovesAreRead}
 
 -- a board stands for a situation whatever it has counted

@@ -7,14 +7,14 @@ use Rattle.bn_circuits.specs.Circuits.{Circuit, IsConfig, IsOutputOf, IsStuck, c
 use Rattle.bn_circuits.specs.declared.line.Line.{Line}
 use Rattle.bn_circuits.specs.declared.place.Place.TheVariants.{Enter}
 use Rattle.bn_circuits.specs.declared.config.Config.{Config}
-use Rattle.bn_net.specs.Parts.{Parts}
-use Rattle.bn_net.specs.declared.net.TheConstants.{MOST_ELEMENTS}
-use Rattle.bn_net.specs.RotaryNets.{rotary_circuit}
+use Rattle.bn_circuits.specs.Parts.{Parts}
+use Rattle.bn_circuits.specs.declared.net.TheConstants.{MOST_ELEMENTS}
+use Rattle.bn_circuits.specs.RotaryNets.{rotary_circuit}
 use Rattle.bn_packed.specs.PackedNets.{config_at}
 use Rattle.bn_packed.specs.Stopping.{PassesBy}
 use Rattle.bn_rsm.specs.Costs.{move_cost}
 use Rattle.bn_realise.specs.Banks.{bottom_at, column_at, bank_input_line}
-use Rattle.bn_board_spec.specs.Boards.{base}
+use Rattle.bn_boards.specs.Boards.{base}
 use Rattle.bn_leap.specs.Leaps.{IsUnderWay}
 use Rattle.bn_leap.specs.Inside.{PassesThrough}
 use Rattle.bn_leap.specs.declared.entry.Entry.{Entry}

@@ -10,7 +10,7 @@ use Rattle.bn_circuits.specs.declared.place.Place.TheVariants.{Enter}
 use Rattle.bn_circuits.specs.declared.config.Config.{Config}
 use Rattle.bn_rsm.specs.Costs.{table_cost}
 use Rattle.bn_realise.specs.Banks.{HasMark, IsWithinBank, bottom_at, column_at, turning_line, moved}
-use Rattle.bn_board_spec.specs.Boards.{AreModules, IsBoard, StandsFor, base}
+use Rattle.bn_boards.specs.Boards.{AreModules, IsBoard, StandsFor, base}
 use Rattle.bn_leap.specs.Leaps.{IsUnderWay, IsEntered}
 
 -- Where the signal of a board that is under way enters an input line of a bank, the board stands for a situation in

@@ -7,8 +7,8 @@ use Rattle.bn_circuits.specs.Circuits.{Circuit, Goes}
 use Rattle.bn_circuits.specs.Situations.{Situation}
 use Rattle.bn_circuits.specs.declared.place.Place.TheVariants.{Enter}
 use Rattle.bn_circuits.specs.declared.config.Config.{Config}
-use Rattle.bn_net.specs.declared.net.TheConstants.{MOST_ELEMENTS}
-use Rattle.bn_board_spec.specs.Boards.{AreModules, IsBoard, StandsFor, base, size}
+use Rattle.bn_circuits.specs.declared.net.TheConstants.{MOST_ELEMENTS}
+use Rattle.bn_boards.specs.Boards.{AreModules, IsBoard, StandsFor, base, size}
 
 -- k is the board of the network n, and c is reached on it from where it stood for one of the network's situations
 pub record IsUnderWay (n k : Circuit) (c : Config) : Type 0 where

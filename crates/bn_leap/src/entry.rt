@@ -3,7 +3,7 @@
 ghost use Rattle.std.specs.Prelude.{◌≡◌, IfSome};
 ghost use Rattle.bn_realise.specs.Banks.{bank_input_line, column_at};
 
-use bn_net::Line;
+use bn_circuits::Line;
 
 /// An input line of a bank (this project's own profile): the bank's first element, its states and its lines, and the
 /// number of the line. Elements and lines are counted from 0.

@@ -3,15 +3,15 @@
 ghost use Rattle.std.specs.Prelude.{◌≡◌, ℕ, ◌+◌, ◌*◌, ◌<◌, ◌≤◌, ◌^◌, length, Some, IfSome, slice_get, true};
 ghost use Rattle.bn_element.specs.Rotary.{horizontal};
 ghost use Rattle.bn_circuits.specs.declared.place.Place.TheVariants.{Enter};
-ghost use Rattle.bn_net.specs.RotaryNets.{rotary_circuit};
+ghost use Rattle.bn_circuits.specs.RotaryNets.{rotary_circuit};
 ghost use Rattle.bn_realise.specs.Banks.{bottom_at, column_at};
 ghost use Rattle.bn_leap.specs.Entries.{IsLeapable, IsLeap, IsCrossing, IsAt, Fits, IsMoveOf, leap_of};
 
 use crate::cost::steps_of;
 use crate::entry::{Banks, Entry};
 use crate::passing::Passing;
+use bn_circuits::{Line, Place};
 use bn_element::{EAST, HORIZONTAL, WEST};
-use bn_net::{Line, Place};
 use bn_packed::Packed;
 
 // What a move of a bank comes to: which bottoms turn, by which line the signal comes out, and after how many steps.

@@ -1,10 +1,10 @@
 //! Runs that leap.
 
 ghost use Rattle.std.specs.Prelude.{◌≡◌, ◌<◌, ◌≤◌, ◌+◌, length};
-ghost use Rattle.bn_net.specs.RotaryNets.{rotary_circuit};
+ghost use Rattle.bn_circuits.specs.RotaryNets.{rotary_circuit};
 ghost use Rattle.bn_circuits.specs.Circuits.{IsOutputOf, clock};
 ghost use Rattle.bn_circuits.specs.Stepping.{places};
-ghost use Rattle.bn_net.specs.Watching.{Hears};
+ghost use Rattle.bn_circuits.specs.Watching.{Hears};
 ghost use Rattle.bn_packed.specs.Running.{IsLongestRun};
 ghost use Rattle.bn_packed.specs.Stopping.{IsStoppedRun, passes_by};
 ghost use Rattle.bn_leap.specs.Entries.{IsLeapable, IsAdvance, leapt};
@@ -12,8 +12,8 @@ ghost use Rattle.bn_leap.specs.Entries.{IsLeapable, IsAdvance, leapt};
 use crate::entry::Banks;
 use crate::leap::{Leap, leap_at};
 use crate::passing::Passing;
+use bn_circuits::{CLOCK, Line, Place, Quiet, Watch};
 use bn_element::{HORIZONTAL, VERTICAL};
-use bn_net::{CLOCK, Line, Place, Quiet, Watch};
 use bn_packed::{Direction, Nowhere, Packed, Stop};
 
 /// Makes at most `e` element steps and answers how many, as `Packed::run` does, but makes each move of a bank that

@@ -3,3 +3,4 @@ pub mod ListLemmas
 pub mod LeastLemmas
 pub mod MemberLemmas
 pub mod RunsLemmas
+pub mod FiniteLemmas

@@ -1,2 +1,4 @@
 pub mod Lists
 pub mod Runs
+pub mod Finite
+pub mod Laws

@@ -2,6 +2,8 @@
 //! call that found no memory.
 #![tactic(auto)]
 
+mod laws;
 mod memory;
 
+pub use laws::lists_laws;
 pub use memory::NoMemory;

@@ -9,3 +9,5 @@ pub mod TurnsLemmas
 pub mod RoomLemmas
 pub mod WindowLemmas
 pub mod LawLemmas
+pub mod SearchLemmas
+pub mod VerdictLemmas

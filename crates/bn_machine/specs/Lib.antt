@@ -7,4 +7,8 @@ pub mod MachineCalls
 pub mod Run
 pub mod Outcome
 pub mod Steps
+pub mod Standard
+pub mod Verdict
+pub mod Search
+pub mod VerdictLaws
 pub mod Laws

@@ -1,8 +1,8 @@
 //! The workbench as a program: the words of its command line, standard input and standard output.
 #![tactic(auto)]
 
+use bn_circuits::Quiet;
 use bn_io::{StdSink, StdSource};
-use bn_net::Quiet;
 use bn_top::{Status, workbench};
 use std::alloc::AllocError;
 use std::process::ExitCode;

@@ -10,11 +10,11 @@ use Rattle.bn_circuits.proofs.StepLemmas.{same_lines}
 use Rattle.bn_circuits.specs.declared.line.Line.{Line}
 use Rattle.bn_circuits.specs.declared.line.Wire.{Wire}
 use Rattle.bn_element.specs.declared.rotary.Rotary.{Rotary}
-use Rattle.bn_net.specs.Parts.{Parts}
-use Rattle.bn_net.specs.RotaryNets.{IsNetOf, rotary_circuit}
-use Rattle.bn_net.specs.Wirings.{AreFitting, AreWiresOf}
-use Rattle.bn_net.proofs.RotaryNetLemmas.{rotary-tables}
-use Rattle.bn_net.proofs.WiringsLemmas.{IsWire, apart-wire, more_wire, same_wires}
+use Rattle.bn_circuits.specs.Parts.{Parts}
+use Rattle.bn_circuits.specs.RotaryNets.{IsNetOf, rotary_circuit}
+use Rattle.bn_circuits.specs.Wirings.{AreFitting, AreWiresOf}
+use Rattle.bn_circuits.proofs.RotaryNetLemmas.{rotary-tables}
+use Rattle.bn_circuits.proofs.WiringsLemmas.{IsWire, apart-wire, more_wire, same_wires}
 use Rattle.bn_netlist_laws.proofs.WireLemmas.{rotary_input, rotary_output}
 use Rattle.bn_mirror.specs.Listing.{IsListing, IsMirroredBelow, IsMirroredWire, number_of}
 use Rattle.bn_mirror.specs.Mirror.{AreMirrored, mirrored_line}

@@ -3,8 +3,8 @@ use Rattle.std.specs.Prelude.{◌≡◌, ℕ, List, length}
 use Rattle.std.proofs.Common.{sym, subst, ◌∙◌}
 use Rattle.bn_circuits.specs.Circuits.{Circuit, IsCircuit, IsPlace}
 use Rattle.bn_circuits.specs.declared.line.Wire.{Wire}
-use Rattle.bn_net.specs.RotaryNets.{IsNetOf, rotary_circuit}
-use Rattle.bn_net.specs.Wirings.{AreWiresOf}
+use Rattle.bn_circuits.specs.RotaryNets.{IsNetOf, rotary_circuit}
+use Rattle.bn_circuits.specs.Wirings.{AreWiresOf}
 use Rattle.bn_netlist_laws.specs.Spelling.{Admits}
 use Rattle.bn_netlist_laws.specs.declared.version.Version.{Version}
 use Rattle.bn_netlist.specs.NetText.{spelling_of}

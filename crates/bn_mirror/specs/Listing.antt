@@ -3,7 +3,7 @@ use Rattle.std.specs.Prelude.{◌≡◌, ℕ, ◌+◌, ◌*◌, ◌<◌, ◌≤�
 use Rattle.bn_circuits.specs.Circuits.{target}
 use Rattle.bn_circuits.specs.declared.line.Line.{Line}
 use Rattle.bn_circuits.specs.declared.line.Wire.{Wire}
-use Rattle.bn_net.specs.Wirings.{AreWiresOf}
+use Rattle.bn_circuits.specs.Wirings.{AreWiresOf}
 use Rattle.bn_mirror.specs.Mirror.{mirrored_line}
 
 -- a line of a rotary element, by its number among all

@@ -3,18 +3,17 @@
 ghost use Rattle.std.specs.Prelude.{◌≡◌, ◌+◌, ◌*◌, ◌<◌, ◌≤◌, length, IfOk, OnOk};
 ghost use Rattle.bn_element.specs.Inverse.{exchanged};
 ghost use Rattle.bn_circuits.specs.Circuits.{IsPlace};
-ghost use Rattle.bn_net.specs.RotaryNets.{rotary_circuit};
-ghost use Rattle.bn_net.specs.Wirings.{AreWiresOf};
-ghost use Rattle.bn_net.specs.declared.net.TheConstants.{MOST_ELEMENTS};
+ghost use Rattle.bn_circuits.specs.RotaryNets.{rotary_circuit};
+ghost use Rattle.bn_circuits.specs.Wirings.{AreWiresOf};
+ghost use Rattle.bn_circuits.specs.declared.net.TheConstants.{MOST_ELEMENTS};
 ghost use Rattle.bn_netlist_laws.specs.Spelling.{Admits};
 ghost use Rattle.bn_netlist.specs.NetText.{spelling_of};
 ghost use Rattle.bn_mirror.specs.Listing.{IsListing, IsMirroredWire};
 ghost use Rattle.bn_mirror.specs.Mirror.{IsMirror, mirrored_line, mirrored_place};
 
-use bn_circuits::{Config, Line, Place, States, Wire};
+use bn_circuits::{Config, Line, Net, Place, States, Wire, rotary_net};
 use bn_element::{EAST, NORTH, Rotary, SOUTH, WEST};
 use bn_lists::NoMemory;
-use bn_net::{Net, rotary_net};
 use bn_netlist::NetConfig;
 use std::alloc::Global;
 

@@ -9,7 +9,7 @@ use Rattle.bn_circuits.specs.declared.line.Wire.{Wire}
 use Rattle.bn_netlist_laws.specs.Sentences.{AreNameable}
 use Rattle.bn_netlist_laws.specs.Reading.{named, named_target, named_targets}
 use Rattle.bn_netlist_laws.specs.Faults.{wires_from}
-use Rattle.bn_net.specs.Wirings.{AreApart}
+use Rattle.bn_circuits.specs.Wirings.{AreApart}
 use Rattle.bn_packed.specs.Drafts.{AreDrawn}
 use Rattle.bn_packed.specs.Ends.{EndList}
 use Rattle.bn_netlist.specs.Drafting.{AreKept, HasDrawn, IsFed}

@@ -12,8 +12,8 @@ use Rattle.bn_circuits.specs.declared.line.Line.{Line}
 use Rattle.bn_circuits.specs.declared.line.Wire.{Wire}
 use Rattle.bn_circuits.specs.declared.place.Place.{Place}
 use Rattle.bn_circuits.specs.declared.place.Place.TheVariants.{Enter}
-use Rattle.bn_net.proofs.WireListLemmas.{line_tells}
-use Rattle.bn_net.specs.Wirings.{AreApart, AreFitting}
+use Rattle.bn_circuits.proofs.WireListLemmas.{line_tells}
+use Rattle.bn_circuits.specs.Wirings.{AreApart, AreFitting}
 use Rattle.bn_packed.specs.Drafts.{AreDrawn}
 use Rattle.bn_packed.specs.Ends.{EndList}
 use Rattle.bn_column.specs.Columns.{IsInner, down, up, under, over, top}

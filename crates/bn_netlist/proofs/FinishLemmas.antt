@@ -11,9 +11,9 @@ use Rattle.bn_circuits.specs.Circuits.{Circuit, IsConfig, target, source, line_a
 use Rattle.bn_circuits.specs.declared.config.Config.{Config}
 use Rattle.bn_circuits.specs.declared.line.Line.{Line}
 use Rattle.bn_circuits.specs.declared.line.Wire.{Wire}
-use Rattle.bn_net.proofs.WireListLemmas.{line_tells}
-use Rattle.bn_net.proofs.WiringsLemmas.{apart-append, apart-IsOneToOne}
-use Rattle.bn_net.specs.Wirings.{AreApart}
+use Rattle.bn_circuits.proofs.WireListLemmas.{line_tells}
+use Rattle.bn_circuits.proofs.WiringsLemmas.{apart-append, apart-IsOneToOne}
+use Rattle.bn_circuits.specs.Wirings.{AreApart}
 use Rattle.bn_packed.specs.Drafts.{AreDrawn}
 use Rattle.bn_packed.specs.Ends.{EndList}
 use Rattle.bn_element.specs.Rotary.{rotary, vertical, east}

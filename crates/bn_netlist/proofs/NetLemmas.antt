@@ -6,7 +6,7 @@ use Rattle.bn_element.specs.Tables.{Table}
 use Rattle.bn_element.specs.Rotary.{rotary}
 use Rattle.bn_circuits.specs.Circuits.{Circuit, target, IsCircuit, inputs_of, outputs_of}
 use Rattle.bn_circuits.specs.declared.line.Line.{Line}
-use Rattle.bn_net.specs.Parts.{Parts, circuit}
+use Rattle.bn_circuits.specs.Parts.{Parts, circuit}
 use Rattle.bn_netlist_laws.proofs.WireLemmas.{rotary_outputs, rotary_input}
 use Rattle.bn_netlist.specs.NetText.{CircuitsAgree}
 

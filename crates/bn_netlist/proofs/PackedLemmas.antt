@@ -11,10 +11,10 @@ use Rattle.bn_circuits.proofs.AlikeLemmas.{sources_one}
 use Rattle.bn_element.specs.Rotary.{rotary}
 use Rattle.bn_element.specs.Tables.{Table}
 use Rattle.bn_element.specs.declared.rotary.Rotary.{Rotary}
-use Rattle.bn_net.specs.Parts.{Parts}
-use Rattle.bn_net.specs.RotaryNets.{IsNetOf, rotary_circuit}
-use Rattle.bn_net.specs.Wirings.{AreApart}
-use Rattle.bn_net.proofs.WiringsLemmas.{apart-IsOneToOne}
+use Rattle.bn_circuits.specs.Parts.{Parts}
+use Rattle.bn_circuits.specs.RotaryNets.{IsNetOf, rotary_circuit}
+use Rattle.bn_circuits.specs.Wirings.{AreApart}
+use Rattle.bn_circuits.proofs.WiringsLemmas.{apart-IsOneToOne}
 use Rattle.bn_packed.specs.Drafts.{AreDrawn}
 use Rattle.bn_packed.specs.Ends.{EndList, nth_line}
 use Rattle.bn_packed.proofs.AcrossLemmas.{ahead-AreTargets}

@@ -4,7 +4,7 @@ use Rattle.std.specs.Prelude.{Some, None, slice_get, is_some}
 use Rattle.bn_circuits.specs.Circuits.{Circuit, source}
 use Rattle.bn_circuits.specs.declared.line.Line.{Line}
 use Rattle.bn_circuits.specs.declared.line.Wire.{Wire}
-use Rattle.bn_net.specs.Wirings.{AreApart}
+use Rattle.bn_circuits.specs.Wirings.{AreApart}
 use Rattle.bn_packed.specs.Drafts.{AreDrawn}
 use Rattle.bn_packed.specs.Ends.{EndList}
 use Rattle.bn_netlist_laws.specs.Columns.{HasColumnAt, inner_wires}

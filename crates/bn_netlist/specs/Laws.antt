@@ -1,4 +1,4 @@
--- The laws of this crate, a named field each. `Laws` is the contract of `line_laws`.
+-- The laws of this crate, a named field each. `Laws` is the contract of `netlist_laws`.
 use Rattle.bn_netlist.specs.LineReading.{RefusedLinesRefuse, RestsAreMalformed, LinesBehindAreMalformed, LinesAreRead}
 use Rattle.bn_netlist.specs.LineReading.{OtherLinesAreNot, LongLinesAreNot}
 use Rattle.bn_netlist.specs.NetText.{CircuitsAgree}

@@ -1,6 +1,6 @@
 -- The texts of nets, and what a refusal says of a text.
 use Rattle.std.specs.Prelude.{◌≡◌, ℕ, List, length}
-use Rattle.bn_net.specs.RotaryNets.{rotary_circuit}
+use Rattle.bn_circuits.specs.RotaryNets.{rotary_circuit}
 use Rattle.bn_netlist_laws.specs.Spelling as what
 use Rattle.bn_netlist_laws.specs.Spelling.{circuit_of}
 use Rattle.bn_netlist_laws.specs.Faults.{IsFirstFault, malformed, too_many, no_element, out_of_order, end_wired}

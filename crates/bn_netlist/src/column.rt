@@ -1,14 +1,13 @@
 //! Columns of a net, by the states of its elements.
 
 ghost use Rattle.std.specs.Prelude.{◌≡◌, ℕ, length, MatchOption};
-ghost use Rattle.bn_net.specs.RotaryNets.{rotary_circuit};
+ghost use Rattle.bn_circuits.specs.RotaryNets.{rotary_circuit};
 ghost use Rattle.bn_netlist_laws.specs.Columns.{IsColumnAt};
 
 use crate::column_lines::column_rows;
 use crate::spellable::Spellable;
-use bn_circuits::{Line, Place, States};
+use bn_circuits::{Line, Net, Place, States};
 use bn_element::Rotary;
-use bn_net::Net;
 use bn_netlist_laws::Version;
 
 /// A net in these states of its elements. Where the signal is, and what else a text names, tells nothing of columns: it

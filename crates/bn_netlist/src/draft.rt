@@ -2,8 +2,8 @@
 
 ghost use Rattle.std.specs.Prelude.{◌≡◌, ◌+◌, ◌*◌, ◌<◌, ◌≤◌, ◌++◌, ℕ, List, [], length, IfOk, OnOk, IfErr, Some};
 ghost use Rattle.std.specs.Prelude.{is_some, slice_get, MatchOption, None};
-ghost use Rattle.bn_net.specs.declared.net.TheConstants.{MOST_ELEMENTS};
-ghost use Rattle.bn_net.specs.Wirings.{AreFitting};
+ghost use Rattle.bn_circuits.specs.declared.net.TheConstants.{MOST_ELEMENTS};
+ghost use Rattle.bn_circuits.specs.Wirings.{AreFitting};
 ghost use Rattle.bn_base.specs.Number.{greatest};
 ghost use Rattle.bn_circuits.specs.Circuits.{source};
 ghost use Rattle.bn_circuits.specs.declared.line.Wire.{Wire};

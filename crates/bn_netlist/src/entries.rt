@@ -2,7 +2,7 @@
 
 ghost use Rattle.std.specs.Prelude.{◌≡◌, ◌+◌, ◌<◌, ◌≤◌, ◌++◌, ◌∷◌, [], List, length, OnOk, IfOk, IfErr, replicate};
 ghost use Rattle.std.specs.Prelude.{None, false};
-ghost use Rattle.bn_net.specs.declared.net.TheConstants.{MOST_ELEMENTS};
+ghost use Rattle.bn_circuits.specs.declared.net.TheConstants.{MOST_ELEMENTS};
 ghost use Rattle.bn_base.specs.Number.{greatest};
 ghost use Rattle.bn_netlist_laws.specs.Sentences.{AreNameable};
 ghost use Rattle.bn_netlist_laws.specs.Reading.{named_target, named_targets};

@@ -1,7 +1,7 @@
 //! What is made of a text that has been read to its end.
 
 ghost use Rattle.std.specs.Prelude.{◌≡◌, ◌≤◌, ℕ, List, length, IfOk, IfErr, MatchOption};
-ghost use Rattle.bn_net.specs.declared.net.TheConstants.{MOST_ELEMENTS};
+ghost use Rattle.bn_circuits.specs.declared.net.TheConstants.{MOST_ELEMENTS};
 ghost use Rattle.bn_lists.specs.Lists.{IsLeast};
 ghost use Rattle.bn_netlist_laws.specs.Spelling.{circuit_of};
 ghost use Rattle.bn_netlist_laws.specs.declared.version.Version.TheVariants.{Two};

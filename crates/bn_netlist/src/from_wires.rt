@@ -3,7 +3,7 @@
 ghost use Rattle.std.specs.Prelude.{◌≡◌, ◌≤◌, List, IfOk};
 ghost use Rattle.bn_circuits.specs.Circuits.{IsConfig};
 ghost use Rattle.bn_circuits.specs.declared.line.Wire.{Wire};
-ghost use Rattle.bn_net.specs.declared.net.TheConstants.{MOST_ELEMENTS};
+ghost use Rattle.bn_circuits.specs.declared.net.TheConstants.{MOST_ELEMENTS};
 ghost use Rattle.bn_packed.specs.Drafts.{AreDrawn};
 ghost use Rattle.bn_netlist_laws.specs.Spelling.{AreSame, circuit_of};
 ghost use Rattle.bn_netlist.specs.WireSpelling.{spelling_by};

@@ -10,8 +10,7 @@ ghost use Rattle.bn_netlist.specs.LineReading.{TakesLine, RefusesLine};
 use crate::draft::existing;
 use crate::forms::{named_after, number_after, version_of};
 use crate::line_refusal::NetlistRefusal;
-use bn_circuits::{Line, Place};
-use bn_net::MOST_ELEMENTS;
+use bn_circuits::{Line, MOST_ELEMENTS, Place};
 use bn_netlist_laws::{MOST_ELEMENTS_IN_ONE, Version};
 
 /// Line 1, which says that this is a configuration text, and of which version.

@@ -2,6 +2,6 @@
 ghost use Rattle.bn_netlist.specs.Laws.{Laws};
 
 /// Laws over the definitions alone, a named field each.
-pub fn line_laws()
+pub fn netlist_laws()
     ensures { Laws }
 {}

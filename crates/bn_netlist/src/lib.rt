@@ -39,7 +39,7 @@ pub use forms::{column_of, element_of, named_after, number_after, sides_of, vers
 pub use from_wires::FromWires;
 pub use front::LONGEST_LINE;
 pub use header_lines::{take_count, take_end, take_place, take_start, take_steps, take_title};
-pub use laws::line_laws;
+pub use laws::netlist_laws;
 pub use line_refusal::NetlistRefusal;
 pub use net_config::NetConfig;
 pub use packed_config::PackedConfig;

@@ -2,10 +2,9 @@
 
 use crate::from_wires::FromWires;
 use crate::spellable::Spellable;
-use bn_circuits::{Config, Line, Place, States};
+use bn_circuits::{Config, Line, Net, Place, States};
 use bn_element::Rotary;
 use bn_lists::NoMemory;
-use bn_net::Net;
 use bn_netlist_laws::{Header, Version};
 use bn_packed::{Draft, Packed};
 use std::alloc::Global;

@@ -1,7 +1,7 @@
 //! The lines of entries, from their bytes.
 
 ghost use Rattle.std.specs.Prelude.{◌≡◌, ◌+◌, ◌<◌, ◌≤◌, ◌++◌, ◌∷◌, [], List, OnOk, IfErr, None};
-ghost use Rattle.bn_net.specs.declared.net.TheConstants.{MOST_ELEMENTS};
+ghost use Rattle.bn_circuits.specs.declared.net.TheConstants.{MOST_ELEMENTS};
 ghost use Rattle.bn_netlist.specs.Drafting.{IsSized};
 ghost use Rattle.bn_netlist_laws.specs.Sentences.{Sentence};
 ghost use Rattle.bn_netlist_laws.specs.Spelling.{header_then};

@@ -29,7 +29,7 @@ use Rattle.bn_netlist_laws.specs.Faults.{fault_of, IsOfVersion, IsNext, AreFault
 use Rattle.bn_netlist_laws.specs.Faults.{IsSpelledOut}
 use Rattle.bn_netlist_laws.specs.declared.version.Version.{Version}
 use Rattle.bn_netlist_laws.specs.declared.version.Version.TheVariants.{One, Two}
-use Rattle.bn_net.specs.declared.net.TheConstants.{MOST_ELEMENTS}
+use Rattle.bn_circuits.specs.declared.net.TheConstants.{MOST_ELEMENTS}
 use Rattle.bn_netlist_laws.specs.declared.header.Header.{Header}
 use Rattle.bn_netlist_laws.proofs.EntryLemmas.{count_states, column_within, column_alike}
 use Rattle.bn_netlist_laws.proofs.LineLemmas.{AreOf, AreLeading, row_leading, from_are, wires_after-more}

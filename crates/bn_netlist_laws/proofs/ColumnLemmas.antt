@@ -10,11 +10,11 @@ use Rattle.bn_circuits.specs.Circuits.{target}
 use Rattle.bn_circuits.specs.declared.line.Line.{Line}
 use Rattle.bn_circuits.specs.declared.line.Wire.{Wire}
 use Rattle.bn_element.specs.Tables.{Table}
-use Rattle.bn_net.proofs.WireListLemmas.{line_tells}
+use Rattle.bn_circuits.proofs.WireListLemmas.{line_tells}
 use Rattle.bn_element.specs.Rotary.{rotary, vertical, north, east}
 use Rattle.bn_column.specs.Columns.{IsInner, top}
 use Rattle.bn_circuits.specs.Circuits.{line_at}
-use Rattle.bn_net.specs.Wirings.{AreApart, AreWiresOf}
+use Rattle.bn_circuits.specs.Wirings.{AreApart, AreWiresOf}
 use Rattle.bn_column.proofs.LadderLemmas.{IsLadder, no_rung, ladder_more, ladder_closed}
 use Rattle.bn_netlist_laws.specs.Columns.{IsColumnAt, HasColumnAt, rotary_elements, rungs, inner_wires, leads_to}
 use Rattle.bn_netlist_laws.specs.Columns.{lead_all, is_vertical, are_upright, is_loose, is_column_at, rows_told}

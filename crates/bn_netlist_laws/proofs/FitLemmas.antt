@@ -8,11 +8,11 @@ use Rattle.std.proofs.lemmas.List.{append_assoc, append-nil, length-append}
 use Rattle.bn_circuits.specs.Circuits.{same_line, target, source}
 use Rattle.bn_circuits.specs.declared.line.Line.{Line}
 use Rattle.bn_circuits.specs.declared.line.Wire.{Wire}
-use Rattle.bn_net.proofs.WireListLemmas.{line_tells}
+use Rattle.bn_circuits.proofs.WireListLemmas.{line_tells}
 use Rattle.bn_element.specs.Rotary.{east}
 use Rattle.bn_column.specs.Columns.{IsInner, down, up, under, over, top}
 use Rattle.bn_circuits.specs.Circuits.{line_at}
-use Rattle.bn_net.specs.Wirings.{AreApart}
+use Rattle.bn_circuits.specs.Wirings.{AreApart}
 use Rattle.bn_netlist_laws.specs.Sentences.{AreNameable}
 use Rattle.bn_netlist_laws.specs.Faults.{is_left_by, wires_from}
 use Rattle.bn_netlist_laws.proofs.WireLemmas.{other_lines, Each, each_append, each_weaker, target-none, source-none}

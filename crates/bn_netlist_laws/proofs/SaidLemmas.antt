@@ -9,7 +9,7 @@ use Rattle.bn_circuits.specs.declared.line.Wire.{Wire}
 use Rattle.bn_element.specs.Rotary.{vertical, north, east, south, west}
 use Rattle.bn_column.specs.Columns.{IsInner, down, up, under, over, top}
 use Rattle.bn_circuits.specs.Circuits.{line_at}
-use Rattle.bn_net.proofs.WiringsLemmas.{apart-wire}
+use Rattle.bn_circuits.proofs.WiringsLemmas.{apart-wire}
 use Rattle.bn_netlist_laws.specs.Spelling.{Spelling, circuit_of, targets_of}
 use Rattle.bn_netlist_laws.specs.Faults.{wires_from}
 use Rattle.bn_netlist_laws.proofs.WireLemmas.{Each, each_append, each_weaker, rotary_output}

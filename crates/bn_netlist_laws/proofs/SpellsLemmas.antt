@@ -11,7 +11,7 @@ use Rattle.bn_circuits.specs.declared.line.Line.{Line}
 use Rattle.bn_circuits.specs.declared.line.Wire.{Wire}
 use Rattle.bn_circuits.specs.declared.place.Place.{Place}
 use Rattle.bn_circuits.specs.declared.place.Place.TheVariants.{Enter, Left}
-use Rattle.bn_net.proofs.WireListLemmas.{line_tells}
+use Rattle.bn_circuits.proofs.WireListLemmas.{line_tells}
 use Rattle.bn_circuits.specs.Circuits.{same_line}
 use Rattle.bn_element.specs.Rotary.{rotary}
 use Rattle.bn_netlist_laws.specs.Spelling.{Spelling}

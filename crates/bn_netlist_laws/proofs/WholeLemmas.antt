@@ -7,11 +7,11 @@ use Rattle.std.proofs.lemmas.Option.{same_Some}
 use Rattle.bn_circuits.specs.Circuits.{same_line, target, source, IsCircuit, IsOneToOne, IsInputOf, IsOutputOf}
 use Rattle.bn_circuits.specs.declared.line.Line.{Line}
 use Rattle.bn_circuits.specs.declared.line.Wire.{Wire}
-use Rattle.bn_net.proofs.WireListLemmas.{line_tells, target-push, source-push}
+use Rattle.bn_circuits.proofs.WireListLemmas.{line_tells, target-push, source-push}
 use Rattle.bn_element.specs.Rotary.{rotary, vertical, north, east, south, west}
 use Rattle.bn_column.specs.Columns.{IsInner, down, up, under, over, top}
 use Rattle.bn_circuits.specs.Circuits.{line_at}
-use Rattle.bn_net.proofs.WiringsLemmas.{no_target}
+use Rattle.bn_circuits.proofs.WiringsLemmas.{no_target}
 use Rattle.bn_netlist_laws.specs.Spelling.{Spelling, circuit_of, targets_of}
 use Rattle.bn_netlist_laws.specs.Faults.{wires_from}
 use Rattle.bn_netlist_laws.proofs.WireLemmas.{rotary_inputs, rotary_outputs, rotary_reversible, other_line, Each}

@@ -5,7 +5,7 @@ use Rattle.std.proofs.Common.{zero, suc, arith, sym, subst, ◌∙◌, inl, inr}
 use Rattle.std.proofs.lemmas.Option.{same_Some}
 use Rattle.bn_element.specs.Tables.{Table, IsReversible}
 use Rattle.bn_circuits.specs.Circuits.{same_line, target, source, states_of, inputs_of, outputs_of}
-use Rattle.bn_net.proofs.WireListLemmas.{line_tells}
+use Rattle.bn_circuits.proofs.WireListLemmas.{line_tells}
 use Rattle.bn_circuits.specs.declared.line.Line.{Line}
 use Rattle.bn_circuits.specs.declared.line.Wire.{Wire}
 use Rattle.bn_element.specs.Rotary.{rotary}

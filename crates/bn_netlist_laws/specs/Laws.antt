@@ -1,4 +1,4 @@
--- The laws of this crate, a named field each. `Laws` is the contract of `text_laws`.
+-- The laws of this crate, a named field each. `Laws` is the contract of `netlist_text_laws`.
 use Rattle.bn_netlist_laws.specs.Columns.{RowsAgree, ColumnsAreFound}
 use Rattle.bn_netlist_laws.specs.Faults.{FaultyTextsSpellNothing, FaultsAgree, TextsSpellOrFault, LinesAreShort}
 use Rattle.bn_netlist_laws.specs.Spelling.{HasText, SameHaveOneText, SpellingsAgree, TextsEnd, AdmissionRises}

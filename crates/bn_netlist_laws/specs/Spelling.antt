@@ -13,7 +13,7 @@ use Rattle.bn_netlist_laws.specs.Sentences.{lines_text}
 use Rattle.bn_netlist_laws.specs.Columns.{IsColumnAt}
 use Rattle.bn_netlist_laws.specs.declared.version.Version.{Version}
 use Rattle.bn_netlist_laws.specs.declared.version.Version.TheVariants.{One, Two}
-use Rattle.bn_net.specs.declared.net.TheConstants.{MOST_ELEMENTS}
+use Rattle.bn_circuits.specs.declared.net.TheConstants.{MOST_ELEMENTS}
 use Rattle.bn_netlist_laws.specs.declared.version.TheConstants.{MOST_ELEMENTS_IN_ONE}
 use Rattle.bn_netlist_laws.specs.declared.header.Header.{Header}
 

@@ -2,6 +2,6 @@
 ghost use Rattle.bn_netlist_laws.specs.Laws.{Laws};
 
 /// Laws over the definitions alone, a named field each.
-pub fn text_laws()
+pub fn netlist_text_laws()
     ensures { Laws }
 {}

@@ -9,5 +9,5 @@ mod version;
 
 pub use element_line::ElementLine;
 pub use header::Header;
-pub use laws::text_laws;
+pub use laws::netlist_text_laws;
 pub use version::{MOST_ELEMENTS_IN_ONE, Version};

@@ -1,4 +1,4 @@
--- The laws of this crate, a named field each. `Laws` is the contract of `control_laws`.
+-- The laws of this crate, a named field each. `Laws` is the contract of `network_definition_laws`.
 use Rattle.bn_network.specs.ControlLaws.{TapesAreSame, OverlapsAreOne, ControlsAreOneToOne, StatesHaveEntries}
 use Rattle.bn_network.specs.ControlLaws.{ControlsAreOne}
 use Rattle.bn_network.specs.declared.limits.TheConstants.{MOST_SYMBOLS}

@@ -2,6 +2,6 @@
 ghost use Rattle.bn_network.specs.Laws.{Laws};
 
 /// The laws of this crate, a named field each.
-pub fn control_laws()
+pub fn network_definition_laws()
     ensures { Laws }
 {}

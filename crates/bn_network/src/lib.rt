@@ -8,5 +8,5 @@ mod laws;
 mod limits;
 
 pub use cell_line::CellLine;
-pub use laws::control_laws;
+pub use laws::network_definition_laws;
 pub use limits::MOST_SYMBOLS;

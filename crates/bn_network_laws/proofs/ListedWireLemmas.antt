@@ -4,9 +4,9 @@ use Rattle.std.proofs.Common.{sym, ap, subst, ◌∙◌, inl, inr}
 use Rattle.bn_circuits.specs.Circuits.{target, source}
 use Rattle.bn_circuits.specs.declared.line.Line.{Line}
 use Rattle.bn_circuits.specs.declared.line.Wire.{Wire}
-use Rattle.bn_net.proofs.WireListLemmas.{line_tells}
-use Rattle.bn_net.specs.Wirings.{AreApart, AreWiresOf}
-use Rattle.bn_net.proofs.WiringsLemmas.{apart-IsOneToOne}
+use Rattle.bn_circuits.proofs.WireListLemmas.{line_tells}
+use Rattle.bn_circuits.specs.Wirings.{AreApart, AreWiresOf}
+use Rattle.bn_circuits.proofs.WiringsLemmas.{apart-IsOneToOne}
 use Rattle.bn_lists.specs.Lists.{Has}
 use Rattle.bn_network.proofs.ListedLemmas.{Listing}
 

@@ -6,8 +6,8 @@ use Rattle.bn_element.specs.Tables.{Table, IsReversible}
 use Rattle.bn_circuits.specs.Circuits.{Circuit, inputs_of, outputs_of, IsInputOf, IsOutputOf}
 use Rattle.bn_circuits.specs.declared.line.Line.{Line}
 use Rattle.bn_circuits.specs.declared.line.Wire.{Wire}
-use Rattle.bn_net.specs.Wirings.{AreWiresOf}
-use Rattle.bn_net.proofs.WiringsLemmas.{apart-IsOneToOne}
+use Rattle.bn_circuits.specs.Wirings.{AreWiresOf}
+use Rattle.bn_circuits.proofs.WiringsLemmas.{apart-IsOneToOne}
 use Rattle.bn_machine.specs.Outcome.{Limits}
 use Rattle.bn_quad.specs.Quadruples.{Quadruples}
 use Rattle.bn_network.specs.declared.cell_line.CellLine.{CellLine}

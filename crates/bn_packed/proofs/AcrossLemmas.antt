@@ -14,9 +14,9 @@ use Rattle.bn_circuits.proofs.StepLemmas.{same_lines}
 use Rattle.bn_circuits.specs.declared.line.Line.{Line}
 use Rattle.bn_element.specs.Rotary.{rotary}
 use Rattle.bn_element.specs.declared.rotary.Rotary.{Rotary}
-use Rattle.bn_net.specs.Parts.{Parts}
-use Rattle.bn_net.proofs.WireListLemmas.{line_tells}
-use Rattle.bn_net.specs.Rows.{entry}
+use Rattle.bn_circuits.specs.Parts.{Parts}
+use Rattle.bn_circuits.proofs.WireListLemmas.{line_tells}
+use Rattle.bn_circuits.specs.Rows.{entry}
 use Rattle.bn_packed.specs.Ends.{nth_line, opposite, ahead, behind, IsLineBelow, EndList, AreEnds, AreEndsOf}
 use Rattle.bn_packed.specs.Ends.{AreTargets, IsWiring, end_at, targets_by, sources_by, rows_of, net_of}
 use Rattle.bn_packed.proofs.EndLemmas.{row_entry, row_entry_past, output_below, length-net, target_read}

@@ -12,7 +12,7 @@ use Rattle.bn_circuits.proofs.StepLemmas.{same_lines, slice_get-set_same, slice_
 use Rattle.bn_circuits.specs.declared.line.Line.{Line}
 use Rattle.bn_packed.specs.Numbers.{line_of, number_of}
 use Rattle.bn_element.specs.declared.rotary.Rotary.{Rotary}
-use Rattle.bn_net.specs.Parts.{Parts}
+use Rattle.bn_circuits.specs.Parts.{Parts}
 use Rattle.bn_packed.specs.Ends.{nth_line, ahead, behind, IsLineBelow, EndList, AreEnds, HasEnds, IsWiring, end_at}
 use Rattle.bn_packed.specs.Ends.{ends_in, numbers_for, targets_by, sources_by, net_of}
 use Rattle.bn_packed.proofs.AcrossLemmas.{same_element, end_read, read_end, ahead-AreEnds, behind-AreEnds}

@@ -7,12 +7,12 @@ use Rattle.bn_circuits.proofs.StepLemmas.{same_lines}
 use Rattle.bn_circuits.specs.declared.line.Line.{Line}
 use Rattle.bn_circuits.specs.declared.line.Wire.{Wire}
 use Rattle.bn_element.specs.declared.rotary.Rotary.{Rotary}
-use Rattle.bn_net.specs.Parts.{Parts}
-use Rattle.bn_net.specs.Order.{ComesBefore, AreInOrder}
-use Rattle.bn_net.proofs.OrderLemmas.{in_order-same}
-use Rattle.bn_net.specs.RotaryNets.{rotary_circuit, IsNetOf}
-use Rattle.bn_net.specs.Wirings.{AreWiresOf, AreFitting}
-use Rattle.bn_net.proofs.WiringsLemmas.{IsWire, more_wire, same_wires, apart-wire}
+use Rattle.bn_circuits.specs.Parts.{Parts}
+use Rattle.bn_circuits.specs.Order.{ComesBefore, AreInOrder}
+use Rattle.bn_circuits.proofs.OrderLemmas.{in_order-same}
+use Rattle.bn_circuits.specs.RotaryNets.{rotary_circuit, IsNetOf}
+use Rattle.bn_circuits.specs.Wirings.{AreWiresOf, AreFitting}
+use Rattle.bn_circuits.proofs.WiringsLemmas.{IsWire, more_wire, same_wires, apart-wire}
 use Rattle.bn_packed.specs.Ends.{rotaries}
 use Rattle.bn_packed.proofs.EndLemmas.{rotaries_all, output_below, input_below}
 use Rattle.bn_packed.specs.CopiedWires.{IsTargetBefore}

@@ -2,7 +2,7 @@
 -- same where the signal goes straight, and else differs in the two bits that tell the line.
 use Rattle.std.specs.Prelude.{◌≡◌, ℕ, ◌-◌, ◌/◌, ◌%◌, ◌<◌, List, Some, slice_get, slice_set, bit_xor, refl}
 use Rattle.std.proofs.Common.{zero, suc, arith, sym, ap, ◌∙◌}
-use Rattle.bn_net.proofs.RotaryNetLemmas.{set_same}
+use Rattle.bn_circuits.proofs.RotaryNetLemmas.{set_same}
 use Rattle.bn_circuits.specs.declared.line.Line.{Line}
 use Rattle.bn_packed.specs.Numbers.{line_of, number_of}
 use Rattle.bn_packed.specs.Ends.{opposite}

@@ -8,7 +8,7 @@ use Rattle.std.proofs.lemmas.List.{length-append, take_all}
 use Rattle.std.proofs.lemmas.Option.{slice_get_within}
 use Rattle.bn_circuits.specs.declared.line.Line.{Line}
 use Rattle.bn_circuits.specs.declared.line.Wire.{Wire}
-use Rattle.bn_net.specs.Wirings.{AreApart, AreFitting}
+use Rattle.bn_circuits.specs.Wirings.{AreApart, AreFitting}
 use Rattle.bn_packed.specs.Ends.{opposite, ahead, EndList, AreEndsOf}
 use Rattle.bn_packed.specs.Drafts.{AreDrawn}
 use Rattle.bn_packed.proofs.ListedLemmas.{ends_none, ends_more}

@@ -12,12 +12,12 @@ use Rattle.bn_circuits.specs.declared.line.Line.{Line}
 use Rattle.bn_element.specs.Rotary.{rotary}
 use Rattle.bn_element.specs.Reversible.{rotary-IsReversible}
 use Rattle.bn_element.specs.declared.rotary.Rotary.{Rotary}
-use Rattle.bn_net.specs.Rows.{entry, width, wires_of, IsWired}
-use Rattle.bn_net.specs.Parts.{Parts}
-use Rattle.bn_net.specs.Order.{AreInOrder}
-use Rattle.bn_net.proofs.WireLemmas.{target-wires, source-wires, wired-IsCircuit, tables-reversible, output-within}
-use Rattle.bn_net.proofs.OrderLemmas.{in_order-same, rows_in_order}
-use Rattle.bn_net.specs.RotaryNets.{rotary_circuit}
+use Rattle.bn_circuits.specs.Rows.{entry, width, wires_of, IsWired}
+use Rattle.bn_circuits.specs.Parts.{Parts}
+use Rattle.bn_circuits.specs.Order.{AreInOrder}
+use Rattle.bn_circuits.proofs.WireLemmas.{target-wires, source-wires, wired-IsCircuit, tables-reversible, output-within}
+use Rattle.bn_circuits.proofs.OrderLemmas.{in_order-same, rows_in_order}
+use Rattle.bn_circuits.specs.RotaryNets.{rotary_circuit}
 use Rattle.bn_packed.specs.Ends.{nth_line, IsLineBelow, EndList, AreEnds, AreEndsOf, end_at, rows_of, rotaries, net_of}
 use Rattle.bn_packed.specs.Ends.{IsWiring}
 

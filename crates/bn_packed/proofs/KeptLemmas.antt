@@ -4,8 +4,8 @@ use Rattle.std.proofs.Common.{subst}
 use Rattle.std.proofs.lemmas.List.{length-replicate}
 use Rattle.bn_circuits.specs.Circuits.{IsCircuit}
 use Rattle.bn_element.specs.declared.rotary.Rotary.{Rotary}
-use Rattle.bn_net.specs.Parts.{Parts}
-use Rattle.bn_net.specs.RotaryNets.{rotary_circuit}
+use Rattle.bn_circuits.specs.Parts.{Parts}
+use Rattle.bn_circuits.specs.RotaryNets.{rotary_circuit}
 use Rattle.bn_packed.specs.Ends.{AreTargets, EndList, net_of, sources_by, targets_by}
 use Rattle.bn_packed.proofs.BehindLemmas.{wiring_there}
 use Rattle.bn_packed.proofs.EndLemmas.{wiring-IsCircuit}

@@ -10,14 +10,14 @@ use Rattle.bn_circuits.proofs.StepLemmas.{slice_get-set_same, slice_get-set_othe
 use Rattle.bn_circuits.specs.declared.line.Line.{Line}
 use Rattle.bn_circuits.specs.declared.line.Wire.{Wire}
 use Rattle.bn_element.specs.declared.rotary.Rotary.{Rotary}
-use Rattle.bn_net.specs.Parts.{Parts}
-use Rattle.bn_net.specs.Order.{AreInOrder}
-use Rattle.bn_net.proofs.WireLemmas.{target-wires}
-use Rattle.bn_net.proofs.WireListLemmas.{line_tells, target-push}
-use Rattle.bn_net.proofs.OrderLemmas.{rows_in_order}
-use Rattle.bn_net.specs.RotaryNets.{IsNetOf}
-use Rattle.bn_net.specs.Wirings.{AreApart, AreFitting}
-use Rattle.bn_net.proofs.WiringsLemmas.{apart-IsOneToOne, earlier_target}
+use Rattle.bn_circuits.specs.Parts.{Parts}
+use Rattle.bn_circuits.specs.Order.{AreInOrder}
+use Rattle.bn_circuits.proofs.WireLemmas.{target-wires}
+use Rattle.bn_circuits.proofs.WireListLemmas.{line_tells, target-push}
+use Rattle.bn_circuits.proofs.OrderLemmas.{rows_in_order}
+use Rattle.bn_circuits.specs.RotaryNets.{IsNetOf}
+use Rattle.bn_circuits.specs.Wirings.{AreApart, AreFitting}
+use Rattle.bn_circuits.proofs.WiringsLemmas.{apart-IsOneToOne, earlier_target}
 use Rattle.bn_packed.specs.Ends.{nth_line, opposite, ahead, targets_by, IsLineBelow, EndList, AreEndsOf, AreTargets}
 use Rattle.bn_packed.specs.Ends.{rows_of, rotaries, net_of}
 use Rattle.bn_packed.proofs.AcrossLemmas.{opposite_below, test_across, ahead-AreTargets, targets_ahead}

@@ -10,10 +10,10 @@ use Rattle.bn_circuits.specs.declared.place.Place.{Place}
 use Rattle.bn_circuits.specs.declared.place.Place.TheVariants.{Enter}
 use Rattle.bn_circuits.specs.declared.config.Config.{Config}
 use Rattle.bn_element.specs.declared.rotary.Rotary.{Rotary}
-use Rattle.bn_net.specs.Parts.{Parts}
-use Rattle.bn_net.specs.Watching.{Hears}
-use Rattle.bn_net.specs.Walking.{HasWalkedBack}
-use Rattle.bn_net.specs.RotaryNets.{rotary_circuit}
+use Rattle.bn_circuits.specs.Parts.{Parts}
+use Rattle.bn_circuits.specs.Watching.{Hears}
+use Rattle.bn_circuits.specs.Walking.{HasWalkedBack}
+use Rattle.bn_circuits.specs.RotaryNets.{rotary_circuit}
 use Rattle.bn_packed.specs.Bars.{HasCrossed, HasCrossedBack}
 use Rattle.std.specs.Option.{option_map}
 use Rattle.bn_packed.specs.Numbers.{line_of, number_of}

@@ -8,8 +8,8 @@ use Rattle.bn_circuits.proofs.StepLemmas.{slice_get-set_same, slice_get-set_othe
 use Rattle.std.proofs.lemmas.List.{length-set}
 use Rattle.std.proofs.lemmas.Bool.Decides.{eqb_tells}
 use Rattle.std.proofs.Common.{inl, inr}
-use Rattle.bn_net.specs.Parts.{Parts}
-use Rattle.bn_net.specs.RotaryNets.{rotary_circuit}
+use Rattle.bn_circuits.specs.Parts.{Parts}
+use Rattle.bn_circuits.specs.RotaryNets.{rotary_circuit}
 use Rattle.bn_packed.specs.Bars.{turned}
 use Rattle.bn_packed.specs.PackedNets.{IsPacked, config_at}
 use Rattle.bn_packed.proofs.StepLemmas.{two_states}

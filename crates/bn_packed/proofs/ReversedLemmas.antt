@@ -10,9 +10,9 @@ use Rattle.bn_circuits.proofs.StepLemmas.{slice_get-set_same, slice_get-set_othe
 use Rattle.bn_circuits.specs.declared.line.Line.{Line}
 use Rattle.bn_circuits.specs.declared.line.Wire.{Wire}
 use Rattle.bn_element.specs.declared.rotary.Rotary.{Rotary}
-use Rattle.bn_net.specs.Parts.{Parts}
-use Rattle.bn_net.specs.Rows.{entry}
-use Rattle.bn_net.specs.RotaryNets.{rotary_circuit}
+use Rattle.bn_circuits.specs.Parts.{Parts}
+use Rattle.bn_circuits.specs.Rows.{entry}
+use Rattle.bn_circuits.specs.RotaryNets.{rotary_circuit}
 use Rattle.bn_packed.specs.Ends.{nth_line, IsLineBelow, EndList, AreEndsOf, AreReversed, AreTargets, IsWiring, rows_of}
 use Rattle.bn_packed.proofs.EndLemmas.{input_below, line_by_number, row_entry, row_entry_past}
 

@@ -19,13 +19,13 @@ use Rattle.bn_circuits.specs.declared.place.Place.TheVariants.{Enter, Left}
 use Rattle.bn_circuits.specs.declared.config.Config.{Config}
 use Rattle.bn_element.specs.Rotary.{rotary}
 use Rattle.bn_element.specs.declared.rotary.Rotary.{Rotary}
-use Rattle.bn_net.specs.Parts.{Parts}
-use Rattle.bn_net.specs.Watching.{Hears}
-use Rattle.bn_net.specs.Walking.{HasWalked, HasWalkedBack}
-use Rattle.bn_net.proofs.WalkLemmas.{walk_starts, walk_goes, walk_ends, walk_back_starts, walk_goes_back}
-use Rattle.bn_net.proofs.WalkLemmas.{walk_back_then, walk_back_ends}
-use Rattle.bn_net.proofs.NetSteps.{enter-within, output-state, back-Goes, first_by_steps}
-use Rattle.bn_net.specs.RotaryNets.{rotary_circuit}
+use Rattle.bn_circuits.specs.Parts.{Parts}
+use Rattle.bn_circuits.specs.Watching.{Hears}
+use Rattle.bn_circuits.specs.Walking.{HasWalked, HasWalkedBack}
+use Rattle.bn_circuits.proofs.WalkLemmas.{walk_starts, walk_goes, walk_ends, walk_back_starts, walk_goes_back}
+use Rattle.bn_circuits.proofs.WalkLemmas.{walk_back_then, walk_back_ends}
+use Rattle.bn_circuits.proofs.NetSteps.{enter-within, output-state, back-Goes, first_by_steps}
+use Rattle.bn_circuits.specs.RotaryNets.{rotary_circuit}
 use Rattle.bn_packed.specs.Bars.{AreBars, crossed, crossed_back}
 use Rattle.bn_packed.specs.PackedNets.{PackedNet, config_at}
 use Rattle.bn_packed.specs.Running.{GoesTo, LeadsTo, IsAtEnd, IsLongestRun, places_along}

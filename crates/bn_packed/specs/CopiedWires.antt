@@ -4,7 +4,7 @@ use Rattle.std.specs.Prelude.{◌≡◌, ℕ, List, Some}
 use Rattle.bn_circuits.specs.Circuits.{line_at, target}
 use Rattle.bn_circuits.specs.declared.line.Line.{Line}
 use Rattle.bn_circuits.specs.declared.line.Wire.{Wire}
-use Rattle.bn_net.specs.Order.{ComesBefore}
+use Rattle.bn_circuits.specs.Order.{ComesBefore}
 
 -- the wire of this list that leaves an output line before line l of element e
 pub record IsTargetBefore (ws : List Wire) (e l : ℕ) (from to : Line) : Type 0 where

@@ -1,7 +1,7 @@
 -- Wires of a net that are put in some at a time, before the net is packed.
 use Rattle.std.specs.Prelude.{ℕ, List}
 use Rattle.bn_circuits.specs.declared.line.Wire.{Wire}
-use Rattle.bn_net.specs.Wirings.{AreApart, AreFitting}
+use Rattle.bn_circuits.specs.Wirings.{AreApart, AreFitting}
 use Rattle.bn_packed.specs.Ends.{EndList, AreEndsOf, ahead}
 
 -- these ends are where lines lead by the wires of this list, which stay apart and lie between lines of so many elements

@@ -9,8 +9,8 @@ use Rattle.bn_circuits.specs.Circuits.{target, source}
 use Rattle.bn_circuits.specs.declared.line.Wire.{Wire}
 use Rattle.bn_circuits.specs.declared.line.Line.{Line}
 use Rattle.bn_element.specs.declared.rotary.Rotary.{Rotary}
-use Rattle.bn_net.specs.Rows.{Rows, entry, wires_of}
-use Rattle.bn_net.specs.Parts.{Parts}
+use Rattle.bn_circuits.specs.Rows.{Rows, entry, wires_of}
+use Rattle.bn_circuits.specs.Parts.{Parts}
 use Rattle.bn_packed.specs.Numbers.{line_of, number_of}
 
 -- the line in this place of a list that has all lines, element by element

@@ -4,8 +4,8 @@ use Rattle.bn_circuits.specs.Circuits.{IsCircuit, IsConfig}
 use Rattle.bn_circuits.specs.declared.place.Place.{Place}
 use Rattle.bn_circuits.specs.declared.config.Config.{Config}
 use Rattle.bn_element.specs.declared.rotary.Rotary.{Rotary}
-use Rattle.bn_net.specs.Parts.{Parts}
-use Rattle.bn_net.specs.RotaryNets.{rotary_circuit}
+use Rattle.bn_circuits.specs.Parts.{Parts}
+use Rattle.bn_circuits.specs.RotaryNets.{rotary_circuit}
 use Rattle.bn_packed.specs.declared.wires.Wires.{Wires}
 use Rattle.bn_packed.specs.declared.wires.Wires.TheVariants.{Narrow, Wide}
 

@@ -1,7 +1,7 @@
 -- The wires of a packed netlist, which may be kept in one direction or in both.
 use Rattle.std.specs.Prelude.{Bool}
 use Rattle.bn_element.specs.declared.rotary.Rotary.{Rotary}
-use Rattle.bn_net.specs.Parts.{Parts}
+use Rattle.bn_circuits.specs.Parts.{Parts}
 
 -- a net of rotary elements, and whether the way back along its wires is made, by which signals go back
 pub record Ways : Type 0 where

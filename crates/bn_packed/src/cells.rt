@@ -5,7 +5,7 @@ ghost use Rattle.std.specs.Prelude.{vec_capacity};
 ghost use Rattle.bn_packed.specs.Numbers.{line_of, number_of};
 ghost use Rattle.bn_packed.specs.Ends.{nth_line, opposite, narrow_end, wide_end, IsLineBelow};
 
-use bn_net::Line;
+use bn_circuits::Line;
 
 /// The number of an element's input lines, and of its output lines.
 pub(crate) const LINES: usize = 4;

@@ -2,11 +2,11 @@
 
 ghost use Rattle.std.specs.Prelude.{◌≡◌, ◌<◌, ◌^◌, [], ◌++◌, List, IfOk};
 ghost use Rattle.bn_circuits.specs.declared.line.Wire.{Wire};
-ghost use Rattle.bn_net.specs.Wirings.{AreApart, AreFitting};
+ghost use Rattle.bn_circuits.specs.Wirings.{AreApart, AreFitting};
 ghost use Rattle.bn_packed.specs.Drafts.{AreDrawn};
 
 use crate::ends::Ends;
-use bn_net::{NoMemory, Wire};
+use bn_circuits::{NoMemory, Wire};
 use std::alloc::Global;
 use std::marker::Model;
 

@@ -5,7 +5,7 @@ ghost use Rattle.std.specs.Prelude.{replicate, None, vec_capacity};
 ghost use Rattle.bn_packed.specs.Ends.{numbers_for};
 
 use crate::cells::{BLOCK, Cell, LINES, cell_at, line_number, nth_line, opposite};
-use bn_net::{Line, NoMemory, Wire};
+use bn_circuits::{Line, NoMemory, Wire};
 use std::alloc::Global;
 use std::marker::Model;
 
@@ -32,7 +32,7 @@ impl<C: Cell> Model for Ends<C> {
 impl<C: Cell> Ends<C> {
     ghost use Rattle.std.specs.Prelude.{◌++◌, List};
     ghost use Rattle.bn_circuits.specs.declared.line.Wire.{Wire};
-    ghost use Rattle.bn_net.specs.Wirings.{AreApart, AreFitting};
+    ghost use Rattle.bn_circuits.specs.Wirings.{AreApart, AreFitting};
     ghost use Rattle.bn_packed.specs.Drafts.{AreDrawn};
     ghost use Rattle.bn_packed.specs.Numbers.{line_of};
     ghost use Rattle.bn_packed.specs.Ends.{EndList, IsLineBelow, AreTargets, AreReversed, ends_in};

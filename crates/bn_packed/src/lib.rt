@@ -15,7 +15,7 @@ mod walk;
 mod wires;
 mod wiring;
 
-pub use bn_net::NoMemory;
+pub use bn_circuits::NoMemory;
 pub use direction::Direction;
 pub use draft::Draft;
 pub use packed::Packed;

@@ -1,6 +1,6 @@
 //! The one signal of a circuit.
 
-use bn_net::Place;
+use bn_circuits::Place;
 
 /// Where the signal is, and how many element steps led there.
 #[derive(Clone, Copy, Debug)]

@@ -2,7 +2,7 @@
 
 ghost use Rattle.std.specs.Prelude.{◌≡◌};
 
-use bn_net::Line;
+use bn_circuits::Line;
 
 /// Input lines at which a run stops.
 pub trait Stop {

@@ -2,15 +2,15 @@
 
 ghost use Rattle.std.specs.Prelude.{◌≡◌, ◌+◌, ◌*◌, ◌<◌, ◌≤◌, length, IfOk, OnOk};
 ghost use Rattle.bn_circuits.specs.Circuits.{IsCircuit};
-ghost use Rattle.bn_net.specs.Order.{AreInOrder};
-ghost use Rattle.bn_net.specs.RotaryNets.{rotary_circuit};
-ghost use Rattle.bn_net.specs.Wirings.{AreWiresOf};
-ghost use Rattle.bn_net.specs.declared.net.TheConstants.{MOST_ELEMENTS};
+ghost use Rattle.bn_circuits.specs.Order.{AreInOrder};
+ghost use Rattle.bn_circuits.specs.RotaryNets.{rotary_circuit};
+ghost use Rattle.bn_circuits.specs.Wirings.{AreWiresOf};
+ghost use Rattle.bn_circuits.specs.declared.net.TheConstants.{MOST_ELEMENTS};
 ghost use Rattle.bn_packed.specs.CopiedWires.{IsTargetBefore};
 
 use crate::packed::Packed;
+use bn_circuits::{Line, Net, NoMemory, Wire, rotary_net};
 use bn_element::Rotary;
-use bn_net::{Line, Net, NoMemory, Wire, rotary_net};
 use std::alloc::Global;
 
 impl Packed {

@@ -3,8 +3,8 @@
 ghost use Rattle.std.specs.Prelude.{◌≡◌, ◌⊎◌, ◌+◌, ◌-◌, ◌<◌, ◌≤◌, true};
 ghost use Rattle.bn_circuits.specs.Circuits.{IsCircuit, IsConfig, IsStuck, IsFirst, clock};
 ghost use Rattle.bn_circuits.specs.declared.place.Place.TheVariants.{Enter, Left};
-ghost use Rattle.bn_net.specs.Walking.{HasWalked, HasWalkedBack};
-ghost use Rattle.bn_net.specs.RotaryNets.{rotary_circuit};
+ghost use Rattle.bn_circuits.specs.Walking.{HasWalked, HasWalkedBack};
+ghost use Rattle.bn_circuits.specs.RotaryNets.{rotary_circuit};
 ghost use Rattle.bn_packed.specs.PackedNets.{config_at};
 ghost use Rattle.bn_packed.specs.Stopping.{PassesBy, stops_at};
 
@@ -13,7 +13,7 @@ use crate::cells::{Cell, cell_at, line_number, line_of, opposite};
 use crate::signal::Signal;
 use crate::stop::{Nowhere, Stop};
 use crate::wiring::Wiring;
-use bn_net::{Line, Place, Watch};
+use bn_circuits::{Line, Place, Watch};
 
 /// Makes at most `count` steps, for which the clock has room, and tells the watch the place after
 /// each.

@@ -3,11 +3,11 @@
 ghost use Rattle.std.specs.Prelude.{◌≡◌, ◌⊎◌, ◌+◌, ◌-◌, ◌<◌, ◌≤◌, true, List, length, IfOk};
 ghost use Rattle.bn_circuits.specs.Circuits.{IsCircuit, IsConfig, IsOutputOf, IsStuck, IsFirst, target, clock};
 ghost use Rattle.bn_circuits.specs.declared.line.Wire.{Wire};
-ghost use Rattle.bn_net.specs.Walking.{HasWalked, HasWalkedBack};
-ghost use Rattle.bn_net.specs.RotaryNets.{rotary_circuit};
-ghost use Rattle.bn_net.specs.Order.{AreInOrder};
-ghost use Rattle.bn_net.specs.RotaryNets.{IsNetOf};
-ghost use Rattle.bn_net.specs.Wirings.{AreApart, AreFitting};
+ghost use Rattle.bn_circuits.specs.Walking.{HasWalked, HasWalkedBack};
+ghost use Rattle.bn_circuits.specs.RotaryNets.{rotary_circuit};
+ghost use Rattle.bn_circuits.specs.Order.{AreInOrder};
+ghost use Rattle.bn_circuits.specs.RotaryNets.{IsNetOf};
+ghost use Rattle.bn_circuits.specs.Wirings.{AreApart, AreFitting};
 ghost use Rattle.bn_packed.specs.Drafts.{AreDrawn};
 ghost use Rattle.bn_packed.specs.PackedNets.{net_in, config_at};
 ghost use Rattle.bn_packed.specs.Stopping.{PassesBy, stops_at};
@@ -19,8 +19,8 @@ use crate::signal::Signal;
 use crate::stop::Stop;
 use crate::walk::{walk, walk_back, walk_until};
 use crate::wiring::Wiring;
+use bn_circuits::{Line, Net, NoMemory, Watch, Wire};
 use bn_element::Rotary;
-use bn_net::{Line, Net, NoMemory, Watch, Wire};
 use std::alloc::Global;
 
 /// The wires of a net of rotary elements, in 32 bits a line where these are enough, or else in 64.

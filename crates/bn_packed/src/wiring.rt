@@ -2,16 +2,16 @@
 
 ghost use Rattle.std.specs.Prelude.{◌≡◌, ◌<◌, ◌≤◌, ◌^◌, false, true, length, map, IfOk};
 ghost use Rattle.bn_circuits.specs.Circuits.{IsCircuit, IsOutputOf, target};
-ghost use Rattle.bn_net.specs.RotaryNets.{rotary_circuit};
-ghost use Rattle.bn_net.specs.Order.{AreInOrder};
-ghost use Rattle.bn_net.specs.RotaryNets.{IsNetOf};
-ghost use Rattle.bn_net.specs.Wirings.{AreApart, AreFitting};
+ghost use Rattle.bn_circuits.specs.RotaryNets.{rotary_circuit};
+ghost use Rattle.bn_circuits.specs.Order.{AreInOrder};
+ghost use Rattle.bn_circuits.specs.RotaryNets.{IsNetOf};
+ghost use Rattle.bn_circuits.specs.Wirings.{AreApart, AreFitting};
 ghost use Rattle.bn_packed.specs.Ends.{AreTargets, HasEnds, ahead, behind, targets_by, net_of};
 
 use crate::cells::{Cell, LINES, nth_line, opposite};
 use crate::ends::Ends;
+use bn_circuits::{Line, Net, NoMemory, Wire};
 use bn_element::Rotary;
-use bn_net::{Line, Net, NoMemory, Wire};
 use std::alloc::Global;
 use std::marker::Model;
 

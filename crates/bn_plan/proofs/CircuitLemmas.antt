@@ -6,9 +6,9 @@ use Rattle.std.proofs.lemmas.Bool.{cases_lt}
 use Rattle.std.proofs.Common.{refl, sym, subst, ◌∙◌, ap, arith, inl, inr}
 use Rattle.bn_element.specs.Rotary.{rotary}
 use Rattle.bn_element.specs.declared.rotary.Rotary.{Rotary}
-use Rattle.bn_net.specs.Parts.{Parts, circuit}
-use Rattle.bn_net.specs.Order.{ComesBefore, ComesFirst, AreInOrder}
-use Rattle.bn_net.proofs.WireListLemmas.{line_tells}
+use Rattle.bn_circuits.specs.Parts.{Parts, circuit}
+use Rattle.bn_circuits.specs.Order.{ComesBefore, ComesFirst, AreInOrder}
+use Rattle.bn_circuits.proofs.WireListLemmas.{line_tells}
 use Rattle.bn_circuits.specs.Circuits.{Circuit, IsCircuit, IsInputOf, IsOutputOf, target, source, inputs_of, outputs_of}
 use Rattle.bn_circuits.specs.declared.line.Line.{Line}
 use Rattle.bn_circuits.specs.declared.line.Wire.{Wire}

@@ -9,8 +9,8 @@ use Rattle.bn_circuits.specs.Circuits.{IsCircuit}
 use Rattle.bn_circuits.specs.declared.line.Wire.{Wire}
 use Rattle.bn_element.specs.Rotary.{rotary}
 use Rattle.bn_element.specs.declared.rotary.Rotary.{Rotary}
-use Rattle.bn_net.specs.Parts.{Parts, circuit}
-use Rattle.bn_net.specs.Order.{AreInOrder}
+use Rattle.bn_circuits.specs.Parts.{Parts, circuit}
+use Rattle.bn_circuits.specs.Order.{AreInOrder}
 use Rattle.bn_plan.specs.declared.tracked.Tracked.{Tracked}
 use Rattle.bn_plan.specs.Lists.{Pairwise}
 use Rattle.bn_lists.specs.Lists.{Has}

@@ -4,13 +4,13 @@ ghost use Rattle.std.specs.Prelude.{◌≡◌, ◌↔◌, ◌*◌, ◌^◌, ◌<
 ghost use Rattle.bn_circuits.specs.Circuits.{IsCircuit, IsInputOf, IsOutputOf};
 ghost use Rattle.bn_circuits.specs.declared.line.Wire.{Wire};
 ghost use Rattle.bn_element.specs.Rotary.{rotary};
-ghost use Rattle.bn_net.specs.Order.{AreInOrder};
-ghost use Rattle.bn_net.specs.RotaryNets.{rotary_circuit};
+ghost use Rattle.bn_circuits.specs.Order.{AreInOrder};
+ghost use Rattle.bn_circuits.specs.RotaryNets.{rotary_circuit};
 ghost use Rattle.bn_plan.specs.Wires.{output_position, input_position, HasFourLines};
 ghost use Rattle.bn_plan.specs.Sweeping.{BeginsAt};
 
+use bn_circuits::{Line, Net, Wire};
 use bn_element::Rotary;
-use bn_net::{Line, Net, Wire};
 
 /// The greatest number of elements of a circuit that has a floor plan.
 pub const MOST_PLANNED: u32 = 4_194_304;

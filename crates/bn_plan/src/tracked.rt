@@ -1,6 +1,6 @@
 //! Wires on tracks.
 
-use bn_net::Line;
+use bn_circuits::Line;
 
 /// A wire on a track of a floor plan. Elements and lines are counted from 0, tracks from 1. (This
 /// project's own profile.)

@@ -1,4 +1,4 @@
--- The laws of this crate, a named field each. `Laws` is the contract of `quad_table_laws`.
+-- The laws of this crate, a named field each. `Laws` is the contract of `qtable_laws`.
 use Rattle.bn_qtable.specs.Reading.{OneReading, ReadingOrFault, ReadTablesAreNamed}
 use Rattle.bn_qtable.specs.declared.entry.TheConstants.{MOST_ENTRIES}
 use Rattle.std.specs.Prelude.{◌≡◌}

@@ -2,6 +2,6 @@
 ghost use Rattle.bn_qtable.specs.Laws.{Laws};
 
 /// Laws of the definitions, a named field each.
-pub fn quad_table_laws()
+pub fn qtable_laws()
     ensures { Laws }
 {}

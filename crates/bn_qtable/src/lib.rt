@@ -12,7 +12,7 @@ mod text;
 
 pub use bn_csv::NoMemory;
 pub use entry::MOST_ENTRIES;
-pub use laws::quad_table_laws;
+pub use laws::qtable_laws;
 pub use refusal::QuadTableRefusal;
 pub use tape_word::{TapeWord, TapeWords};
 pub use text::{read_quads, write_quads};

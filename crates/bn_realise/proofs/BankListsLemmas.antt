@@ -7,7 +7,7 @@ use Rattle.bn_circuits.specs.declared.line.Wire.{Wire}
 use Rattle.bn_element.specs.Rotary.{east, west}
 use Rattle.bn_column.proofs.LadderLemmas.{inner_wires}
 use Rattle.bn_column.specs.Nets.{wire_of}
-use Rattle.bn_net.specs.Wirings.{AreWiresOf}
+use Rattle.bn_circuits.specs.Wirings.{AreWiresOf}
 use Rattle.bn_realise.specs.Banks.{column_at, IsBankWire}
 use Rattle.bn_realise.specs.BankWires.{IsEarlier, IsHalf, IsStage}
 use Rattle.bn_realise.proofs.BankWiresLemmas.{all_earlier, half_with, half_without, none_earlier, stage_begins}

@@ -9,8 +9,8 @@ use Rattle.bn_circuits.specs.declared.line.Wire.{Wire}
 use Rattle.bn_element.specs.Rotary.{east, west}
 use Rattle.bn_column.specs.Columns.{IsInner}
 use Rattle.bn_circuits.specs.Circuits.{line_at}
-use Rattle.bn_net.specs.Wirings.{AreWiresOf}
-use Rattle.bn_net.proofs.WiringsLemmas.{IsWire, no_wires, joined_wires, more_wire, same_wires}
+use Rattle.bn_circuits.specs.Wirings.{AreWiresOf}
+use Rattle.bn_circuits.proofs.WiringsLemmas.{IsWire, no_wires, joined_wires, more_wire, same_wires}
 use Rattle.bn_column.specs.Nets.{wire_of}
 use Rattle.bn_column.proofs.LadderLemmas.{inner-one_source, inner-IsInnerWithin, inner-row_from, inner-row_to}
 use Rattle.bn_realise.specs.Banks.{column_at, IsBankWire, inner, along, across, bank_input_line, bank_output_line}

@@ -17,12 +17,12 @@ use Rattle.bn_circuits.specs.declared.place.Place.TheVariants.{Enter, Left}
 use Rattle.bn_circuits.specs.declared.config.Config.{Config}
 use Rattle.bn_element.specs.Rotary.{horizontal, vertical, east, west}
 use Rattle.bn_element.specs.declared.rotary.Rotary.{Rotary}
-use Rattle.bn_net.specs.Parts.{Parts}
+use Rattle.bn_circuits.specs.Parts.{Parts}
 use Rattle.bn_column.specs.Columns.{bar}
 use Rattle.bn_circuits.specs.Circuits.{line_at}
 use Rattle.bn_column.proofs.CrossingLemmas.{Reaches-steps}
-use Rattle.bn_net.specs.RotaryNets.{rotary_circuit}
-use Rattle.bn_net.proofs.RotaryNetLemmas.{bars-IsConfig, rotary-table_at}
+use Rattle.bn_circuits.specs.RotaryNets.{rotary_circuit}
+use Rattle.bn_circuits.proofs.RotaryNetLemmas.{bars-IsConfig, rotary-table_at}
 use Rattle.bn_column.proofs.NetLemmas.{ran}
 use Rattle.bn_rsm.specs.Costs.{cost_by, loose_cost, move_cost, table_cost}
 use Rattle.bn_rsm.specs.Laws.{CostsAreBounded}
@@ -31,8 +31,8 @@ use Rattle.bn_realise.specs.Banks.{IsBankEntering, exit_after, moved}
 use Rattle.bn_realise.proofs.BankCrossingLemmas.{later_column, other_column, bank_crosses}
 use Rattle.bn_realise.proofs.BankWiresLemmas.{column_once, output-no_wire, turning-wire}
 use Rattle.bn_realise.specs.BankNets.{CanMove, IsMove, IsBankNet, Banked, IsBankOf, IsSomeBank, IsReadyBank, HasLeft}
-use Rattle.bn_net.specs.declared.net.TheConstants.{MOST_ELEMENTS}
-use Rattle.bn_net.proofs.WiringsLemmas.{none_of}
+use Rattle.bn_circuits.specs.declared.net.TheConstants.{MOST_ELEMENTS}
+use Rattle.bn_circuits.proofs.WiringsLemmas.{none_of}
 
 -- the bars of one bank at rest
 abbrev pub resting : ℕ → ℕ → ℕ → List ℕ

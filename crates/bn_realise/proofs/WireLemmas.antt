@@ -6,13 +6,13 @@ use Rattle.bn_circuits.specs.declared.line.Wire.{Wire}
 use Rattle.bn_element.specs.Rotary.{east, west}
 use Rattle.std.proofs.lemmas.List.{length-append}
 use Rattle.bn_column.specs.Columns.{IsInner}
-use Rattle.bn_net.specs.Wirings.{AreWiresOf, AreFitting}
-use Rattle.bn_net.proofs.WiringsLemmas.{apart-wire}
+use Rattle.bn_circuits.specs.Wirings.{AreWiresOf, AreFitting}
+use Rattle.bn_circuits.proofs.WiringsLemmas.{apart-wire}
 use Rattle.bn_column.specs.Nets.{wire_of}
-use Rattle.bn_net.specs.RotaryNets.{IsNetOf}
-use Rattle.bn_net.proofs.RotaryNetLemmas.{rotary-table_at}
+use Rattle.bn_circuits.specs.RotaryNets.{IsNetOf}
+use Rattle.bn_circuits.proofs.RotaryNetLemmas.{rotary-table_at}
 use Rattle.bn_element.specs.declared.rotary.Rotary.{Rotary}
-use Rattle.bn_net.specs.Parts.{Parts}
+use Rattle.bn_circuits.specs.Parts.{Parts}
 use Rattle.bn_realise.specs.Banks.{column_at, IsBankWire}
 use Rattle.bn_realise.proofs.BankCrossingLemmas.{later_column}
 use Rattle.bn_realise.specs.BankWires.{IsEarlier, IsStage, IsHalf}

@@ -9,8 +9,8 @@ use Rattle.bn_circuits.specs.declared.place.Place.TheVariants.{Enter, Left}
 use Rattle.bn_circuits.specs.declared.config.Config.{Config}
 use Rattle.bn_element.specs.Rotary.{horizontal, vertical, west}
 use Rattle.bn_element.specs.declared.rotary.Rotary.{Rotary}
-use Rattle.bn_net.specs.Parts.{Parts}
-use Rattle.bn_net.specs.RotaryNets.{rotary_circuit}
+use Rattle.bn_circuits.specs.Parts.{Parts}
+use Rattle.bn_circuits.specs.RotaryNets.{rotary_circuit}
 use Rattle.bn_rsm.specs.Machines.{Machine}
 use Rattle.bn_rsm.specs.Costs.{table_cost}
 use Rattle.bn_realise.specs.Banks.{column_at, bottom_at, IsBank, IsBankWire, IsBankEntering, IsResting}

@@ -12,7 +12,7 @@ use Rattle.bn_realise.specs.BankWires.{IsWithinLines}
 use Rattle.bn_realise.specs.BankNets.{IsBankNet}
 use Rattle.bn_element.specs.Rotary.{horizontal}
 use Rattle.bn_element.specs.declared.rotary.Rotary.{Rotary}
-use Rattle.bn_net.specs.Parts.{Parts}
+use Rattle.bn_circuits.specs.Parts.{Parts}
 
 -- In any circuit that has the bank of a reversible table with as many lines out as in, where the signal enters an input
 -- line of the bank at rest and the clock has room: exactly the steps of its cost lead to the move's end, and each test

@@ -5,8 +5,8 @@ ghost use Rattle.bn_rsm.specs.Machines.{machine_table};
 ghost use Rattle.bn_rsm.specs.Costs.{pass_cost, cost_by, table_cost};
 ghost use Rattle.bn_realise.specs.BankNets.{bank_elements};
 
+use bn_circuits::MOST_ELEMENTS;
 use bn_element::Element;
-use bn_net::MOST_ELEMENTS;
 use bn_rsm::Rsm;
 
 /// The element steps of the machine's bank from this state and input line, both counted from 0, to the

@@ -1,13 +1,13 @@
 //! The moves of a bank in a net.
 ghost use Rattle.std.specs.Prelude.{◌≡◌, ◌↔◌, ℕ, ◌<◌, Some, IsTrue, length, slice_get};
 ghost use Rattle.bn_circuits.specs.Circuits.{IsConfig};
-ghost use Rattle.bn_net.specs.RotaryNets.{rotary_circuit};
+ghost use Rattle.bn_circuits.specs.RotaryNets.{rotary_circuit};
 ghost use Rattle.bn_realise.specs.Banks.{IsBank, IsBankEntering, IsResting, HasMark, bottom_at};
 ghost use Rattle.bn_realise.specs.BankNets.{CanMove, IsMove};
 
 use crate::cost::steps_of;
+use bn_circuits::{Config, Net, Place};
 use bn_element::{Element, HORIZONTAL, Rotary};
-use bn_net::{Config, Net, Place};
 
 /// Makes the move of the bank of `machine` whose first element is `first`, from its state and the
 /// input line that the signal enters, and answers the number of element steps made: to the output

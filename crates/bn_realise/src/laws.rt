@@ -2,6 +2,6 @@
 ghost use Rattle.bn_realise.specs.Laws.{Laws};
 
 /// Laws on banks in any circuit, a named field each.
-pub fn bank_laws()
+pub fn realise_laws()
     ensures { Laws }
 {}

@@ -12,7 +12,7 @@ mod wires;
 pub use bn_lists::NoMemory;
 pub use cost::bank_cost;
 pub use cross::cross_bank_in;
-pub use laws::bank_laws;
+pub use laws::realise_laws;
 pub use make::bank;
 pub use refusal::BankRefusal;
 pub use standing::Bank;

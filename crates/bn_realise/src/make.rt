@@ -6,8 +6,8 @@ ghost use Rattle.bn_realise.specs.BankNets.{IsBankOf, bank_elements, IsCounted};
 use crate::refusal::BankRefusal;
 use crate::standing::Bank;
 use crate::wires::bank_wires;
+use bn_circuits::{MOST_ELEMENTS, rotary_net};
 use bn_element::Element;
-use bn_net::{MOST_ELEMENTS, rotary_net};
 use bn_rsm::Rsm;
 use std::alloc::Global;
 

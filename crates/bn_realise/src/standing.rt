@@ -3,11 +3,11 @@ ghost use Rattle.std.specs.Prelude.{◌≡◌, ℕ, ◌+◌, ◌*◌, ◌<◌, �
 ghost use Rattle.bn_realise.specs.Banks.{bottom_at};
 ghost use Rattle.bn_element.specs.Tables.{Table, IsReversible};
 ghost use Rattle.bn_circuits.specs.Circuits.{IsCircuit, IsConfig};
-ghost use Rattle.bn_net.specs.RotaryNets.{rotary_circuit};
+ghost use Rattle.bn_circuits.specs.RotaryNets.{rotary_circuit};
 
+use bn_circuits::{CLOCK, Config, MOST_ELEMENTS, Net, Place, States};
 use bn_element::{HORIZONTAL, Rotary, VERTICAL, WEST};
 use bn_lists::NoMemory;
-use bn_net::{CLOCK, Config, MOST_ELEMENTS, Net, Place, States};
 use std::alloc::Global;
 use std::marker::Model;
 
@@ -22,9 +22,9 @@ pub struct Bank {
 impl Model for Bank {
     ghost use Rattle.std.specs.Prelude.{◌≡◌, ◌+◌, ◌*◌, ◌≤◌, length};
     ghost use Rattle.bn_circuits.specs.Circuits.{IsCircuit};
-    ghost use Rattle.bn_net.specs.RotaryNets.{rotary_circuit};
+    ghost use Rattle.bn_circuits.specs.RotaryNets.{rotary_circuit};
     ghost use Rattle.bn_realise.specs.BankNets.{Banked, IsSomeBank};
-    ghost use Rattle.bn_net.specs.declared.net.TheConstants.{MOST_ELEMENTS};
+    ghost use Rattle.bn_circuits.specs.declared.net.TheConstants.{MOST_ELEMENTS};
 
     ghost Value = { Banked };
 

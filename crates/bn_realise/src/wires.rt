@@ -1,14 +1,14 @@
 //! The wires of a bank.
 ghost use Rattle.std.specs.Prelude.{◌≡◌, ◌+◌, ◌*◌, ◌^◌, ◌<◌, ◌≤◌, ◌++◌, ◌∷◌, [], length, IfOk, OnOk};
-ghost use Rattle.bn_net.specs.Wirings.{AreWiresOf};
+ghost use Rattle.bn_circuits.specs.Wirings.{AreWiresOf};
 ghost use Rattle.bn_realise.specs.Banks.{IsBankWire, column_at};
 ghost use Rattle.bn_realise.specs.BankWires.{IsEarlier, IsStage, IsHalf};
 ghost use Rattle.bn_realise.specs.BankNets.{HasRoom};
 
+use bn_circuits::Wire;
 use bn_column::{column_wires, wire};
 use bn_element::{EAST, Element, WEST};
 use bn_lists::NoMemory;
-use bn_net::Wire;
 use std::alloc::Global;
 
 /// The wires inside the bank of `machine` whose first element is `first`.

@@ -9,11 +9,11 @@ use Rattle.bn_reply.specs.Replying.{IsReplied, IsUnfinished, untold, told_some}
 use Rattle.bn_reply.specs.Streams.{AnswerEnds, IsBegun, IsBroken, whole, cut, wanting, unbegun, begun}
 use Rattle.bn_table.specs.Reading.{Reads}
 use Rattle.bn_table.specs.Rows.{Named}
-use Rattle.bn_standard.specs.Standard.{IsStandard}
+use Rattle.bn_machine.specs.Standard.{IsStandard}
 use Rattle.bn_reply.specs.TableReply.{JudgedReplies, fit, TableReplies, read, WordReplies, spelled}
 use Rattle.bn_reply.specs.Words.{IsSpelledBy}
-use Rattle.bn_net.proofs.WalkLemmas.{hears-nothing}
-use Rattle.bn_net.specs.Watching.{Hears}
+use Rattle.bn_circuits.proofs.WalkLemmas.{hears-nothing}
+use Rattle.bn_circuits.specs.Watching.{Hears}
 use Rattle.bn_reply.specs.declared.reply.Reply.{Reply}
 use Rattle.bn_lists.specs.declared.memory.NoMemory.{NoMemory as WantOfMemory}
 use Rattle.bn_reply.specs.declared.status.Status.{Status}

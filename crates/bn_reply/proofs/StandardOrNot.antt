@@ -9,16 +9,16 @@ use Rattle.bn_lists.proofs.ListLemmas.{nth-get_or}
 use Rattle.bn_machine.specs.declared.quint.Quint.{Quint}
 use Rattle.bn_machine.specs.declared.quint.Shift.{Shift}
 use Rattle.bn_machine.specs.declared.quint.Shift.TheVariants.{Left, Stay, Right}
-use Rattle.bn_standard.specs.Standard.{BeginsWell, Clashes, EndsWell, HasLoneFinal, HasLoneStart, IsBeginning, IsEnding}
-use Rattle.bn_standard.specs.Standard.{IsStandard, IsUnambiguous, NamesFinal, NamesStart}
-use Rattle.bn_standard.specs.Verdict.{IsLeastFinal, IsLeastRepeat, IsLeastStart, IsStandardRefusal}
-use Rattle.bn_standard.specs.Search.{NoneBefore}
-use Rattle.bn_standard.proofs.SearchLemmas.{NoneRepeated, beginning_of, begins_well, ending_of, ends_well, least_final}
-use Rattle.bn_standard.proofs.SearchLemmas.{least_repeat, least_second, least_start, lone_final, lone_start, no_repeat}
-use Rattle.bn_standard.proofs.SearchLemmas.{none_before_more, none_before_one, none_repeated_more, none_repeated_one}
-use Rattle.bn_standard.proofs.SearchLemmas.{unambiguous}
-use Rattle.bn_standard.specs.declared.why.Why.{Why}
-use Rattle.bn_standard.specs.declared.why.Why.TheVariants as whys
+use Rattle.bn_machine.specs.Standard.{BeginsWell, Clashes, EndsWell, HasLoneFinal, HasLoneStart, IsBeginning, IsEnding}
+use Rattle.bn_machine.specs.Standard.{IsStandard, IsUnambiguous, NamesFinal, NamesStart}
+use Rattle.bn_machine.specs.Verdict.{IsLeastFinal, IsLeastRepeat, IsLeastStart, IsStandardRefusal}
+use Rattle.bn_machine.specs.Search.{NoneBefore}
+use Rattle.bn_machine.proofs.SearchLemmas.{NoneRepeated, beginning_of, begins_well, ending_of, ends_well, least_final}
+use Rattle.bn_machine.proofs.SearchLemmas.{least_repeat, least_second, least_start, lone_final, lone_start, no_repeat}
+use Rattle.bn_machine.proofs.SearchLemmas.{none_before_more, none_before_one, none_repeated_more, none_repeated_one}
+use Rattle.bn_machine.proofs.SearchLemmas.{unambiguous}
+use Rattle.bn_machine.specs.declared.why.Why.{Why}
+use Rattle.bn_machine.specs.declared.why.Why.TheVariants as whys
 
 -- ---- tests
 

@@ -7,12 +7,12 @@ use Rattle.bn_table.specs.Faults.{table_fault}
 use Rattle.bn_table.specs.Reading.{Reads, OneReading, ReadingOrFault}
 use Rattle.bn_table.specs.Rows.{Named, IsTable, IsTableOf}
 use Rattle.bn_table.proofs.ReadingLaws.{no_fault_of, one_reading, reading_of}
-use Rattle.bn_standard.specs.Standard.{IsStandard}
-use Rattle.bn_standard.specs.Verdict.{IsStandardRefusal}
-use Rattle.bn_standard.proofs.VerdictLemmas.{standard_accepted, verdict_once}
+use Rattle.bn_machine.specs.Standard.{IsStandard}
+use Rattle.bn_machine.specs.Verdict.{IsStandardRefusal}
+use Rattle.bn_machine.proofs.VerdictLemmas.{standard_accepted, verdict_once}
 use Rattle.bn_reply.specs.Lines.{fault_line, why_line}
-use Rattle.bn_standard.specs.declared.why.Why.{Why}
-use Rattle.bn_standard.specs.declared.why.Why.TheVariants as whys
+use Rattle.bn_machine.specs.declared.why.Why.{Why}
+use Rattle.bn_machine.specs.declared.why.Why.TheVariants as whys
 use Rattle.bn_reply.specs.TableReply.{TellsFault, TellsFirst, TellsWhy}
 use Rattle.bn_reply.proofs.StandardOrNot.{standard_or_not}
 

@@ -2,8 +2,8 @@
 use Rattle.std.specs.Prelude.{ℕ, suc, ℤ, pos, negsuc, List, [], ◌∷◌, ◌++◌, codes, decimal}
 use Rattle.bn_table.specs.declared.refusal.TableRefusal.{TableRefusal}
 use Rattle.bn_table.specs.declared.refusal.TableRefusal.TheVariants as faults
-use Rattle.bn_standard.specs.declared.why.Why.{Why}
-use Rattle.bn_standard.specs.declared.why.Why.TheVariants as whys
+use Rattle.bn_machine.specs.declared.why.Why.{Why}
+use Rattle.bn_machine.specs.declared.why.Why.TheVariants as whys
 
 -- the line of these pieces: one after the other, and a line feed
 abbrev pub line : List (List ℕ) → List ℕ

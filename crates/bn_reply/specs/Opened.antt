@@ -2,7 +2,7 @@
 use Rattle.std.specs.Prelude.{◌≡◌, ℕ, List}
 use Rattle.bn_table.specs.Reading.{Reads}
 use Rattle.bn_table.specs.Rows.{Named}
-use Rattle.bn_standard.specs.Standard.{IsStandard}
+use Rattle.bn_machine.specs.Standard.{IsStandard}
 use Rattle.bn_reply.specs.Lines.{foreign_line}
 use Rattle.bn_reply.specs.Words.{IsFirstForeign, IsSpelledBy}
 use Rattle.bn_reply.specs.TableReply.{TellsFault, TellsWhy}

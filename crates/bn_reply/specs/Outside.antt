@@ -3,7 +3,7 @@ use Rattle.std.specs.Prelude.{◌≡◌, ℕ, ◌+◌, List, [], length, Option,
 use Rattle.bn_io.specs.Faults.{CountsUnless}
 use Rattle.bn_circuits.specs.declared.place.Place.{Place}
 use Rattle.bn_io.specs.Told.{Loses, Grows}
-use Rattle.bn_net.specs.Watching.{Hears}
+use Rattle.bn_circuits.specs.Watching.{Hears}
 
 -- What the source has left and the sink has taken, where they tell it; the places that the watch tells; and how often
 -- reading and writing failed so far.

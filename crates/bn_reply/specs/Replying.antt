@@ -1,7 +1,7 @@
 -- What a command's reply is, for any answers of a command.
 use Rattle.std.specs.Prelude.{◌≡◌, ℕ, List, [], ◌++◌, Option}
 use Rattle.bn_circuits.specs.declared.place.Place.{Place}
-use Rattle.bn_net.specs.Watching.{Hears}
+use Rattle.bn_circuits.specs.Watching.{Hears}
 use Rattle.bn_reply.specs.declared.reply.Reply.{Reply}
 use Rattle.bn_reply.specs.declared.status.Status.{Status}
 

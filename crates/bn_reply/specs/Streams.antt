@@ -4,7 +4,7 @@ use Rattle.std.specs.Prelude.{◌≡◌, ℕ, ◌≤◌, List, [], ◌∷◌, �
 use Rattle.bn_circuits.specs.declared.place.Place.{Place}
 use Rattle.bn_io.specs.Faults.{Rose}
 use Rattle.bn_io.specs.Told.{Grows, GrowsByFront}
-use Rattle.bn_net.specs.Watching.{Hears}
+use Rattle.bn_circuits.specs.Watching.{Hears}
 use Rattle.bn_reply.specs.Ends.{Finishes}
 use Rattle.bn_reply.specs.Outside.{Outside, GaveAll, GaveMore, IsLater}
 use Rattle.bn_reply.specs.declared.limits.TheConstants.{MOST_INPUT_BYTES}

@@ -6,10 +6,10 @@ use Rattle.bn_csv.specs.Entries.{entries_of}
 use Rattle.bn_table.specs.Faults.{table_fault}
 use Rattle.bn_table.specs.Reading.{Reads}
 use Rattle.bn_table.specs.Rows.{Named}
-use Rattle.bn_standard.specs.Standard.{IsStandard}
-use Rattle.bn_standard.specs.Verdict.{IsStandardRefusal}
-use Rattle.bn_standard.specs.declared.why.Why.{Why}
-use Rattle.bn_standard.specs.declared.why.Why.TheVariants as whys
+use Rattle.bn_machine.specs.Standard.{IsStandard}
+use Rattle.bn_machine.specs.Verdict.{IsStandardRefusal}
+use Rattle.bn_machine.specs.declared.why.Why.{Why}
+use Rattle.bn_machine.specs.declared.why.Why.TheVariants as whys
 use Rattle.bn_reply.specs.Lines.{fault_line, foreign_line, why_line}
 use Rattle.bn_reply.specs.Words.{IsFirstForeign, IsSpelledBy}
 use Rattle.bn_reply.specs.declared.status.Status.{Status}

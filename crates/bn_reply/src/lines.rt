@@ -3,10 +3,10 @@
 ghost use Rattle.std.specs.Prelude.{◌≡◌, ◌≢◌, IfOk};
 ghost use Rattle.bn_reply.specs.Lines.{empty_line, fault_line, field_line, record_line, why_line};
 ghost use Rattle.bn_table.specs.declared.refusal.TableRefusal.TheVariants as faults;
-ghost use Rattle.bn_standard.specs.declared.why.Why.TheVariants as whys;
+ghost use Rattle.bn_machine.specs.declared.why.Why.TheVariants as whys;
 
 use bn_lists::NoMemory;
-use bn_standard::Why;
+use bn_machine::Why;
 use bn_table::TableRefusal;
 use std::alloc::Global;
 

@@ -11,7 +11,7 @@ use crate::lines::{fault_text, why_text};
 use crate::reply::Reply;
 use crate::status::Status;
 use bn_lists::NoMemory;
-use bn_standard::{Standard, check};
+use bn_machine::{Standard, check};
 use bn_table::{Table, read_quints};
 use std::alloc::Global;
 

@@ -2,12 +2,12 @@
 use Rattle.std.specs.Prelude.{ℕ, List, [], Option, Result, Ok, Err}
 use Rattle.std.proofs.Common.{sym, append-nil}
 use Rattle.bn_circuits.specs.declared.place.Place.{Place}
-use Rattle.bn_net.specs.Watching.{Hears}
+use Rattle.bn_circuits.specs.Watching.{Hears}
 use Rattle.bn_reply.specs.Replying.{IsUnfinished, untold, told_some}
 use Rattle.bn_reply.specs.declared.reply.Reply.{Reply}
 use Rattle.bn_lists.specs.declared.memory.NoMemory.{NoMemory}
 use Rattle.bn_reply.specs.declared.status.Status.{Status}
-use Rattle.bn_net.proofs.WalkLemmas.{hears-nothing}
+use Rattle.bn_circuits.proofs.WalkLemmas.{hears-nothing}
 use Rattle.bn_reply_boards.specs.Running.{IsAnswered}
 
 module _ (R : Status → List ℕ → List Place → Type 0) where

@@ -5,7 +5,7 @@ use Rattle.bn_machine.specs.Outcome.{Limits}
 use Rattle.bn_table.specs.Rows.{Named}
 use Rattle.bn_table.proofs.MachineLemmas.{tables_machines}
 use Rattle.bn_bennett.specs.Translation.{Translation}
-use Rattle.bn_board_spec.specs.Flats.{Flat, IsAccepted}
+use Rattle.bn_boards.specs.Flats.{Flat, IsAccepted}
 use Rattle.bn_board.specs.Flattened.{Flattened}
 use Rattle.bn_reply.specs.Lines.{long_line}
 use Rattle.bn_reply.specs.TableReply.{JudgedReplies, StandardReplies, WordReplies, faulty, fit, foreign, read, spelled}
@@ -13,8 +13,8 @@ use Rattle.bn_reply.specs.TableReply.{unfit}
 use Rattle.bn_reply.specs.declared.reply.Reply.{Reply}
 use Rattle.bn_reply.specs.declared.status.Status.{Status}
 use Rattle.bn_reply.specs.declared.status.Status.TheVariants as statuses
-use Rattle.bn_reply_laws.specs.Windows.{BoardReplies, WindowReplies, board, large, long}
-use Rattle.bn_reply_laws.proofs.WindowLemmas.{given_accepted}
+use Rattle.bn_reply_relations.specs.Windows.{BoardReplies, WindowReplies, board, large, long}
+use Rattle.bn_reply_relations.proofs.WindowLemmas.{given_accepted}
 use Rattle.bn_reply_boards.specs.Opened.{IsBoardAsked, IsLarge, IsMachineAsked}
 
 -- ---- a machine and a word

@@ -4,9 +4,9 @@ use Rattle.std.specs.Prelude.{Option, Some, None, codes, refl}
 use Rattle.std.proofs.Common.{zero, suc, arith, add-one, drop-cons, get_or, sym, ap, ◌∙◌, append-nil, append_assoc}
 use Rattle.std.proofs.lemmas.List.{drop_all, take_all, length-drop}
 use Rattle.bn_table.specs.Rows.{Named}
-use Rattle.bn_board_spec.specs.declared.spelled.SpelledTape.{SpelledTape}
+use Rattle.bn_boards.specs.declared.spelled.SpelledTape.{SpelledTape}
 use Rattle.bn_reply.specs.Lines.{position_text}
-use Rattle.bn_reply_laws.specs.RunText.{cells_text, head_text, output_from, symbol_text}
+use Rattle.bn_reply_relations.specs.RunText.{cells_text, head_text, output_from, symbol_text}
 use Rattle.bn_reply_boards.specs.Shown.{HasLetter, HaveLetters, bounds_text}
 
 -- what is left of a list behind one more

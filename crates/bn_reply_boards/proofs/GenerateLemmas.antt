@@ -14,11 +14,11 @@ use Rattle.bn_reply.specs.Words.{IsLetterSymbol}
 use Rattle.bn_lists.specs.declared.memory.NoMemory.{NoMemory}
 use Rattle.bn_reply.specs.declared.reply.Reply.{Reply}
 use Rattle.bn_reply.specs.declared.status.Status.{Status}
-use Rattle.bn_reply_laws.specs.RunReply.{RunReplies}
+use Rattle.bn_reply_relations.specs.RunReply.{RunReplies}
 use Rattle.bn_network.specs.Limits.{AreSmall}
-use Rattle.bn_reply_laws.specs.ToldRuns.{ComesOutOn, IsGiven, TellsOutcome, TookOutcome}
-use Rattle.bn_reply_laws.specs.Laws.{RepliesTellOutcomes}
-use Rattle.bn_reply_laws.proofs.ClosedLemmas.{run_settled}
+use Rattle.bn_reply_relations.specs.ToldRuns.{ComesOutOn, IsGiven, TellsOutcome, TookOutcome}
+use Rattle.bn_reply_relations.specs.Laws.{RepliesTellOutcomes}
+use Rattle.bn_reply_relations.proofs.ClosedLemmas.{run_settled}
 use Rattle.bn_reply_boards.specs.Running.{IsAnswered}
 use Rattle.bn_reply_boards.proofs.AnsweredLemmas.{answered_late}
 use Rattle.bn_reply_boards.specs.GenerateReply.{GenerateReplies, digits, number, title, window}

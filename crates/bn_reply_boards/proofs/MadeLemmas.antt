@@ -4,8 +4,8 @@ use Rattle.std.proofs.Common.{arith, sym, subst, ◌∙◌}
 use Rattle.bn_circuits.specs.Circuits.{Circuit, IsCircuit, IsConfig, IsInputOf, IsOutputOf, target, source}
 use Rattle.bn_circuits.specs.declared.line.Line.{Line}
 use Rattle.bn_circuits.specs.declared.line.Wire.{Wire}
-use Rattle.bn_net.specs.RotaryNets.{rotary_circuit}
-use Rattle.bn_net.proofs.RotaryNetLemmas.{rotary-tables}
+use Rattle.bn_circuits.specs.RotaryNets.{rotary_circuit}
+use Rattle.bn_circuits.proofs.RotaryNetLemmas.{rotary-tables}
 use Rattle.bn_machine.specs.Machine.{Program}
 use Rattle.bn_machine.specs.Outcome.{Limits}
 use Rattle.bn_table.specs.Rows.{Named}
@@ -17,15 +17,15 @@ use Rattle.bn_netlist.specs.declared.packed_config.PackedConfig.{PackedConfig}
 use Rattle.bn_element.specs.Rotary.{rotary}
 use Rattle.bn_circuits.specs.declared.config.Config.{Config}
 use Rattle.bn_circuits.specs.declared.place.Place.{Place}
-use Rattle.bn_board_spec.specs.Boards.{IsBoard}
-use Rattle.bn_board_spec.specs.Flats.{Flat, flat_start}
-use Rattle.bn_board_spec.specs.Layouts.{Layout}
+use Rattle.bn_boards.specs.Boards.{IsBoard}
+use Rattle.bn_boards.specs.Flats.{Flat, flat_start}
+use Rattle.bn_boards.specs.Layouts.{Layout}
 use Rattle.bn_board.specs.Flattened.{Flattened, IsBoardKept}
 use Rattle.bn_reply.specs.declared.status.Status.{Status}
 use Rattle.bn_reply.specs.declared.status.Status.TheVariants as statuses
-use Rattle.bn_reply_laws.specs.Laws.{BoardsAreSpelled}
-use Rattle.bn_reply_laws.specs.CompileReply.{CompileReplies, IsBoardSpelling, IsFlatSpelling, TellsBoard, TellsStart}
-use Rattle.bn_reply_laws.proofs.SpelledLemmas.{board_targets, entered_once, left_once}
+use Rattle.bn_reply_relations.specs.Laws.{BoardsAreSpelled}
+use Rattle.bn_reply_relations.specs.CompileReply.{CompileReplies, IsBoardSpelling, IsFlatSpelling, TellsBoard, TellsStart}
+use Rattle.bn_reply_relations.proofs.SpelledLemmas.{board_targets, entered_once, left_once}
 use Rattle.bn_reply_boards.specs.Opened.{IsBoardAsked, IsMade, spelling_of_board}
 use Rattle.bn_reply_circuits.specs.Unwritten.{WillReply}
 use Rattle.bn_reply_circuits.specs.declared.unwritten.Unwritten.TheVariants.{Packed}

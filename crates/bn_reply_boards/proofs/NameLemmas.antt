@@ -17,18 +17,18 @@ use Rattle.bn_bennett_laws.specs.declared.name.Name.TheVariants.{Compute, GoRigh
 use Rattle.bn_bennett.specs.Meaning.{machine_state_by}
 use Rattle.bn_bennett.specs.Translation.{name_of}
 use Rattle.bn_bennett.specs.declared.translated.MachineState.TheVariants.{AtState}
-use Rattle.bn_board_spec.specs.declared.exit.Exit.{Exit}
-use Rattle.bn_board_spec.specs.declared.exit.Exit.TheVariants as exit
-use Rattle.bn_board_spec.specs.LayoutLaws.{ExitsAreOne}
-use Rattle.bn_board_spec.specs.Layouts.{IsExit, IsNamedExit, inside, named, unnamed}
-use Rattle.bn_board_spec.specs.Flats.{Flat, IsAccepted, IsFlatOf, flat_start}
-use Rattle.bn_board_laws.specs.Runs.{IsExitFor, RunsToExit}
-use Rattle.bn_board_laws.specs.RunLaws.{BoardsRunToTheirExit}
-use Rattle.bn_board_laws.proofs.CountLemmas.{before_end}
-use Rattle.bn_board_laws.proofs.OutcomeLemmas.{at_cost, not_unnamed}
-use Rattle.bn_reply_tables.proofs.FitLemmas.{AreSymbols, Fits, run_fits, start_fits}
-use Rattle.bn_reply_laws.specs.RunReply.{board_after}
-use Rattle.bn_reply_laws.proofs.RunLemmas.{named_of}
+use Rattle.bn_boards.specs.declared.exit.Exit.{Exit}
+use Rattle.bn_boards.specs.declared.exit.Exit.TheVariants as exit
+use Rattle.bn_boards.specs.LayoutLaws.{ExitsAreOne}
+use Rattle.bn_boards.specs.Layouts.{IsExit, IsNamedExit, inside, named, unnamed}
+use Rattle.bn_boards.specs.Flats.{Flat, IsAccepted, IsFlatOf, flat_start}
+use Rattle.bn_boards.specs.BoardRuns.{IsExitFor, RunsToExit}
+use Rattle.bn_boards.specs.RunLaws.{BoardsRunToTheirExit}
+use Rattle.bn_boards.proofs.CountLemmas.{before_end}
+use Rattle.bn_boards.proofs.OutcomeLemmas.{at_cost, not_unnamed}
+use Rattle.bn_reply_machines.proofs.FitLemmas.{AreSymbols, Fits, run_fits, start_fits}
+use Rattle.bn_reply_relations.specs.RunReply.{board_after}
+use Rattle.bn_reply_relations.proofs.RunLemmas.{named_of}
 use Rattle.bn_reply_boards.specs.Shown.{HasNames, IsKnownStuck}
 
 -- the state and the symbol at which a bounded run is stuck are the machine's

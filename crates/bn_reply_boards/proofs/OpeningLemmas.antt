@@ -8,26 +8,26 @@ use Rattle.bn_circuits.specs.declared.line.Line.{Line}
 use Rattle.bn_circuits.specs.declared.place.Place.TheVariants.{Enter, Left}
 use Rattle.bn_element.specs.Rotary.{rotary}
 use Rattle.bn_element.specs.declared.rotary.Rotary.{Rotary}
-use Rattle.bn_net.specs.Parts.{Parts}
-use Rattle.bn_net.specs.RotaryNets.{rotary_circuit}
+use Rattle.bn_circuits.specs.Parts.{Parts}
+use Rattle.bn_circuits.specs.RotaryNets.{rotary_circuit}
 use Rattle.bn_machine.specs.Machine.{Program, IsMachine}
 use Rattle.bn_machine.specs.Outcome.{Limits}
 use Rattle.bn_bennett.specs.Translation.{Translation, IsTranslation}
 use Rattle.bn_table.specs.Rows.{FitsTable, Named}
-use Rattle.bn_net.specs.declared.net.TheConstants.{MOST_ELEMENTS}
+use Rattle.bn_circuits.specs.declared.net.TheConstants.{MOST_ELEMENTS}
 use Rattle.bn_quad.specs.Quadruples.{Configuration, Quadruples}
 use Rattle.bn_network.specs.Controls.{ControlState, symbol_count}
 use Rattle.bn_network.specs.Starts.{start_from, words_on}
 use Rattle.bn_control.specs.Controlled.{IsWithinLimits}
-use Rattle.bn_board_spec.specs.Boards.{IsBoard, size, board_start}
-use Rattle.bn_board_spec.specs.Layouts.{IsLayout}
-use Rattle.bn_board_spec.specs.Flats.{Flat, IsFlatOf}
+use Rattle.bn_boards.specs.Boards.{IsBoard, size, board_start}
+use Rattle.bn_boards.specs.Layouts.{IsLayout}
+use Rattle.bn_boards.specs.Flats.{Flat, IsFlatOf}
 use Rattle.bn_bennett.proofs.Machines.{some_symbols}
-use Rattle.bn_assembly.specs.Assembled as assembled
-use Rattle.bn_assembly.specs.Assembled.{Assembled, IsAssembledFrom, IsWordOf, network_of}
+use Rattle.bn_network_assembly.specs.Assembled as assembled
+use Rattle.bn_network_assembly.specs.Assembled.{Assembled, IsAssembledFrom, IsWordOf, network_of}
 use Rattle.bn_board.specs.Flattened.{Flattened, IsFlattened, IsBoardKept}
 use Rattle.bn_reply.specs.Words.{IsLetterSymbol}
-use Rattle.bn_reply_laws.specs.Windows.{CountsElements}
+use Rattle.bn_reply_relations.specs.Windows.{CountsElements}
 use Rattle.bn_reply_boards.specs.Opened.{IsBoardFor, IsMade, IsOpenedBoard, IsOpenedWindow}
 use Rattle.bn_reply_boards.specs.declared.opening.OpenedWindow.{OpenedWindow}
 use Rattle.bn_reply_boards.specs.declared.opening.OpenedWindow.TheVariants as windows

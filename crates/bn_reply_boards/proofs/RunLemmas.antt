@@ -6,28 +6,28 @@ use Rattle.bn_circuits.specs.Stepping.{places, run}
 use Rattle.bn_circuits.specs.declared.place.Place.{Place}
 use Rattle.bn_circuits.specs.declared.config.Config.{Config}
 use Rattle.bn_element.specs.declared.rotary.Rotary.{Rotary}
-use Rattle.bn_net.specs.Parts.{Parts}
-use Rattle.bn_net.specs.RotaryNets.{rotary_circuit}
+use Rattle.bn_circuits.specs.Parts.{Parts}
+use Rattle.bn_circuits.specs.RotaryNets.{rotary_circuit}
 use Rattle.bn_machine.specs.Machine.{Program}
 use Rattle.bn_machine.specs.Outcome.{Limits}
 use Rattle.bn_table.specs.Rows.{Named}
 use Rattle.bn_bennett.specs.Translation.{Translation}
-use Rattle.bn_board_spec.specs.Boards.{IsBoard}
-use Rattle.bn_board_spec.specs.Costs.{bound_of}
-use Rattle.bn_board_spec.specs.declared.exit.Exit.{Exit}
-use Rattle.bn_board_spec.specs.Layouts.{IsExit, IsNamedExit, Layout, is_moment, symbol_count_at, moments, named}
-use Rattle.bn_board_spec.specs.Layouts.{unnamed}
-use Rattle.bn_board_spec.specs.Flats.{Flat, IsAccepted, IsFlatOf, flat_start}
-use Rattle.bn_board_spec.specs.LayoutLaws.{ExitsAreOne}
-use Rattle.bn_board_spec.proofs.LetterLemmas.{symbols_are}
-use Rattle.bn_board_laws.specs.RunLaws.{BoardsRunToTheirExit}
+use Rattle.bn_boards.specs.Boards.{IsBoard}
+use Rattle.bn_boards.specs.Costs.{bound_of}
+use Rattle.bn_boards.specs.declared.exit.Exit.{Exit}
+use Rattle.bn_boards.specs.Layouts.{IsExit, IsNamedExit, Layout, is_moment, symbol_count_at, moments, named}
+use Rattle.bn_boards.specs.Layouts.{unnamed}
+use Rattle.bn_boards.specs.Flats.{Flat, IsAccepted, IsFlatOf, flat_start}
+use Rattle.bn_boards.specs.LayoutLaws.{ExitsAreOne}
+use Rattle.bn_boards.proofs.LetterLemmas.{symbols_are}
+use Rattle.bn_boards.specs.RunLaws.{BoardsRunToTheirExit}
 use Rattle.bn_board.specs.Flattened.{Flattened, IsSameBoard}
-use Rattle.bn_net.specs.Watching.{Hears}
+use Rattle.bn_circuits.specs.Watching.{Hears}
 use Rattle.bn_reply.specs.declared.status.Status.{Status}
-use Rattle.bn_reply_laws.specs.Counts.{Counts}
-use Rattle.bn_reply_laws.specs.RunReply.{HasMoment, RunReplies, TellsRun, board_after, budget, reached, exit_status}
-use Rattle.bn_reply_laws.specs.RunText.{run_text}
-use Rattle.bn_reply_laws.specs.Laws.{ExitsAreNamed, MomentsAreCounted, found_text}
+use Rattle.bn_reply_relations.specs.Counts.{Counts}
+use Rattle.bn_reply_relations.specs.RunReply.{HasMoment, RunReplies, TellsRun, board_after, budget, reached, exit_status}
+use Rattle.bn_reply_relations.specs.RunText.{run_text}
+use Rattle.bn_reply_relations.specs.Laws.{ExitsAreNamed, MomentsAreCounted, found_text}
 use Rattle.bn_reply_boards.specs.Opened.{IsBoardAsked, IsMade}
 use Rattle.bn_reply_boards.specs.Running.{HasRun, IsAtStart, TellsFound, end_by, steps_for}
 use Rattle.bn_reply_boards.specs.Shown.{HasNames, IsShown}

@@ -3,14 +3,14 @@ use Rattle.std.specs.Prelude.{◌≡◌, ℕ, List, [], ◌++◌, drop, refl}
 use Rattle.std.proofs.Common.{sym, ap, ◌∙◌, append_assoc}
 use Rattle.bn_circuits.specs.declared.config.Config.{Config}
 use Rattle.bn_table.specs.Rows.{Named}
-use Rattle.bn_board_spec.specs.Boards.{size}
-use Rattle.bn_board_spec.specs.declared.exit.Exit.{Exit}
-use Rattle.bn_board_spec.specs.declared.exit.Exit.TheVariants.{Inside, End, Stuck, Window, Unnamed}
-use Rattle.bn_board_spec.specs.declared.spelled.Spelled.{Spelled}
-use Rattle.bn_board_spec.specs.Flats.{Flat}
-use Rattle.bn_board_spec.specs.Layouts.{Layout, spelled_by}
-use Rattle.bn_reply_laws.specs.RunText.{elements_line, exit_line, output_from, output_line, quadruple_line}
-use Rattle.bn_reply_laws.specs.RunText.{rest_text, run_text, steps_line, tape_lines}
+use Rattle.bn_boards.specs.Boards.{size}
+use Rattle.bn_boards.specs.declared.exit.Exit.{Exit}
+use Rattle.bn_boards.specs.declared.exit.Exit.TheVariants.{Inside, End, Stuck, Window, Unnamed}
+use Rattle.bn_boards.specs.declared.spelled.Spelled.{Spelled}
+use Rattle.bn_boards.specs.Flats.{Flat}
+use Rattle.bn_boards.specs.Layouts.{Layout, spelled_by}
+use Rattle.bn_reply_relations.specs.RunText.{elements_line, exit_line, output_from, output_line, quadruple_line}
+use Rattle.bn_reply_relations.specs.RunText.{rest_text, run_text, steps_line, tape_lines}
 use Rattle.bn_reply.proofs.PieceLemmas.{three_pieces}
 
 -- the lines of what a board shows, and those behind the steps at an end

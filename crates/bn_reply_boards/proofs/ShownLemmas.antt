@@ -12,16 +12,16 @@ use Rattle.bn_circuits.specs.declared.place.Place.{Place}
 use Rattle.bn_circuits.specs.declared.place.Place.TheVariants.{Enter, Left}
 use Rattle.bn_circuits.specs.declared.config.Config.{Config}
 use Rattle.bn_element.specs.declared.rotary.Rotary.{Rotary}
-use Rattle.bn_net.specs.Parts.{Parts}
-use Rattle.bn_net.specs.RotaryNets.{rotary_circuit}
+use Rattle.bn_circuits.specs.Parts.{Parts}
+use Rattle.bn_circuits.specs.RotaryNets.{rotary_circuit}
 use Rattle.bn_packed.proofs.EndLemmas.{input_below, output_below}
 use Rattle.bn_netlist_laws.specs.Sentences.{line_of_place}
 use Rattle.bn_realise.specs.Banks.{bottom_at}
 use Rattle.bn_network.specs.Cells.{cell_line_count}
 use Rattle.bn_network.specs.Networks.{cells_in}
 use Rattle.bn_table.specs.Rows.{Named}
-use Rattle.bn_board_spec.specs.Layouts.{Layout, symbol_count_at, cell_element, cell_state_at, cells_shown, is_marked_at}
-use Rattle.bn_board_spec.specs.Layouts.{marked_column, symbol_by}
+use Rattle.bn_boards.specs.Layouts.{Layout, symbol_count_at, cell_element, cell_state_at, cells_shown, is_marked_at}
+use Rattle.bn_boards.specs.Layouts.{marked_column, symbol_by}
 use Rattle.bn_reply_boards.specs.Shown.{HasLetter, HaveLetters}
 
 -- ---- cells

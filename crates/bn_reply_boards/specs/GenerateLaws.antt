@@ -2,15 +2,15 @@
 use Rattle.std.specs.Prelude.{◌≡◌, ℕ, List, ◌++◌}
 use Rattle.bn_circuits.specs.declared.place.Place.{Place}
 use Rattle.bn_machine.specs.Outcome.{Outcome}
-use Rattle.bn_board_spec.specs.Boards.{size}
-use Rattle.bn_board_spec.specs.Flats.{Flat}
-use Rattle.bn_board_laws.specs.Runs.{RunsToExit}
+use Rattle.bn_boards.specs.Boards.{size}
+use Rattle.bn_boards.specs.Flats.{Flat}
+use Rattle.bn_boards.specs.BoardRuns.{RunsToExit}
 use Rattle.bn_gen.specs.Increments.{IsRoundCount, incrementer}
 use Rattle.bn_gen.specs.Text.{increments_table, increments_text}
 use Rattle.bn_reply.specs.Answering.{IsSettled}
 use Rattle.bn_reply.specs.declared.status.Status.{Status}
-use Rattle.bn_reply_laws.specs.Windows.{ComesTo}
-use Rattle.bn_reply_laws.specs.ToldRuns.{ComesOutOn, IsGiven, TellsOutcome}
+use Rattle.bn_reply_relations.specs.Windows.{ComesTo}
+use Rattle.bn_reply_relations.specs.ToldRuns.{ComesOutOn, IsGiven, TellsOutcome}
 use Rattle.bn_reply_boards.specs.GenerateReply.{GenerateReplies, digits, number, title, window}
 
 -- `generate` has one answer to each number of increments

@@ -6,7 +6,7 @@ use Rattle.bn_machine.specs.Outcome.{Limits}
 use Rattle.bn_gen.specs.Text.{increments_text}
 use Rattle.bn_reply.specs.Lines.{line}
 use Rattle.bn_reply.specs.declared.status.Status.{Status}
-use Rattle.bn_reply_laws.specs.RunReply.{RunReplies}
+use Rattle.bn_reply_relations.specs.RunReply.{RunReplies}
 
 -- the number, in binary, and its digits as symbols of the machine
 abbrev pub number : List ℕ

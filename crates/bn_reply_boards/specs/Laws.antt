@@ -1,4 +1,4 @@
--- The laws of this crate, a named field each. `Laws` is the contract of `generate_laws`.
+-- The laws of this crate, a named field each. `Laws` is the contract of `reply_boards_laws`.
 use Rattle.bn_reply_boards.specs.GenerateLaws.{GenerateIsSettled, GeneratedTablesAreGiven, GeneratedRunsTellOutcomes}
 
 pub record Laws : Type 0 where

@@ -2,7 +2,7 @@
 use Rattle.std.specs.Prelude.{◌≡◌, ℕ, ◌<◌, ◌≤◌, List, [], length}
 use Rattle.bn_circuits.specs.Circuits.{Circuit}
 use Rattle.bn_circuits.specs.declared.place.Place.TheVariants.{Enter, Left}
-use Rattle.bn_net.specs.RotaryNets.{rotary_circuit}
+use Rattle.bn_circuits.specs.RotaryNets.{rotary_circuit}
 use Rattle.bn_machine.specs.Machine.{Program}
 use Rattle.bn_machine.specs.Outcome.{Limits}
 use Rattle.bn_netlist_laws.specs.Spelling.{Spelling}
@@ -10,22 +10,22 @@ use Rattle.bn_quad.specs.Quadruples.{Configuration, Quadruples}
 use Rattle.bn_network.specs.Controls.{ControlState, IsNumbering}
 use Rattle.bn_network.specs.Networks.{IsNetwork}
 use Rattle.bn_network.specs.Starts.{start_from}
-use Rattle.bn_net.specs.declared.net.TheConstants.{MOST_ELEMENTS}
+use Rattle.bn_circuits.specs.declared.net.TheConstants.{MOST_ELEMENTS}
 use Rattle.bn_bennett.specs.Translation.{Translation, IsTranslation}
 use Rattle.bn_table.specs.Rows.{Named}
 use Rattle.bn_control.specs.Controlled.{IsWithinLimits}
-use Rattle.bn_assembly.specs.Assembled as assembled
-use Rattle.bn_assembly.specs.Assembled.{IsWordOf}
-use Rattle.bn_board_spec.specs.Boards.{IsBoard, board_start, size}
-use Rattle.bn_board_spec.specs.Layouts.{IsLayout, end_place}
-use Rattle.bn_board_spec.specs.Flats.{Flat, flat_start}
+use Rattle.bn_network_assembly.specs.Assembled as assembled
+use Rattle.bn_network_assembly.specs.Assembled.{IsWordOf}
+use Rattle.bn_boards.specs.Boards.{IsBoard, board_start, size}
+use Rattle.bn_boards.specs.Layouts.{IsLayout, end_place}
+use Rattle.bn_boards.specs.Flats.{Flat, flat_start}
 use Rattle.bn_board.specs.Flattened.{Flattened, IsBoardKept, end_line, start_line}
 use Rattle.bn_reply.specs.TableReply.{ReadsStandard, StandardReplies, WordReplies}
 use Rattle.bn_reply.specs.Words.{IsSpelledBy}
 use Rattle.bn_reply.specs.declared.reply.Reply.{Reply}
 use Rattle.bn_reply.specs.declared.status.Status.TheVariants as statuses
-use Rattle.bn_reply_laws.specs.ToldRuns.{IsGiven}
-use Rattle.bn_reply_laws.specs.Windows.{ComesTo, CountsElements, WindowReplies, large_line}
+use Rattle.bn_reply_relations.specs.ToldRuns.{IsGiven}
+use Rattle.bn_reply_relations.specs.Windows.{ComesTo, CountsElements, WindowReplies, large_line}
 use Rattle.bn_reply_boards.specs.declared.opening.OpenedMachine.{OpenedMachine}
 use Rattle.bn_reply_boards.specs.declared.opening.OpenedMachine.TheVariants as machines
 use Rattle.bn_reply_boards.specs.declared.opening.OpenedInput.{OpenedInput}

@@ -3,21 +3,21 @@ use Rattle.std.specs.Prelude.{◌≡◌, ℕ, ◌-◌, List, Option, Some, None,
 use Rattle.bn_circuits.specs.Stepping.{run, places}
 use Rattle.bn_circuits.specs.declared.place.Place.{Place}
 use Rattle.bn_circuits.specs.declared.config.Config.{Config}
-use Rattle.bn_net.specs.RotaryNets.{rotary_circuit}
+use Rattle.bn_circuits.specs.RotaryNets.{rotary_circuit}
 use Rattle.bn_table.specs.Rows.{Named}
 use Rattle.bn_bennett.specs.Translation.{Translation}
-use Rattle.bn_board_spec.specs.declared.exit.Exit.{Exit}
-use Rattle.bn_board_spec.specs.Layouts.{IsExit, Layout, moments}
-use Rattle.bn_board_spec.specs.Flats.{Flat, flat_start}
-use Rattle.bn_board_spec.specs.Costs.{bound_of}
+use Rattle.bn_boards.specs.declared.exit.Exit.{Exit}
+use Rattle.bn_boards.specs.Layouts.{IsExit, Layout, moments}
+use Rattle.bn_boards.specs.Flats.{Flat, flat_start}
+use Rattle.bn_boards.specs.Costs.{bound_of}
 use Rattle.bn_board.specs.Flattened.{Flattened}
-use Rattle.bn_net.specs.Watching.{Hears}
+use Rattle.bn_circuits.specs.Watching.{Hears}
 use Rattle.bn_reply.specs.Replying.{IsReplied, IsUnfinished}
 use Rattle.bn_reply.specs.declared.reply.Reply.{Reply}
 use Rattle.bn_lists.specs.declared.memory.NoMemory.{NoMemory}
 use Rattle.bn_reply.specs.declared.status.Status.{Status}
-use Rattle.bn_reply_laws.specs.RunReply.{budget, reached, exit_status}
-use Rattle.bn_reply_laws.specs.Laws.{found_text}
+use Rattle.bn_reply_relations.specs.RunReply.{budget, reached, exit_status}
+use Rattle.bn_reply_relations.specs.Laws.{found_text}
 use Rattle.bn_reply_boards.specs.Shown.{IsShown}
 
 -- this translation and this board, which is at its start, are those of f

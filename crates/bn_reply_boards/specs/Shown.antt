@@ -4,14 +4,14 @@ use Rattle.bn_table.specs.Rows.{Named}
 use Rattle.bn_bennett.specs.Translation.{Translation, name_of}
 use Rattle.bn_bennett.specs.Meaning.{machine_state_by}
 use Rattle.bn_bennett.specs.declared.translated.MachineState.TheVariants.{AtState}
-use Rattle.bn_board_spec.specs.Boards.{size}
-use Rattle.bn_board_spec.specs.declared.exit.Exit.{Exit}
-use Rattle.bn_board_spec.specs.declared.exit.Exit.TheVariants.{Inside, End, Stuck, Window, Unnamed}
-use Rattle.bn_board_spec.specs.declared.spelled.SpelledTape.{SpelledTape}
-use Rattle.bn_board_spec.specs.Flats.{Flat}
+use Rattle.bn_boards.specs.Boards.{size}
+use Rattle.bn_boards.specs.declared.exit.Exit.{Exit}
+use Rattle.bn_boards.specs.declared.exit.Exit.TheVariants.{Inside, End, Stuck, Window, Unnamed}
+use Rattle.bn_boards.specs.declared.spelled.SpelledTape.{SpelledTape}
+use Rattle.bn_boards.specs.Flats.{Flat}
 use Rattle.bn_board.specs.Flattened.{Flattened}
 use Rattle.bn_reply.specs.Lines.{position_text}
-use Rattle.bn_reply_laws.specs.RunText.{head_text}
+use Rattle.bn_reply_relations.specs.RunText.{head_text}
 
 -- this translation and this board are those of f
 pub record IsShown (f : Flat) (m : Translation) (b : Flattened) : Type 0 where

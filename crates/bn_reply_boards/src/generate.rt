@@ -1,7 +1,7 @@
 //! The command `generate`.
 
 ghost use Rattle.std.specs.Prelude.{◌≡◌, IfOk, OnErr};
-ghost use Rattle.bn_assembly.specs.Assembled.{limits_of};
+ghost use Rattle.bn_network_assembly.specs.Assembled.{limits_of};
 ghost use Rattle.bn_gen.specs.Increments.{IsRoundCount};
 ghost use Rattle.bn_gen.specs.Text.{increments_text};
 ghost use Rattle.bn_reply.specs.Replying.{IsReplied, IsUnfinished};
@@ -9,9 +9,9 @@ ghost use Rattle.bn_reply_boards.specs.Running.{IsAnswered};
 ghost use Rattle.bn_reply_boards.specs.GenerateReply.{GenerateReplies, title, window};
 
 use crate::run::reply_run;
-use bn_assembly::Windows;
+use bn_circuits::Watch;
 use bn_gen::increments_text;
-use bn_net::Watch;
+use bn_network_assembly::Windows;
 use bn_reply::{NoMemory, Reply};
 use std::alloc::Global;
 

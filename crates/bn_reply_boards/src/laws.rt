@@ -2,6 +2,6 @@
 ghost use Rattle.bn_reply_boards.specs.Laws.{Laws};
 
 /// Laws on what `generate` answers, a named field each.
-pub fn generate_laws()
+pub fn reply_boards_laws()
     ensures { Laws }
 {}

@@ -13,7 +13,7 @@ mod tape_text;
 
 pub use compile::{answer_compile, board_config};
 pub use generate::reply_generate;
-pub use laws::generate_laws;
+pub use laws::reply_boards_laws;
 pub use line_names::{SymbolCounts, counts_of_table, push_cell_line, push_control_line};
 pub use opening::{
     OpenedInput, OpenedMachine, OpenedWindow, open_board, open_input, open_machine, open_window,

@@ -6,13 +6,13 @@ ghost use Rattle.bn_bennett.specs.Translation.{IsTranslation};
 ghost use Rattle.bn_control.specs.Controlled.{IsWithinLimits};
 ghost use Rattle.bn_network.specs.Limits.{AreSmall};
 ghost use Rattle.bn_network.specs.Starts.{AreInputs, words_on};
-ghost use Rattle.bn_assembly.specs.Assembled.{IsWordOf, limits_of};
+ghost use Rattle.bn_network_assembly.specs.Assembled.{IsWordOf, limits_of};
 ghost use Rattle.bn_reply_boards.specs.Opened.{IsOpenedBoard, IsOpenedInput, IsOpenedMachine, IsOpenedWindow};
-ghost use Rattle.bn_reply_laws.specs.Windows.{large_line};
+ghost use Rattle.bn_reply_relations.specs.Windows.{large_line};
 
-use bn_assembly::{AssembleRefusal, TapeSymbols, Windows, assemble_words};
 use bn_bennett::{Translated, translate};
 use bn_board::{Board, flatten};
+use bn_network_assembly::{AssembleRefusal, TapeSymbols, Windows, assemble_words};
 use bn_quad::Uniform;
 use bn_reply::{
     Judged, NoMemory, OpenedTable, OpenedWord, Reply, Status, judge_table, open_table, open_word,

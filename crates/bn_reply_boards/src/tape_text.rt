@@ -2,8 +2,8 @@
 
 ghost use Rattle.std.specs.Prelude.{◌≡◌, ◌≢◌, ◌<◌, ◌≤◌, ◌++◌, ◌∷◌, [], drop, length, Some, IfOk, OnOk, OnErr};
 ghost use Rattle.bn_reply.specs.Fronts.{GrewInPart};
-ghost use Rattle.bn_reply_laws.specs.RunText.{cells_text, head_text, number_text, output_from, output_line};
-ghost use Rattle.bn_reply_laws.specs.RunText.{symbol_text, tape_line, tape_lines};
+ghost use Rattle.bn_reply_relations.specs.RunText.{cells_text, head_text, number_text, output_from, output_line};
+ghost use Rattle.bn_reply_relations.specs.RunText.{symbol_text, tape_line, tape_lines};
 ghost use Rattle.bn_reply_boards.specs.Shown.{HasLetter, HaveLetters, bounds_text};
 
 use bn_base::push_u64;

@@ -13,12 +13,12 @@ use Rattle.bn_network.specs.Controls.{ControlState, IsNumbering}
 use Rattle.bn_network.specs.Networks.{IsNetwork}
 use Rattle.bn_network.specs.Starts.{start_from}
 use Rattle.bn_network.proofs.OccurringLemmas.{order_one}
-use Rattle.bn_board_spec.specs.Boards.{board_start, size}
-use Rattle.bn_board_spec.specs.Layouts.{IsLayout}
-use Rattle.bn_board_laws.proofs.LayoutLemmas.{layouts-there}
-use Rattle.bn_board_laws.proofs.NetworkLemmas.{networks-there}
-use Rattle.bn_build_laws.specs.Builds.{Build, start_of}
-use Rattle.bn_build_laws.specs.Runs.{EndsInWindow}
+use Rattle.bn_boards.specs.Boards.{board_start, size}
+use Rattle.bn_boards.specs.Layouts.{IsLayout}
+use Rattle.bn_boards.proofs.LayoutLemmas.{layouts-there}
+use Rattle.bn_boards.proofs.NetworkLemmas.{networks-there}
+use Rattle.bn_boards.specs.Builds.{Build, start_of}
+use Rattle.bn_boards.specs.BuildRuns.{EndsInWindow}
 use Rattle.bn_reply_builds.specs.BuildReply.{IsBuiltFor}
 use Rattle.bn_reply_builds.proofs.BuiltLemmas.{targets_alike}
 

@@ -10,8 +10,8 @@ use Rattle.bn_network.specs.Networks.{IsTape}
 use Rattle.bn_network.specs.Starts.{FitsWindow}
 use Rattle.bn_network.proofs.OccurringLemmas.{order_one}
 use Rattle.bn_network_laws.specs.Ends.{tape_of}
-use Rattle.bn_board_spec.specs.declared.spelled.Spelled.{Spelled}
-use Rattle.bn_build_laws.specs.Builds.{Build, IsBuild}
+use Rattle.bn_boards.specs.declared.spelled.Spelled.{Spelled}
+use Rattle.bn_boards.specs.Builds.{Build, IsBuild}
 use Rattle.bn_control.specs.Names.{listed}
 use Rattle.bn_control.specs.declared.name.Symbols.{Symbols}
 use Rattle.bn_reply_builds.specs.declared.awaited.Answer.{Answer}

@@ -18,30 +18,31 @@ use Rattle.bn_bennett.specs.Printed.{one_byte, translation_names}
 use Rattle.bn_network.specs.Networks.{IsNetwork, network_start}
 use Rattle.bn_network.specs.Starts.{start_from, words_on}
 use Rattle.bn_network.specs.declared.limits.TheConstants.{MOST_SYMBOLS}
-use Rattle.bn_board_spec.specs.Boards.{board_start}
-use Rattle.bn_board_spec.specs.Flats.{Flat, flat_start}
-use Rattle.bn_board_spec.specs.Layouts.{IsLayout}
-use Rattle.bn_board_laws.proofs.NetworkReadLemmas.{networks-read}
-use Rattle.bn_build_laws.specs.Builds.{IsBuild}
-use Rattle.bn_build_laws.proofs.StartLemmas.{one-word}
+use Rattle.bn_boards.specs.Boards.{board_start}
+use Rattle.bn_boards.specs.Flats.{Flat, flat_start}
+use Rattle.bn_boards.specs.Layouts.{IsLayout}
+use Rattle.bn_boards.proofs.NetworkReadLemmas.{networks-read}
+use Rattle.bn_boards.specs.Builds.{IsBuild}
+use Rattle.bn_boards.proofs.StartLemmas.{one-word}
 use Rattle.bn_reply.specs.TableReply.{ReadsStandard, WordReplies, foreign, spelled}
 use Rattle.bn_reply.specs.Words.{IsLetterSymbol, IsSpelledBy}
 use Rattle.bn_reply.specs.declared.status.Status.TheVariants.{Done}
 use Rattle.bn_reply.proofs.SettledLemmas.{standard_tells}
 use Rattle.bn_reply.proofs.TableLemmas.{reads_table}
-use Rattle.bn_reply_laws.specs.CompileReply.{TellsBoard, TellsStart}
-use Rattle.bn_reply_laws.specs.Windows.{BoardReplies, ComesTo, board, large, long}
-use Rattle.bn_reply_laws.proofs.WindowLemmas.{standard_machine}
-use Rattle.bn_reply_tables.specs.NamedWords.{IsNamedBy, names_of}
-use Rattle.bn_reply_tables.specs.QuadReply.{passes}
-use Rattle.bn_reply_tables.specs.UniformReply.{uniform}
-use Rattle.bn_reply_tables.specs.WordsReply.{named}
-use Rattle.bn_reply_builds.specs.BennettBuilds.{BoardsAreOne, CompilingIsBuilding, IsOneBoard, build_of}
+use Rattle.bn_reply_relations.specs.CompileReply.{TellsBoard, TellsStart}
+use Rattle.bn_reply_relations.specs.Windows.{BoardReplies, ComesTo, board, large, long}
+use Rattle.bn_reply_relations.proofs.WindowLemmas.{standard_machine}
+use Rattle.bn_reply_machines.specs.NamedWords.{IsNamedBy, names_of}
+use Rattle.bn_reply_machines.specs.QuadReply.{passes}
+use Rattle.bn_reply_machines.specs.UniformReply.{uniform}
+use Rattle.bn_reply_machines.specs.WordsReply.{named}
+use Rattle.bn_reply_builds.specs.BennettBuilds.{BoardsAreOne, CompilingIsBuilding, IsOneBoard}
+use Rattle.bn_boards.specs.Flats.{build_of}
 use Rattle.bn_reply_builds.specs.BuildReply.{BuildReplies, IsBuiltFor, IsUncrowded, built}
 use Rattle.bn_reply_builds.specs.Buildable.{IsBuildable}
 use Rattle.bn_reply_builds.proofs.TableFacts.{buildable}
-use Rattle.bn_reply_tables.specs.BennettReply.{bennett_text}
-use Rattle.bn_reply_tables.proofs.BennettLemmas.{translated_text}
+use Rattle.bn_reply_machines.specs.BennettReply.{bennett_text}
+use Rattle.bn_reply_machines.proofs.BennettLemmas.{translated_text}
 
 -- ---- words
 

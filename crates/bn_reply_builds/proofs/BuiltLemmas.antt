@@ -14,19 +14,19 @@ use Rattle.bn_netlist_laws.specs.declared.version.Version.TheVariants.{Two}
 use Rattle.bn_network.specs.Controls.{ControlState, IsNumbering, symbol_count}
 use Rattle.bn_network.specs.Networks.{IsNetwork, elements_by}
 use Rattle.bn_network.proofs.OccurringLemmas.{order_one}
-use Rattle.bn_board_spec.specs.Boards.{IsBoard, IsBoardWire, base, between, board_start, own}
-use Rattle.bn_board_spec.specs.Layouts.{IsLayout}
-use Rattle.bn_board_laws.proofs.LayoutLemmas.{layouts-there}
-use Rattle.bn_board_laws.proofs.NetworkLemmas.{networks-there}
-use Rattle.bn_board_laws.proofs.NetworkReadLemmas.{networks-read}
-use Rattle.bn_build_laws.specs.Builds.{Build, IsStart, build_elements}
-use Rattle.bn_build_laws.proofs.StartLemmas.{builds-start-words}
+use Rattle.bn_boards.specs.Boards.{IsBoard, IsBoardWire, base, between, board_start, own}
+use Rattle.bn_boards.specs.Layouts.{IsLayout}
+use Rattle.bn_boards.proofs.LayoutLemmas.{layouts-there}
+use Rattle.bn_boards.proofs.NetworkLemmas.{networks-there}
+use Rattle.bn_boards.proofs.NetworkReadLemmas.{networks-read}
+use Rattle.bn_boards.specs.Builds.{Build, IsStart, build_elements}
+use Rattle.bn_boards.proofs.StartLemmas.{builds-start-words}
 use Rattle.bn_network.specs.Starts.{AreInputs, start_from, words_on}
 use Rattle.bn_reply.specs.declared.status.Status.{Status}
 use Rattle.bn_reply.specs.declared.status.Status.TheVariants as statuses
 use Rattle.bn_circuits.specs.declared.place.Place.{Place}
-use Rattle.bn_reply_laws.specs.CompileReply.{IsBoardSpelling}
-use Rattle.bn_reply_laws.proofs.SpelledLemmas.{one_board_text, start-spells}
+use Rattle.bn_reply_relations.specs.CompileReply.{IsBoardSpelling}
+use Rattle.bn_reply_relations.proofs.SpelledLemmas.{one_board_text, start-spells}
 use Rattle.bn_reply_builds.specs.BuildReply.{IsBuiltFor, TellsBuild}
 
 -- ---- elements

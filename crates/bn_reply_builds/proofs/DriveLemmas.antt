@@ -13,14 +13,14 @@ use Rattle.bn_circuits.specs.declared.place.Place.TheVariants.{Enter, Left}
 use Rattle.bn_quad.specs.Quadruples.{Configuration}
 use Rattle.bn_qtable.specs.Rows.{QuadTable}
 use Rattle.bn_bennett_laws.specs.Steps.{Exit}
-use Rattle.bn_board_spec.specs.declared.exit.Exit.{Exit as ByExit}
-use Rattle.bn_board_spec.specs.declared.exit.Exit.TheVariants as exit
-use Rattle.bn_board_spec.specs.Layouts.{Layout, IsNamedExit, inside, ends, stuck, right, left, moments}
-use Rattle.bn_build_laws.specs.Builds.{Build, IsBuild, IsStart, build_elements}
-use Rattle.bn_build_laws.specs.Exits.{BoardLeaves, by_end, by_read, by_wait, by_window}
-use Rattle.bn_build_laws.specs.Runs.{BuildRunsTo}
-use Rattle.bn_build_laws.proofs.ConverseLemmas.{builds-tell, builds-once}
-use Rattle.bn_board_laws.proofs.ExitedLemmas.{stuck_at}
+use Rattle.bn_boards.specs.declared.exit.Exit.{Exit as ByExit}
+use Rattle.bn_boards.specs.declared.exit.Exit.TheVariants as exit
+use Rattle.bn_boards.specs.Layouts.{Layout, IsNamedExit, inside, ends, stuck, right, left, moments}
+use Rattle.bn_boards.specs.Builds.{Build, IsBuild, IsStart, build_elements}
+use Rattle.bn_boards.specs.Exits.{BoardLeaves, by_end, by_read, by_wait, by_window}
+use Rattle.bn_boards.specs.BuildRuns.{BuildRunsTo}
+use Rattle.bn_boards.proofs.ConverseLemmas.{builds-tell, builds-once}
+use Rattle.bn_boards.proofs.ExitedLemmas.{stuck_at}
 use Rattle.bn_reply_builds.specs.DriveText.{drive_text, drive_exit_line, inside_line}
 use Rattle.bn_reply_builds.specs.Drives.{Drives, leaves, stays}
 use Rattle.bn_reply_builds.specs.DriveLaws.{DrivesHaveOneAnswer}

@@ -26,8 +26,8 @@ use Rattle.bn_erase.specs.Printed.{names_of}
 use Rattle.bn_erase.proofs.AlikeLemmas.{erases_back, erases_forth}
 use Rattle.bn_erase.proofs.ClosedLemmas.{erasings_uniform}
 use Rattle.bn_erase_laws.proofs.InverseLemmas.{final_if}
-use Rattle.bn_named_laws.specs.Renumbering.{IsRenumbering, IsRenumbered, ReadsBack}
-use Rattle.bn_build_laws.specs.Builds.{Build, IsBuild, IsStart, build_elements}
+use Rattle.bn_renumbering.specs.Renumbering.{IsRenumbering, IsRenumbered, ReadsBack}
+use Rattle.bn_boards.specs.Builds.{Build, IsBuild, IsStart, build_elements}
 use Rattle.bn_network.specs.Starts.{words_on}
 use Rattle.bn_reply_builds.specs.DriveLaws.{ErasingBoardsErase}
 use Rattle.bn_reply_builds.specs.RenumberedBuilds.{TellsRenumbered}

@@ -18,3 +18,11 @@ pub mod AwaitLemmas
 pub mod OutcomeTextLemmas
 pub mod OutcomeLemmas
 pub mod LawLemmas
+pub mod TextLemmas
+pub mod DriveReplyLemmas
+pub mod DriveSettledLemmas
+pub mod CountLemmas
+pub mod HeadlineLemmas
+pub mod CircuitLemmas
+pub mod ErasedLemmas
+pub mod OwnDriveLemmas

@@ -7,7 +7,7 @@ use Rattle.bn_circuits.specs.declared.line.Line.{Line}
 use Rattle.bn_circuits.specs.declared.place.Place.{Place}
 use Rattle.bn_circuits.specs.declared.place.Place.TheVariants.{Enter, Left}
 use Rattle.bn_machine.specs.Outcome.{Limits}
-use Rattle.bn_net.specs.RotaryNets.{rotary_circuit}
+use Rattle.bn_circuits.specs.RotaryNets.{rotary_circuit}
 use Rattle.bn_lists.specs.declared.memory.NoMemory.{NoMemory as WantOfMemory}
 use Rattle.bn_quad.specs.Calls.{IsUniformMachine}
 use Rattle.bn_quad.specs.Names.{Naming}
@@ -20,25 +20,25 @@ use Rattle.bn_netlist.specs.PackedText.{spelling_of_packed}
 use Rattle.bn_netlist.specs.declared.packed_config.PackedConfig.{PackedConfig}
 use Rattle.bn_network.specs.Controls.{ControlState, symbol_count}
 use Rattle.bn_network.specs.Starts.{AreInputs, start_from, words_on}
-use Rattle.bn_board_spec.specs.Boards.{IsBoard, board_start}
-use Rattle.bn_board_spec.specs.Layouts.{Layout}
-use Rattle.bn_board_laws.proofs.NetworkReadLemmas.{networks-read}
+use Rattle.bn_boards.specs.Boards.{IsBoard, board_start}
+use Rattle.bn_boards.specs.Layouts.{Layout}
+use Rattle.bn_boards.proofs.NetworkReadLemmas.{networks-read}
 use Rattle.bn_board.specs.Flattened.{Flattened}
-use Rattle.bn_build_laws.specs.Builds.{Build, IsBuild, IsStart}
+use Rattle.bn_boards.specs.Builds.{Build, IsBuild, IsStart}
 use Rattle.bn_reply.specs.declared.reply.Reply.{Reply}
 use Rattle.bn_reply.specs.declared.status.Status.{Status}
-use Rattle.bn_reply_laws.specs.CompileReply.{IsBoardSpelling}
+use Rattle.bn_reply_relations.specs.CompileReply.{IsBoardSpelling}
 use Rattle.bn_reply_boards.specs.Opened.{IsBoardFor, IsOpenedBoard, IsTooLarge, spelling_of_board}
 use Rattle.bn_reply_boards.specs.declared.opening.OpenedWindow.{OpenedWindow}
 use Rattle.bn_reply_boards.specs.declared.opening.OpenedWindow.TheVariants as windows
 use Rattle.bn_reply_boards.proofs.MadeLemmas.{will_tell}
 use Rattle.bn_reply_boards.proofs.OpeningLemmas.{elements_are}
-use Rattle.bn_reply_tables.specs.NamedWords.{AreNamedBy, IsNamedBy}
-use Rattle.bn_reply_tables.specs.QuadReply.{passes}
-use Rattle.bn_reply_tables.specs.UniformReply.{UniformReplies, not_uniform, uniform}
-use Rattle.bn_reply_tables.specs.WordsReply.{WordsReplies}
-use Rattle.bn_reply_tables.proofs.QuadReplyLemmas.{answered_as}
-use Rattle.bn_reply_tables.proofs.WordsLemmas.{words_as, words_named}
+use Rattle.bn_reply_machines.specs.NamedWords.{AreNamedBy, IsNamedBy}
+use Rattle.bn_reply_machines.specs.QuadReply.{passes}
+use Rattle.bn_reply_machines.specs.UniformReply.{UniformReplies, not_uniform, uniform}
+use Rattle.bn_reply_machines.specs.WordsReply.{WordsReplies}
+use Rattle.bn_reply_machines.proofs.QuadReplyLemmas.{answered_as}
+use Rattle.bn_reply_machines.proofs.WordsLemmas.{words_as, words_named}
 use Rattle.bn_reply_circuits.specs.Unwritten.{WillReply}
 use Rattle.bn_reply_circuits.specs.declared.unwritten.Unwritten.TheVariants.{Packed}
 use Rattle.bn_reply_builds.specs.BuildReply.{BuildReplies, BuiltReplies, HaveRoom, IsBuiltFor, IsUncrowded}

@@ -14,19 +14,19 @@ use Rattle.bn_network.specs.declared.cell_line.CellLine.TheVariants.{Read}
 use Rattle.bn_network.specs.Controls.{ControlMove, End, IsEntry, IsNotLeft, Reads, Tape as to_tape, finishes, leaves}
 use Rattle.bn_network.specs.Controls.{lines_before, symbol_count, waits}
 use Rattle.bn_network.specs.Starts.{FitsWindow}
-use Rattle.bn_board_laws.proofs.NetworkReadLemmas.{networks-read}
-use Rattle.bn_board_spec.specs.declared.exit.Exit.{Exit as ByExit}
-use Rattle.bn_board_spec.specs.declared.exit.Exit.TheVariants as exit
-use Rattle.bn_board_spec.specs.declared.spelled.Spelled.{Spelled}
-use Rattle.bn_board_spec.specs.Layouts.{IsExit, IsNamedExit, Layout, ends, inside, left, lines_at, named, right}
-use Rattle.bn_board_spec.specs.Layouts.{spelled_by, stuck, symbol_count_at, unnamed}
-use Rattle.bn_build_laws.specs.Builds.{Build, IsBuild}
-use Rattle.bn_build_laws.specs.Exits.{BoardLeaves, by_end, by_read, by_wait, by_window}
-use Rattle.bn_board_spec.proofs.StartingLemmas.{no_letters as none_low}
+use Rattle.bn_boards.proofs.NetworkReadLemmas.{networks-read}
+use Rattle.bn_boards.specs.declared.exit.Exit.{Exit as ByExit}
+use Rattle.bn_boards.specs.declared.exit.Exit.TheVariants as exit
+use Rattle.bn_boards.specs.declared.spelled.Spelled.{Spelled}
+use Rattle.bn_boards.specs.Layouts.{IsExit, IsNamedExit, Layout, ends, inside, left, lines_at, named, right}
+use Rattle.bn_boards.specs.Layouts.{spelled_by, stuck, symbol_count_at, unnamed}
+use Rattle.bn_boards.specs.Builds.{Build, IsBuild}
+use Rattle.bn_boards.specs.Exits.{BoardLeaves, by_end, by_read, by_wait, by_window}
+use Rattle.bn_boards.proofs.StartingLemmas.{no_letters as none_low}
 use Rattle.bn_reply_builds.specs.declared.outcome.Outcome.TheVariants as outcome
 use Rattle.bn_reply_builds.specs.Outcomes.{outcome_by}
 use Rattle.bn_reply_builds.specs.Stopping.{IsLeftAtRead}
-use Rattle.bn_board_spec.proofs.ExitLemmas.{IsApart, named_east, named_once}
+use Rattle.bn_boards.proofs.ExitLemmas.{IsApart, named_east, named_once}
 
 -- ---- a loose line of the control
 

@@ -9,16 +9,16 @@ use Rattle.bn_quad.specs.Quadruples.{Configuration, Quadruples, initial_of}
 use Rattle.bn_bennett_laws.specs.Stages.{rooms_of}
 use Rattle.bn_bennett_laws.proofs.NumberLemmas.{run_of_goes}
 use Rattle.bn_network.specs.Controls.{symbol_count}
-use Rattle.bn_named_laws.specs.Renumbering.{IsConfigurationOf, IsRenumberedTape}
-use Rattle.bn_named_laws.proofs.RunLemmas.{renumberings-run, three_of}
-use Rattle.bn_named_laws.proofs.UniformLemmas.{initial_renumbered}
+use Rattle.bn_renumbering.specs.Renumbering.{IsConfigurationOf, IsRenumberedTape}
+use Rattle.bn_renumbering.proofs.RunLemmas.{renumberings-run, three_of}
+use Rattle.bn_renumbering.proofs.UniformLemmas.{initial_renumbered}
 use Rattle.bn_circuits.specs.Situations.{Situation}
 use Rattle.bn_circuits.specs.declared.config.Config.{Config}
-use Rattle.bn_board_laws.proofs.NetworkReadLemmas.{networks-read}
-use Rattle.bn_build_laws.specs.Builds.{Build, IsBuild, IsStart}
-use Rattle.bn_build_laws.proofs.ComingLemmas.{initial_low}
-use Rattle.bn_build_laws.proofs.ConverseLemmas.{builds-tell}
-use Rattle.bn_board_spec.proofs.StartingLemmas.{no_letters as none_low}
+use Rattle.bn_boards.proofs.NetworkReadLemmas.{networks-read}
+use Rattle.bn_boards.specs.Builds.{Build, IsBuild, IsStart}
+use Rattle.bn_boards.proofs.ComingLemmas.{initial_low}
+use Rattle.bn_boards.proofs.ConverseLemmas.{builds-tell}
+use Rattle.bn_boards.proofs.StartingLemmas.{no_letters as none_low}
 use Rattle.bn_reply_builds.specs.DriveLaws.{RenumberedBuildsTell, WordsAreRenumbered}
 
 count_is : (m : Quadruples) (n z : ℕ) → nth m.symbols (suc n) ≡ Some z → symbol_count m (suc n) ≡ z

@@ -10,10 +10,10 @@ use Rattle.bn_machine.specs.Tape.{Tape, cell, scanned}
 use Rattle.bn_machine.specs.Window.{IsBetween}
 use Rattle.bn_network.specs.Moments.{head_cell}
 use Rattle.bn_network_laws.proofs.TapeShownLemmas.{head_place, head_within, scanned_in}
-use Rattle.bn_board_spec.specs.declared.spelled.SpelledTape.{SpelledTape}
-use Rattle.bn_board_spec.specs.Layouts.{tape_in}
-use Rattle.bn_board_spec.proofs.ShownHeadLemmas.{shown_inside}
-use Rattle.bn_board_spec.proofs.SpellingLemmas.{range_get}
+use Rattle.bn_boards.specs.declared.spelled.SpelledTape.{SpelledTape}
+use Rattle.bn_boards.specs.Layouts.{tape_in}
+use Rattle.bn_boards.proofs.ShownHeadLemmas.{shown_inside}
+use Rattle.bn_boards.proofs.SpellingLemmas.{range_get}
 
 module _ (s : SpelledTape) (left right many : ℕ) (x : Tape) (is : s ≡ tape_in left many x)
     (count : many ≡ left + right + 1)

@@ -4,7 +4,7 @@ use Rattle.std.proofs.Common.{arith, inl, inr, sym, ap, subst, ◌∙◌}
 use Rattle.std.proofs.lemmas.Bool.{cases_lt}
 use Rattle.bn_circuits.specs.declared.place.Place.{Place}
 use Rattle.bn_machine.specs.Outcome.{Limits}
-use Rattle.bn_net.specs.declared.net.TheConstants.{MOST_ELEMENTS}
+use Rattle.bn_circuits.specs.declared.net.TheConstants.{MOST_ELEMENTS}
 use Rattle.bn_quad.specs.Calls.{IsUniformMachine}
 use Rattle.bn_quad.specs.Overlap.{IsDeterministic, IsReversible, IsUniform}
 use Rattle.bn_quad.specs.Quadruples.{Quadruples}
@@ -14,23 +14,23 @@ use Rattle.bn_qtable.specs.TapeWords.{TapeWords}
 use Rattle.bn_network.specs.Controls.{ControlState, IsNumbering}
 use Rattle.bn_network.specs.Networks.{elements_by}
 use Rattle.bn_network.proofs.OccurringLemmas.{order_one}
-use Rattle.bn_assembly.specs.Assembled.{CountsElements}
-use Rattle.bn_build_laws.specs.Builds.{Build, build_elements}
+use Rattle.bn_network_assembly.specs.Assembled.{CountsElements}
+use Rattle.bn_boards.specs.Builds.{Build, build_elements}
 use Rattle.bn_network.specs.Starts.{AreInputs, words_on}
-use Rattle.bn_build_laws.proofs.ThereLemmas.{builds-there}
+use Rattle.bn_boards.proofs.ThereLemmas.{builds-there}
 use Rattle.bn_reply.specs.Answering.{AgreeInAll, HasAnswer, IsOneAnswer, IsSettled}
 use Rattle.bn_reply.specs.Codes.{IsReplyStatus}
 use Rattle.bn_reply.specs.declared.status.Status.{Status}
 use Rattle.bn_reply.specs.declared.status.Status.TheVariants as statuses
 use Rattle.bn_reply.proofs.SettledLemmas.{agree}
-use Rattle.bn_reply_laws.specs.Windows.{large_line}
-use Rattle.bn_reply_tables.specs.UniformReply.{UniformReplies}
-use Rattle.bn_reply_tables.specs.NamedWords.{AreNamedBy}
-use Rattle.bn_reply_tables.specs.WordsReply.{WordsReplies}
-use Rattle.bn_reply_tables.proofs.AlphabetLemmas.{read_alphabets}
-use Rattle.bn_reply_tables.proofs.QuadReplyLemmas.{quad_settled}
-use Rattle.bn_reply_tables.proofs.UniformLemmas.{uniform_settled}
-use Rattle.bn_reply_tables.proofs.WordsLemmas.{words_settled}
+use Rattle.bn_reply_relations.specs.Windows.{large_line}
+use Rattle.bn_reply_machines.specs.UniformReply.{UniformReplies}
+use Rattle.bn_reply_machines.specs.NamedWords.{AreNamedBy}
+use Rattle.bn_reply_machines.specs.WordsReply.{WordsReplies}
+use Rattle.bn_reply_machines.proofs.AlphabetLemmas.{read_alphabets}
+use Rattle.bn_reply_machines.proofs.QuadReplyLemmas.{quad_settled}
+use Rattle.bn_reply_machines.proofs.UniformLemmas.{uniform_settled}
+use Rattle.bn_reply_machines.proofs.WordsLemmas.{words_settled}
 use Rattle.bn_reply_builds.specs.BuildReply.{BuildIsSettled, BuiltReplies, HaveRoom, IsBuiltFor, IsCrowded}
 use Rattle.bn_reply_builds.specs.BuildReply.{IsFirstLong, IsUncrowded, SizedReplies, TellsBuild, built}
 use Rattle.bn_reply_builds.specs.BuildReply.{crowded_line, large, long, long_word_line, many}

@@ -9,8 +9,8 @@ use Rattle.bn_network.specs.Controls.{reads, symbols_read}
 use Rattle.bn_network.specs.Networks.{IsTape}
 use Rattle.bn_network_laws.specs.Ends.{read_by}
 use Rattle.bn_network_laws.specs.Stops.{AdmitsBefore, DeedReads, deed_at, symbols_before, taken_to}
-use Rattle.bn_board_spec.specs.declared.spelled.Spelled.{Spelled}
-use Rattle.bn_board_spec.specs.Layouts.{tape_in}
+use Rattle.bn_boards.specs.declared.spelled.Spelled.{Spelled}
+use Rattle.bn_boards.specs.Layouts.{tape_in}
 use Rattle.bn_control.specs.Names.{listed}
 use Rattle.bn_reply_builds.specs.declared.awaited.Answer.{Answer}
 use Rattle.bn_reply_builds.specs.declared.awaited.Read.{Read}

@@ -7,14 +7,14 @@ use Rattle.bn_qtable.specs.Reading.{ReadsQuadruples}
 use Rattle.bn_qtable.specs.Rows.{QuadTable, counts_of}
 use Rattle.bn_qtable.specs.TapeWords.{TapeWords}
 use Rattle.bn_qtable.proofs.Growing.{few-of}
-use Rattle.bn_named_laws.proofs.BackLemmas.{as_many, table_machine}
+use Rattle.bn_renumbering.proofs.BackLemmas.{as_many, table_machine}
 use Rattle.bn_network.specs.Controls.{symbol_count}
 use Rattle.bn_network.specs.Networks.{IsTape}
 use Rattle.bn_network.specs.Starts.{AreInputs}
 use Rattle.bn_machine.specs.Outcome.{Limits}
 use Rattle.bn_quad.specs.Quadruples.{Quadruples}
-use Rattle.bn_reply_tables.specs.NamedWords.{AreNamedBy}
-use Rattle.bn_reply_tables.proofs.AlphabetLemmas.{read_alphabet, some_symbol}
+use Rattle.bn_reply_machines.specs.NamedWords.{AreNamedBy}
+use Rattle.bn_reply_machines.proofs.AlphabetLemmas.{read_alphabet, some_symbol}
 use Rattle.bn_reply_builds.specs.BuildReply.{HaveRoom}
 use Rattle.bn_reply_builds.specs.Buildable.{AreLettersOf, IsBuildable}
 

@@ -9,27 +9,15 @@ use Rattle.bn_qtable.specs.TapeWords.{Letters, One}
 use Rattle.bn_table.specs.Rows.{Named}
 use Rattle.bn_bennett.specs.Printed.{translation_names}
 use Rattle.bn_network.specs.Starts.{start_from, words_on}
-use Rattle.bn_board_spec.specs.Boards.{board_start}
-use Rattle.bn_board_spec.specs.Flats.{Flat, flat_start}
-use Rattle.bn_build_laws.specs.Builds.{Build}
+use Rattle.bn_boards.specs.Boards.{board_start}
+use Rattle.bn_boards.specs.Flats.{Flat, build_of, flat_start}
 use Rattle.bn_reply.specs.TableReply.{ReadsStandard}
 use Rattle.bn_reply.specs.declared.status.Status.TheVariants.{Done}
-use Rattle.bn_reply_laws.specs.CompileReply.{CompileReplies}
-use Rattle.bn_reply_laws.specs.ToldRuns.{IsGiven}
-use Rattle.bn_reply_laws.specs.Windows.{ComesTo}
+use Rattle.bn_reply_relations.specs.CompileReply.{CompileReplies}
+use Rattle.bn_reply_relations.specs.ToldRuns.{IsGiven}
+use Rattle.bn_reply_relations.specs.Windows.{ComesTo}
 use Rattle.bn_reply_builds.specs.BuildReply.{BuildReplies, IsBuiltFor}
-use Rattle.bn_reply_tables.specs.BennettReply.{bennett_text}
-
--- what a one-tape machine is compiled to, as what its machine of quadruples is built to
-abbrev pub build_of : Flat → Build
-build_of f = record {
-  machine = f.translation.machine;
-  limits = f.limits;
-  names = f.names;
-  network = f.network;
-  circuit = f.circuit;
-  layout = f.layout;
-}
+use Rattle.bn_reply_machines.specs.BennettReply.{bennett_text}
 
 -- The table that `bennett` writes is read as Bennett's machine itself, with each number and name; what it is built to
 -- is the board that the one-tape machine is compiled to; and both start alike.

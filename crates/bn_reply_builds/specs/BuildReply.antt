@@ -11,20 +11,20 @@ use Rattle.bn_qtable.specs.TapeWords.{One, TapeWords, Three}
 use Rattle.bn_network.specs.Controls.{symbol_count}
 use Rattle.bn_network.specs.Networks.{IsTape}
 use Rattle.bn_network.specs.declared.limits.TheConstants.{MOST_SYMBOLS}
-use Rattle.bn_net.specs.declared.net.TheConstants.{MOST_ELEMENTS}
-use Rattle.bn_board_spec.specs.Boards.{board_start}
-use Rattle.bn_assembly.specs.Assembled.{CountsElements}
-use Rattle.bn_build_laws.specs.Builds.{Build, IsBuild, build_elements}
+use Rattle.bn_circuits.specs.declared.net.TheConstants.{MOST_ELEMENTS}
+use Rattle.bn_boards.specs.Boards.{board_start}
+use Rattle.bn_network_assembly.specs.Assembled.{CountsElements}
+use Rattle.bn_boards.specs.Builds.{Build, IsBuild, build_elements}
 use Rattle.bn_network.specs.Starts.{start_from, words_on}
 use Rattle.bn_reply.specs.Answering.{IsSettled}
 use Rattle.bn_reply.specs.Lines.{line, long_line}
 use Rattle.bn_reply.specs.declared.status.Status.{Status}
 use Rattle.bn_reply.specs.declared.status.Status.TheVariants as statuses
-use Rattle.bn_reply_tables.specs.QuadReply.{QuadReplies}
-use Rattle.bn_reply_tables.specs.UniformReply.{UniformReplies}
-use Rattle.bn_reply_tables.specs.WordsReply.{WordsReplies}
-use Rattle.bn_reply_laws.specs.CompileReply.{TellsBoard}
-use Rattle.bn_reply_laws.specs.Windows.{large_line}
+use Rattle.bn_reply_machines.specs.QuadReply.{QuadReplies}
+use Rattle.bn_reply_machines.specs.UniformReply.{UniformReplies}
+use Rattle.bn_reply_machines.specs.WordsReply.{WordsReplies}
+use Rattle.bn_reply_relations.specs.CompileReply.{TellsBoard}
+use Rattle.bn_reply_relations.specs.Windows.{large_line}
 
 -- ---- sizes
 

@@ -13,8 +13,8 @@ use Rattle.bn_erase_laws.specs.Erasing.{IsWord}
 use Rattle.bn_erase.specs.Joint.{Joint, IsJoint}
 use Rattle.bn_erase.specs.Made.{Erasure, IsErasing}
 use Rattle.bn_erase.specs.Printed.{names_of}
-use Rattle.bn_named_laws.specs.Renumbering.{Renumbering, IsRenumbering, IsRenumbered, ReadsBack}
-use Rattle.bn_build_laws.specs.Builds.{Build, IsBuild, IsStart, build_elements}
+use Rattle.bn_renumbering.specs.Renumbering.{Renumbering, IsRenumbering, IsRenumbered, ReadsBack}
+use Rattle.bn_boards.specs.Builds.{Build, IsBuild, IsStart, build_elements}
 use Rattle.bn_network.specs.Starts.{words_on}
 use Rattle.bn_reply_builds.specs.Drives.{Drives}
 use Rattle.bn_reply_builds.specs.RenumberedBuilds.{TellsRenumbered}

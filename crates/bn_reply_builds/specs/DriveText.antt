@@ -7,12 +7,12 @@ use Rattle.bn_machine.specs.Tape.{scanned}
 use Rattle.bn_quad.specs.Quadruples.{Configuration}
 use Rattle.bn_qtable.specs.Rows.{QuadTable}
 use Rattle.bn_bennett_laws.specs.Steps.{Exit, Finished, Stopped, Leaving}
-use Rattle.bn_board_spec.specs.declared.spelled.SpelledTape.{SpelledTape}
-use Rattle.bn_board_spec.specs.Layouts.{spelled_tape}
+use Rattle.bn_boards.specs.declared.spelled.SpelledTape.{SpelledTape}
+use Rattle.bn_boards.specs.Layouts.{spelled_tape}
 use Rattle.bn_netlist_laws.specs.Sentences.{line_of_place, line_text}
 use Rattle.bn_reply.specs.Lines.{line, position_text}
-use Rattle.bn_reply_laws.specs.RunText.{elements_line, steps_line, quadruple_line, window_line, head_text}
-use Rattle.bn_build_laws.specs.Builds.{Build, build_elements}
+use Rattle.bn_reply_relations.specs.RunText.{elements_line, steps_line, quadruple_line, window_line, head_text}
+use Rattle.bn_boards.specs.Builds.{Build, build_elements}
 
 -- the name of a number
 abbrev pub name_in : List (List ℕ) → ℕ → List ℕ

@@ -10,9 +10,9 @@ use Rattle.bn_circuits.specs.declared.place.Place.TheVariants.{Enter}
 use Rattle.bn_quad.specs.Quadruples.{Configuration}
 use Rattle.bn_qtable.specs.Rows.{QuadTable}
 use Rattle.bn_bennett_laws.specs.Steps.{Exit}
-use Rattle.bn_board_spec.specs.Layouts.{moments}
-use Rattle.bn_build_laws.specs.Builds.{Build}
-use Rattle.bn_build_laws.specs.Runs.{EndsInWindow, BuildRunsTo}
+use Rattle.bn_boards.specs.Layouts.{moments}
+use Rattle.bn_boards.specs.Builds.{Build}
+use Rattle.bn_boards.specs.BuildRuns.{EndsInWindow, BuildRunsTo}
 use Rattle.bn_reply_builds.specs.DriveText.{drive_text, drive_exit_line, inside_line}
 
 -- The board is left within so many steps by the exit that the machine's own bounded run names, and the text tells it;

@@ -10,9 +10,9 @@ use Rattle.bn_bennett_laws.specs.Steps.{Finished, Leaving}
 use Rattle.bn_erase.specs.Joint.{Joint}
 use Rattle.bn_erase.specs.Laws.{end_of}
 use Rattle.bn_erase.specs.Made.{Erasure}
-use Rattle.bn_named_laws.specs.Renumbering.{Renumbering, IsRenumbered}
-use Rattle.bn_build_laws.specs.Builds.{Build}
-use Rattle.bn_build_laws.specs.Laws.{Told}
+use Rattle.bn_renumbering.specs.Renumbering.{Renumbering, IsRenumbered}
+use Rattle.bn_boards.specs.Builds.{Build}
+use Rattle.bn_boards.specs.Laws.{Told}
 
 -- The board, started at c with the word x on tape 1, has stopped at d after n element steps. Where it is left by the
 -- end, the first machine halts on x with some output y and the second on y with the output x, the erasing machine has

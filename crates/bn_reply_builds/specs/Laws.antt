@@ -1,6 +1,11 @@
--- The laws of this crate, a named field each. `Laws` is the contract of `build_reply_laws`.
+-- The laws of this crate, a named field each. `Laws` is the contract of `reply_builds_laws`.
 use Rattle.bn_reply_builds.specs.BennettBuilds.{BoardsAreOne, CompilingIsBuilding}
 use Rattle.bn_reply_builds.specs.BuildReply.{BuildIsSettled}
+use Rattle.bn_reply_builds.specs.DriveCircuits.{BuildsTellTheirBoards, DrivesTellTheirBoards}
+use Rattle.bn_reply_builds.specs.DriveHeadline.{DrivesTellTheirMachine}
+use Rattle.bn_reply_builds.specs.DriveReply.{DriveIsSettled}
+use Rattle.bn_reply_builds.specs.ErasedDrives.{ErasedCircuitsErase}
+use Rattle.bn_reply_builds.specs.OwnDrives.{OwnRunsAreThere, OwnRunsAreOne, DrivesTellTheirRun}
 
 pub record Laws : Type 0 where
   -- To all words, windows and bytes `build` has an answer, and only one.
@@ -8,3 +13,22 @@ pub record Laws : Type 0 where
   -- The table that `bennett` writes is read as Bennett's machine itself, and what that is built to is the board that
   -- the one-tape machine is compiled to: `bennett | build` prints what `compile` prints.
   pub compiling_is_building : BoardsAreOne × CompilingIsBuilding
+  -- To all words, windows, greatest numbers of steps and bytes `drive` has an answer, and only one.
+  pub drive_has_one_reply : DriveIsSettled
+  -- What `drive` answers tells the machine's own run in the window, with no circuit in what is said: where the signal
+  -- comes to an exit within the greatest number of element steps, the exit that this run names, its steps and its
+  -- tapes; else that it is still inside.
+  pub drives_tell_their_machine : DrivesTellTheirMachine
+  -- What `build` and `drive` answer tells the board of the machine's circuit, which runs in exactly its cost to that
+  -- exit, and whose steps can be taken back.
+  pub builds_run_and_return : BuildsTellTheirBoards × DrivesTellTheirBoards
+  -- The circuit that erases its input, by what the commands print: of the table that `erase` prints, `drive` tells the
+  -- end only where each of the two machines halts on the other's word, with that output alone on the tapes; and where
+  -- they do, it tells no machine that is stuck.
+  pub erased_circuits_erase : ErasedCircuitsErase
+  -- Whatever is given, the machine's own run in the window ends, after fewer steps than there are ways to be.
+  pub own_runs_are_there : OwnRunsAreThere
+  -- It has one number of steps, one last configuration, and one exit.
+  pub own_runs_are_one : OwnRunsAreOne
+  -- What `drive` answers tells that run.
+  pub drives_tell_their_run : DrivesTellTheirRun

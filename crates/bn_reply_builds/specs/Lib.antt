@@ -9,4 +9,10 @@ pub mod Opened
 pub mod BennettBuilds
 pub mod Outcomes
 pub mod Stopping
+pub mod Driven
+pub mod DriveReply
+pub mod DriveHeadline
+pub mod DriveCircuits
+pub mod ErasedDrives
+pub mod OwnDrives
 pub mod Laws

@@ -1,17 +1,17 @@
 -- What comes of bytes, words on the tapes and a window that are to be made into the board of a machine of quadruples.
 use Rattle.std.specs.Prelude.{◌≡◌, ℕ, List, []}
 use Rattle.bn_machine.specs.Outcome.{Limits}
-use Rattle.bn_net.specs.RotaryNets.{rotary_circuit}
+use Rattle.bn_circuits.specs.RotaryNets.{rotary_circuit}
 use Rattle.bn_quad.specs.Names.{Naming}
 use Rattle.bn_quad.specs.Quadruples.{Configuration, Quadruples}
 use Rattle.bn_qtable.specs.Reading.{ReadsQuadruples}
 use Rattle.bn_qtable.specs.Rows.{table_of}
 use Rattle.bn_qtable.specs.TapeWords.{TapeWords}
 use Rattle.bn_network.specs.Starts.{AreInputs, start_from, words_on}
-use Rattle.bn_board_spec.specs.Boards.{board_start}
+use Rattle.bn_boards.specs.Boards.{board_start}
 use Rattle.bn_board.specs.Flattened.{Flattened, IsBoardKept, end_line, start_line}
-use Rattle.bn_build_laws.specs.Builds.{Build, IsBuild, IsStart}
-use Rattle.bn_reply_tables.specs.NamedWords.{AreNamedBy}
+use Rattle.bn_boards.specs.Builds.{Build, IsBuild, IsStart}
+use Rattle.bn_reply_machines.specs.NamedWords.{AreNamedBy}
 use Rattle.bn_reply_boards.specs.declared.opening.OpenedWindow.{OpenedWindow}
 use Rattle.bn_reply_boards.specs.declared.opening.OpenedWindow.TheVariants as windows
 use Rattle.bn_reply_builds.specs.BuildReply.{BuiltReplies, IsBuiltFor, IsUncrowded, SizedReplies}

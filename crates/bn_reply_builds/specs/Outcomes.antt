@@ -5,12 +5,12 @@ use Rattle.bn_machine.specs.Tape.{scanned}
 use Rattle.bn_quad.specs.Quadruples.{Configuration}
 use Rattle.bn_qtable.specs.Rows.{QuadTable}
 use Rattle.bn_bennett_laws.specs.Steps.{Exit, Finished, Stopped, Leaving}
-use Rattle.bn_board_spec.specs.declared.spelled.Spelled.{Spelled}
+use Rattle.bn_boards.specs.declared.spelled.Spelled.{Spelled}
 use Rattle.bn_netlist_laws.specs.Sentences.{line_text}
 use Rattle.bn_reply.specs.Lines.{line}
 use Rattle.bn_reply.specs.declared.status.Status.{Status}
 use Rattle.bn_reply.specs.declared.status.Status.TheVariants as statuses
-use Rattle.bn_reply_laws.specs.RunText.{window_line}
+use Rattle.bn_reply_relations.specs.RunText.{window_line}
 use Rattle.bn_reply_builds.specs.DriveText.{drive_tape_line, name_in}
 use Rattle.bn_reply_builds.specs.declared.outcome.Stop.{Stop}
 use Rattle.bn_reply_builds.specs.declared.outcome.Outcome.{Outcome}

@@ -6,9 +6,9 @@ use Rattle.bn_circuits.specs.declared.config.Config.{Config}
 use Rattle.bn_quad.specs.Quadruples.{Configuration, Quadruples, final_state_of}
 use Rattle.bn_bennett_laws.specs.Stages.{rooms_of}
 use Rattle.bn_bennett_laws.specs.Steps.{HasExit}
-use Rattle.bn_named_laws.specs.Renumbering.{Renumbering, IsRenumbered}
-use Rattle.bn_build_laws.specs.Builds.{Build}
-use Rattle.bn_build_laws.specs.Laws.{Told}
+use Rattle.bn_renumbering.specs.Renumbering.{Renumbering, IsRenumbered}
+use Rattle.bn_boards.specs.Builds.{Build}
+use Rattle.bn_boards.specs.Laws.{Told}
 
 -- What the board tells of the machine m, whose configuration x is c with other numbers: how its own machine's run from
 -- c has ended, and that the run of m from x has ended so too, after as many steps, and where.

@@ -12,9 +12,9 @@ use Rattle.bn_network.specs.Networks.{IsTape}
 use Rattle.bn_network.specs.Starts.{FitsWindow}
 use Rattle.bn_network.specs.declared.limits.TheConstants.{MOST_SYMBOLS}
 use Rattle.bn_network_laws.specs.Ends.{tape_of}
-use Rattle.bn_board_spec.specs.declared.spelled.Spelled.{Spelled}
-use Rattle.bn_board_spec.specs.Layouts.{lines_at, spelled_config}
-use Rattle.bn_build_laws.specs.Builds.{Build}
+use Rattle.bn_boards.specs.declared.spelled.Spelled.{Spelled}
+use Rattle.bn_boards.specs.Layouts.{lines_at, spelled_config}
+use Rattle.bn_boards.specs.Builds.{Build}
 use Rattle.bn_control.specs.Names.{listed}
 use Rattle.bn_reply_builds.specs.declared.awaited.Answer.{Answer}
 use Rattle.bn_reply_builds.specs.declared.awaited.Read.{Read}

@@ -5,14 +5,14 @@ ghost use Rattle.bn_io.specs.Faults.{CountsUnless};
 ghost use Rattle.bn_circuits.specs.declared.place.Place.{Place};
 ghost use Rattle.bn_qtable.specs.TapeWords.{tape_words_of};
 ghost use Rattle.bn_network.specs.Limits.{AreSmall};
-ghost use Rattle.bn_assembly.specs.Assembled.{limits_of};
+ghost use Rattle.bn_network_assembly.specs.Assembled.{limits_of};
 ghost use Rattle.bn_reply.specs.Streams.{AnswerEnds};
 ghost use Rattle.bn_reply_circuits.specs.Unwritten.{WillReply};
 ghost use Rattle.bn_reply_builds.specs.BuildReply.{BuildReplies};
 
 use crate::opening::{OpenedBuild, open_build};
-use bn_assembly::Windows;
 use bn_io::Sink;
+use bn_network_assembly::Windows;
 use bn_qtable::TapeWords;
 use bn_reply::{NoMemory, Status};
 use bn_reply_boards::board_config;

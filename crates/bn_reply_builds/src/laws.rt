@@ -2,6 +2,6 @@
 ghost use Rattle.bn_reply_builds.specs.Laws.{Laws};
 
 /// Laws on the answers, a named field each.
-pub fn build_reply_laws()
+pub fn reply_builds_laws()
     ensures { Laws }
 {}

@@ -4,18 +4,18 @@
 ghost use Rattle.std.specs.Prelude.{IfOk};
 ghost use Rattle.bn_qtable.specs.TapeWords.{tape_words_of};
 ghost use Rattle.bn_network.specs.Limits.{AreSmall};
-ghost use Rattle.bn_assembly.specs.Assembled.{limits_of};
+ghost use Rattle.bn_network_assembly.specs.Assembled.{limits_of};
 ghost use Rattle.bn_reply_builds.specs.Buildable.{AreLettersOf, IsBuildable};
 ghost use Rattle.bn_reply_builds.specs.Opened.{IsOpenedBuild, IsOpenedSized};
 
 use crate::sizes::{find_crowded, find_long, too_crowded, word_too_long};
-use bn_assembly::{TapeSymbols, Windows};
 use bn_board::Board;
+use bn_network_assembly::{TapeSymbols, Windows};
 use bn_qtable::TapeWords;
 use bn_quad::{QuadNames, Uniform};
 use bn_reply::{NoMemory, Reply};
 use bn_reply_boards::{OpenedWindow, open_board};
-use bn_reply_tables::{OpenedUniform, SpelledWords, open_uniform, spell_words};
+use bn_reply_machines::{OpenedUniform, SpelledWords, open_uniform, spell_words};
 use std::alloc::Global;
 
 /// What bytes, words on the tapes and a window are opened as, or the answer where they can't be.

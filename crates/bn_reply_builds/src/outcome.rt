@@ -7,18 +7,18 @@ ghost use Rattle.bn_circuits.specs.declared.place.Place.TheVariants.{Enter, Left
 ghost use Rattle.bn_quad.specs.Quadruples.{Configuration};
 ghost use Rattle.bn_bennett_laws.specs.Steps.{Exit as ByExit};
 ghost use Rattle.bn_network.specs.Starts.{FitsWindow};
-ghost use Rattle.bn_board_spec.specs.Layouts.{IsExit, spelled_by};
-ghost use Rattle.bn_build_laws.specs.Builds.{Build, IsBuild};
-ghost use Rattle.bn_build_laws.specs.Exits.{BoardLeaves};
+ghost use Rattle.bn_boards.specs.Layouts.{IsExit, spelled_by};
+ghost use Rattle.bn_boards.specs.Builds.{Build, IsBuild};
+ghost use Rattle.bn_boards.specs.Exits.{BoardLeaves};
 ghost use Rattle.bn_reply_builds.specs.Outcomes.{outcome_by, outcome_status, stop_at};
 ghost use Rattle.bn_reply_builds.specs.Stopping.{HasFewSymbols, IsLeftAtRead};
 
 use crate::awaited::{answer_at, control_rows, read_awaited};
 use crate::stop::stop_of;
 use bn_board::{Board, Exit, NoMemory, Spelled};
+use bn_circuits::{Line, Place};
 use bn_control::state_names;
 use bn_machine::Side;
-use bn_net::{Line, Place};
 use bn_quad::Uniform;
 use bn_reply::Status;
 use std::alloc::Global;

@@ -3,7 +3,7 @@
 ghost use Rattle.std.specs.Prelude.{◌≡◌, ◌+◌, ℕ, Some, slice_get};
 ghost use Rattle.bn_machine.specs.Tape.{Tape, scanned};
 ghost use Rattle.bn_machine.specs.Window.{IsBetween};
-ghost use Rattle.bn_board_spec.specs.Layouts.{tape_in};
+ghost use Rattle.bn_boards.specs.Layouts.{tape_in};
 
 use bn_board::SpelledTape;
 

@@ -2,12 +2,12 @@
 
 ghost use Rattle.std.specs.Prelude.{◌≡◌, IfOk, MatchOption};
 ghost use Rattle.bn_qtable.specs.TapeWords.{tape_words_of};
-ghost use Rattle.bn_assembly.specs.Assembled.{limits_of};
+ghost use Rattle.bn_network_assembly.specs.Assembled.{limits_of};
 ghost use Rattle.bn_reply_builds.specs.BuildReply.{HaveRoom, IsCrowded, IsFirstLong, IsUncrowded};
 ghost use Rattle.bn_reply_builds.specs.BuildReply.{crowded_line, long_word_line, tape_long_line};
 
-use bn_assembly::{TapeSymbols, Windows};
 use bn_network::MOST_SYMBOLS;
+use bn_network_assembly::{TapeSymbols, Windows};
 use bn_qtable::TapeWords;
 use bn_quad::QuadMachine;
 use bn_reply::{NoMemory, Reply, Status, too_long};

@@ -15,16 +15,16 @@ use Rattle.bn_element.specs.Rotary.{rotary, horizontal, vertical, west}
 use Rattle.bn_netlist_laws.specs.Spelling.{Spelling, Admits, Spelled, circuit_of}
 use Rattle.bn_netlist_laws.specs.declared.version.Version.TheVariants.{Two}
 use Rattle.bn_netlist_laws.proofs.EntryLemmas.{has-text}
-use Rattle.bn_net.specs.declared.net.TheConstants.{MOST_ELEMENTS}
+use Rattle.bn_circuits.specs.declared.net.TheConstants.{MOST_ELEMENTS}
 use Rattle.bn_netlist_laws.proofs.WireLemmas.{rotary_inputs, rotary_outputs, rotary_reversible, rotary_states}
 use Rattle.bn_circuits.specs.Circuits.{line_at}
-use Rattle.bn_net.proofs.WiringsLemmas.{apart-IsOneToOne}
+use Rattle.bn_circuits.proofs.WiringsLemmas.{apart-IsOneToOne}
 use Rattle.bn_rsm.specs.Machines.{Machine, machine_table, machine_table-IsReversible}
 use Rattle.bn_realise.specs.Banks.{IsBankWire, bottom_at, exit_after, bank_input_line}
 use Rattle.bn_realise.proofs.BankEndsLemmas.{no_exit_wire}
 use Rattle.bn_realise.proofs.BankListsLemmas.{bank_list}
 use Rattle.bn_element.specs.declared.rotary.Rotary.{Rotary}
-use Rattle.bn_net.specs.Parts.{Parts, circuit}
+use Rattle.bn_circuits.specs.Parts.{Parts, circuit}
 use Rattle.bn_netlist.proofs.NetLemmas.{circuits-agree}
 use Rattle.bn_netlist.specs.NetText.{spelling_of}
 use Rattle.bn_netlist.specs.declared.net_config.NetConfig.{NetConfig}

@@ -6,8 +6,8 @@ use Rattle.bn_element.specs.Rotary.{rotary}
 use Rattle.bn_element.specs.Tables.{Table}
 use Rattle.bn_circuits.proofs.RunLemmas.{run-IsConfig, back-IsConfig}
 use Rattle.bn_circuits.specs.declared.place.Place.{Place}
-use Rattle.bn_net.specs.RotaryNets.{rotary_circuit}
-use Rattle.bn_net.specs.Watching.{Hears}
+use Rattle.bn_circuits.specs.RotaryNets.{rotary_circuit}
+use Rattle.bn_circuits.specs.Watching.{Hears}
 use Rattle.bn_netlist.proofs.NetLemmas.{map-replicate}
 use Rattle.bn_netlist_laws.specs.Spelling as what
 use Rattle.bn_netlist_laws.specs.Spelling.{circuit_of}
@@ -30,15 +30,15 @@ use Rattle.bn_netlist_laws.specs.declared.version.Version.TheVariants.{Two}
 use Rattle.bn_netlist.specs.PackedText.{spelling_of_packed}
 use Rattle.bn_netlist.specs.declared.packed_config.PackedConfig.{PackedConfig}
 use Rattle.bn_netlist.specs.NetText.{IsTextRefusal}
-use Rattle.bn_reply_laws.specs.CircuitReply.{fault_text, Misspelled}
+use Rattle.bn_reply_relations.specs.CircuitReply.{fault_text, Misspelled}
 use Rattle.bn_netlist.specs.declared.line_refusal.NetlistRefusal.{NetlistRefusal}
 use Rattle.bn_netlist.specs.declared.line_refusal.NetlistRefusal.TheVariants.{Syntax, Order, Target, TwoSources}
 use Rattle.bn_netlist.specs.declared.line_refusal.NetlistRefusal.TheVariants.{StartFed, EndWired, LeftWired, TooMany}
 use Rattle.bn_netlist.specs.declared.line_refusal.NetlistRefusal.TheVariants.{Spelling, NoMemory}
 use Rattle.bn_reply_circuits.specs.Refused.{IsRefused}
 use Rattle.bn_reply_circuits.specs.Walking.{WalkReplies, walked_places, walked_to}
-use Rattle.bn_reply_laws.specs.CircuitReply.{walked}
-use Rattle.bn_reply_laws.specs.MigrateReply.{MigrateReplies, migrated}
+use Rattle.bn_reply_relations.specs.CircuitReply.{walked}
+use Rattle.bn_reply_relations.specs.MigrateReply.{MigrateReplies, migrated}
 
 -- ---- a text that is refused
 

@@ -5,7 +5,7 @@ use Rattle.std.proofs.lemmas.Bool.{cases_lt}
 use Rattle.bn_lists.specs.Lists.{HasNone, nth}
 use Rattle.bn_lists.proofs.ListLemmas.{first_once, first_or_none}
 use Rattle.bn_circuits.specs.declared.place.Place.{Place}
-use Rattle.bn_net.specs.declared.net.TheConstants.{MOST_ELEMENTS}
+use Rattle.bn_circuits.specs.declared.net.TheConstants.{MOST_ELEMENTS}
 use Rattle.bn_farm.specs.Farms.{FarmBoard, IsFarm, IsSpelled, elements_together, farm_after, ticks}
 use Rattle.bn_farm.specs.FarmRead.{IsUnspelled}
 use Rattle.bn_netlist_laws.specs.Faults.{Fault, IsFirstFault}

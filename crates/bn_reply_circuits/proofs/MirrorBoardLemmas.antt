@@ -21,12 +21,12 @@ use Rattle.bn_mirror.specs.Mirror.{IsMirror}
 use Rattle.bn_mirror.specs.Laws.{ComesBack}
 use Rattle.bn_circuits.proofs.AlikeLemmas.{sources_one}
 use Rattle.bn_mirror.proofs.RunLemmas.{runs-come_back}
-use Rattle.bn_board_spec.specs.Flats.{Flat, IsFlatOf, flat_start}
-use Rattle.bn_board_laws.proofs.ClosedLemmas.{run_to_exit}
-use Rattle.bn_board_laws.proofs.CountLemmas.{costs-one}
-use Rattle.bn_reply_laws.specs.CompileReply.{IsFlatSpelling}
-use Rattle.bn_reply_laws.specs.RunReply.{board_after}
-use Rattle.bn_reply_laws.proofs.SpelledLemmas.{target_of}
+use Rattle.bn_boards.specs.Flats.{Flat, IsFlatOf, flat_start}
+use Rattle.bn_boards.proofs.ClosedLemmas.{run_to_exit}
+use Rattle.bn_boards.proofs.CountLemmas.{costs-one}
+use Rattle.bn_reply_relations.specs.CompileReply.{IsFlatSpelling}
+use Rattle.bn_reply_relations.specs.RunReply.{board_after}
+use Rattle.bn_reply_relations.proofs.SpelledLemmas.{target_of}
 use Rattle.bn_reply_circuits.specs.MirrorLaws.{BoardsComeBack}
 
 module _ (p : Program) (word : List ℕ) (l : Limits) (f : Flat) (flat : IsFlatOf p word l f) (v : Version) (s : Spelling)

@@ -16,8 +16,8 @@ use Rattle.bn_reply.specs.Codes.{IsReplyStatus}
 use Rattle.bn_reply.proofs.SettledLemmas.{agree}
 use Rattle.bn_reply.specs.declared.status.Status.{Status}
 use Rattle.bn_reply.specs.declared.status.Status.TheVariants.{Done, Text}
-use Rattle.bn_reply_laws.specs.CircuitReply.{Misspelled, fault_text}
-use Rattle.bn_reply_laws.proofs.SettledLemmas.{one_fault, not_done}
+use Rattle.bn_reply_relations.specs.CircuitReply.{Misspelled, fault_text}
+use Rattle.bn_reply_relations.proofs.SettledLemmas.{one_fault, not_done}
 use Rattle.bn_reply_circuits.specs.MirrorReply.{Mirrored, MirrorIsSettled, MirrorReplies, mirrored, misspelled}
 use Rattle.bn_reply_circuits.specs.MirrorLaws.{IsUncounted, MirroredTextsComeBack}
 

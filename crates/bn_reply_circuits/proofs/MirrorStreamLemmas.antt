@@ -1,7 +1,7 @@
 -- How `mirror` ends over a source and a sink.
 use Rattle.std.specs.Prelude.{◌≡◌, ℕ, List, [], Option, refl}
 use Rattle.bn_circuits.specs.declared.place.Place.{Place}
-use Rattle.bn_net.proofs.WalkLemmas.{hears-nothing}
+use Rattle.bn_circuits.proofs.WalkLemmas.{hears-nothing}
 use Rattle.bn_netlist_laws.specs.Spelling.{Admits, IsTextOf, Spelled}
 use Rattle.bn_netlist_laws.proofs.EntryLemmas.{has-text}
 use Rattle.bn_netlist.specs.NetText.{spelling_of}
@@ -13,7 +13,7 @@ use Rattle.bn_reply.specs.Streams.{AnswerEnds}
 use Rattle.bn_reply.specs.declared.status.Status.{Status}
 use Rattle.bn_reply.specs.declared.status.Status.TheVariants as statuses
 use Rattle.bn_reply.proofs.ReplyLemmas.{text_ends}
-use Rattle.bn_reply_laws.specs.CircuitReply.{Misspelled}
+use Rattle.bn_reply_relations.specs.CircuitReply.{Misspelled}
 use Rattle.bn_reply_circuits.specs.MirrorReply.{MirrorReplies, mirrored, misspelled}
 
 pub mirror_refuses : (bytes text : List ℕ) → Misspelled bytes text → MirrorReplies bytes statuses.Text text []

@@ -7,22 +7,22 @@ use Rattle.bn_circuits.specs.Circuits.{target, same_line, inputs_of, outputs_of}
 use Rattle.bn_circuits.specs.declared.line.Wire.{Wire}
 use Rattle.bn_circuits.specs.declared.place.Place.{Place}
 use Rattle.bn_element.specs.Rotary.{rotary}
-use Rattle.bn_net.proofs.WireListLemmas.{line_tells}
+use Rattle.bn_circuits.proofs.WireListLemmas.{line_tells}
 use Rattle.bn_netlist_laws.specs.Faults.{Fault, IsFirstFault}
-use Rattle.bn_net.specs.declared.net.TheConstants.{MOST_ELEMENTS}
+use Rattle.bn_circuits.specs.declared.net.TheConstants.{MOST_ELEMENTS}
 use Rattle.bn_netlist_laws.specs.Spelling.{Spelling, Admits, Spelled, circuit_of, most_elements}
 use Rattle.bn_netlist_laws.specs.declared.version.Version.{Version}
 use Rattle.bn_netlist_laws.proofs.AdmittedLemmas.{most_small}
 use Rattle.bn_netlist_laws.proofs.TextLemmas.{spellings-agree, faulty_texts-spell-nothing}
 use Rattle.bn_netlist_laws.proofs.DecideLemmas.{texts-spell-or-fault}
-use Rattle.bn_reply_laws.proofs.SettledLemmas.{one_fault}
+use Rattle.bn_reply_relations.proofs.SettledLemmas.{one_fault}
 use Rattle.bn_plan.specs.Lists.{Pairwise}
 use Rattle.bn_lists.specs.Lists.{Has}
 use Rattle.bn_plan.specs.Wires.{AreRotary, AreWiresOf}
 use Rattle.bn_plan.proofs.ListLemmas.{in_filter, filter_in, pairwise_filter}
 use Rattle.bn_plan.proofs.CircuitLemmas.{circuits_are_rotary}
 use Rattle.bn_plan.proofs.FloorLemmas.{floor_exists, floor_once}
-use Rattle.bn_reply_laws.specs.CircuitReply.{Misspelled, fault_text}
+use Rattle.bn_reply_relations.specs.CircuitReply.{Misspelled, fault_text}
 use Rattle.bn_reply.specs.Answering.{HasAnswer, IsOneAnswer}
 use Rattle.bn_reply.specs.Codes.{IsReplyStatus}
 use Rattle.bn_reply.specs.declared.reply.Reply.{Reply}

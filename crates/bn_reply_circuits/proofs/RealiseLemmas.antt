@@ -7,7 +7,7 @@ use Rattle.bn_circuits.specs.Circuits.{target}
 use Rattle.bn_circuits.specs.declared.line.Line.{Line}
 use Rattle.bn_netlist_laws.specs.Spelling.{Admits, IsTextOf, Spelling, Spelled}
 use Rattle.bn_netlist_laws.specs.declared.version.Version.TheVariants.{Two}
-use Rattle.bn_net.specs.declared.net.TheConstants.{MOST_ELEMENTS}
+use Rattle.bn_circuits.specs.declared.net.TheConstants.{MOST_ELEMENTS}
 use Rattle.bn_csv.specs.Entries.{entries_of}
 use Rattle.bn_rsm.proofs.SoundLemmas.{refusal_once, sound-or-refused, sound-refusal}
 use Rattle.bn_rsm.specs.Faults as moves
@@ -15,12 +15,12 @@ use Rattle.bn_rsm.specs.Machines.{Machine}
 use Rattle.bn_rsm.specs.declared.rsm_move.RsmMove.{RsmMove}
 use Rattle.bn_rsm.specs.declared.refusal.RsmRefusal.{RsmRefusal}
 use Rattle.bn_rsm.specs.declared.refusal.RsmRefusal.TheVariants as clash
-use Rattle.bn_rsmtable.specs.Entry.{AreReadAs, lines_named, states_named}
-use Rattle.bn_rsmtable.specs.Faults.{move_table_fault}
-use Rattle.bn_rsmtable.specs.Reading.{MovesClash, IsMoveTableRefusal, ReadsMoves}
-use Rattle.bn_rsmtable.proofs.ReadingLaws.{machine_or_refusal, no_fault_of, one_machine, one_reading}
-use Rattle.bn_rsmtable.specs.declared.refusal.RsmTableRefusal.{RsmTableRefusal}
-use Rattle.bn_rsmtable.specs.declared.refusal.RsmTableRefusal.TheVariants as faults
+use Rattle.bn_rsm.specs.Entry.{AreReadAs, lines_named, states_named}
+use Rattle.bn_rsm.specs.TableFaults.{move_table_fault}
+use Rattle.bn_rsm.specs.Reading.{MovesClash, IsMoveTableRefusal, ReadsMoves}
+use Rattle.bn_rsm.proofs.ReadingLaws.{machine_or_refusal, no_fault_of, one_machine, one_reading}
+use Rattle.bn_rsm.specs.declared.table_refusal.RsmTableRefusal.{RsmTableRefusal}
+use Rattle.bn_rsm.specs.declared.table_refusal.RsmTableRefusal.TheVariants as faults
 use Rattle.bn_realise.specs.BankNets.{bank_elements}
 use Rattle.bn_reply_circuits.specs.RealiseReply.{BankReplies, lacking, large, bank, IsBankSpelling, IsPlaceOf}
 use Rattle.bn_reply_circuits.specs.RealiseReply.{LacksPlace, no_line, no_state, RealiseReplies, faulty}

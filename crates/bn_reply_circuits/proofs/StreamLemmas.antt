@@ -6,7 +6,7 @@ use Rattle.bn_packed.specs.declared.direction.Direction.{Direction}
 use Rattle.bn_io.specs.Faults.{CountsUnless, Rose, StaysUnless}
 use Rattle.bn_io.specs.Told.{ReadsWithin}
 use Rattle.bn_lists.specs.declared.memory.NoMemory.{NoMemory as WantOfMemory}
-use Rattle.bn_net.proofs.WalkLemmas.{hears-nothing}
+use Rattle.bn_circuits.proofs.WalkLemmas.{hears-nothing}
 use Rattle.bn_netlist.specs.FromText.{IsFromRefusal, HasWhole, Ends}
 use Rattle.bn_netlist.specs.declared.refusal.FromRefusal.{FromRefusal}
 use Rattle.bn_netlist.specs.declared.refusal.FromRefusal.TheVariants as reading
@@ -31,8 +31,8 @@ use Rattle.bn_reply_circuits.specs.PlanReply.{PlanReplies}
 use Rattle.bn_reply_circuits.specs.PlanReply as plans
 use Rattle.bn_reply_circuits.specs.Refused.{IsRefused, UnreadEnds}
 use Rattle.bn_reply_circuits.specs.Walking.{WalkReplies}
-use Rattle.bn_reply_laws.specs.CircuitReply.{Misspelled, misspelled}
-use Rattle.bn_reply_laws.specs.MigrateReply.{MigrateReplies, faulty}
+use Rattle.bn_reply_relations.specs.CircuitReply.{Misspelled, misspelled}
+use Rattle.bn_reply_relations.specs.MigrateReply.{MigrateReplies, faulty}
 use Rattle.bn_reply_circuits.proofs.CircuitLemmas.{migrate_read, wrong}
 
 text_not_too_long : {T : Type 0} (r : NetlistRefusal) → IsErrOf {T = T} {E = FromRefusal} (Err (reading.Text r))

@@ -4,9 +4,9 @@
 use Rattle.std.specs.Prelude.{◌≡◌, ◌≢◌, ℕ, suc, ◌+◌, ◌<◌, ◌≤◌, List, [], ◌∷◌, ◌++◌, length, codes, decimal}
 use Rattle.bn_lists.specs.Lists.{IsFirstWith}
 use Rattle.bn_circuits.specs.declared.place.Place.{Place}
-use Rattle.bn_net.specs.declared.net.TheConstants.{MOST_ELEMENTS}
+use Rattle.bn_circuits.specs.declared.net.TheConstants.{MOST_ELEMENTS}
 use Rattle.bn_netlist_laws.specs.Faults.{Fault, IsFirstFault}
-use Rattle.bn_reply_laws.specs.CircuitReply.{fault_name}
+use Rattle.bn_reply_relations.specs.CircuitReply.{fault_name}
 use Rattle.bn_reply.specs.Answering.{IsSettled}
 use Rattle.bn_base.specs.Cuts.{IsUncut}
 use Rattle.bn_reply.specs.Lines.{line}

@@ -1,4 +1,4 @@
--- The laws of this crate, a named field each. `Laws` is the contract of `circuit_command_laws`.
+-- The laws of this crate, a named field each. `Laws` is the contract of `reply_circuits_laws`.
 use Rattle.bn_reply_circuits.specs.FarmReply.{FarmIsSettled, FarmsComeBack}
 use Rattle.bn_reply_circuits.specs.MirrorLaws.{MirroredTextsComeBack, BoardsComeBack}
 use Rattle.bn_reply_circuits.specs.MirrorReply.{MirrorIsSettled}

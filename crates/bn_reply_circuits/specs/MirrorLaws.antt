@@ -8,12 +8,12 @@ use Rattle.bn_netlist_laws.specs.Spelling.{Spelling, Admits, IsTextOf, Spelled, 
 use Rattle.bn_netlist_laws.specs.declared.version.Version.{Version}
 use Rattle.bn_mirror.specs.Mirror.{IsMirror}
 use Rattle.bn_mirror.specs.Laws.{ComesBack}
-use Rattle.bn_board_spec.specs.Flats.{Flat, IsFlatOf, IsAccepted}
-use Rattle.bn_board_spec.specs.Costs.{HasCost}
+use Rattle.bn_boards.specs.Flats.{Flat, IsFlatOf, IsAccepted}
+use Rattle.bn_boards.specs.Costs.{HasCost}
 use Rattle.bn_reply.specs.declared.status.Status.{Status}
 use Rattle.bn_reply.specs.declared.status.Status.TheVariants.{Done}
-use Rattle.bn_reply_laws.specs.CompileReply.{IsFlatSpelling}
-use Rattle.bn_reply_laws.specs.RunReply.{board_after}
+use Rattle.bn_reply_relations.specs.CompileReply.{IsFlatSpelling}
+use Rattle.bn_reply_relations.specs.RunReply.{board_after}
 use Rattle.bn_reply_circuits.specs.MirrorReply.{MirrorReplies}
 
 -- The bytes spell a configuration, and the text is that of the same in the same version with no steps counted.

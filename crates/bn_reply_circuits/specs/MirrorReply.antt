@@ -8,7 +8,7 @@ use Rattle.bn_mirror.specs.Mirror.{IsMirror}
 use Rattle.bn_reply.specs.Answering.{IsSettled}
 use Rattle.bn_reply.specs.declared.status.Status.{Status}
 use Rattle.bn_reply.specs.declared.status.Status.TheVariants.{Done, Text}
-use Rattle.bn_reply_laws.specs.CircuitReply.{Misspelled}
+use Rattle.bn_reply_relations.specs.CircuitReply.{Misspelled}
 
 -- The bytes spell a configuration, in either version, and the text is that of its mirror in the same version.
 pub record Mirrored (bytes text : List ℕ) : Type 0 where

@@ -9,7 +9,7 @@ use Rattle.bn_netlist_laws.specs.declared.version.Version.{Version}
 use Rattle.bn_plan.specs.declared.tracked.Tracked.{Tracked}
 use Rattle.bn_plan.specs.Wires.{AreWiresOf}
 use Rattle.bn_plan.specs.Plans.{FloorPlan, IsFloorPlan}
-use Rattle.bn_reply_laws.specs.CircuitReply.{Misspelled}
+use Rattle.bn_reply_relations.specs.CircuitReply.{Misspelled}
 use Rattle.bn_reply.specs.Answering.{IsSettled}
 use Rattle.bn_reply.specs.Lines.{line}
 use Rattle.bn_reply.specs.declared.status.Status.{Status}

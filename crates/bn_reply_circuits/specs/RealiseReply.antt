@@ -6,16 +6,16 @@ use Rattle.bn_circuits.specs.Circuits.{target}
 use Rattle.bn_circuits.specs.declared.line.Line.{Line}
 use Rattle.bn_netlist_laws.specs.Spelling.{Spelling, Spelled}
 use Rattle.bn_netlist_laws.specs.declared.version.Version.TheVariants.{Two}
-use Rattle.bn_net.specs.declared.net.TheConstants.{MOST_ELEMENTS}
+use Rattle.bn_circuits.specs.declared.net.TheConstants.{MOST_ELEMENTS}
 use Rattle.bn_csv.specs.Entries.{entries_of}
 use Rattle.bn_rsm.specs.Machines.{Machine, machine_table}
 use Rattle.bn_rsm.specs.declared.refusal.RsmRefusal.{RsmRefusal}
 use Rattle.bn_rsm.specs.declared.refusal.RsmRefusal.TheVariants as clash
-use Rattle.bn_rsmtable.specs.Entry.{AreReadAs}
-use Rattle.bn_rsmtable.specs.Faults.{move_table_fault}
-use Rattle.bn_rsmtable.specs.Reading.{MovesClash, ReadsMoves}
-use Rattle.bn_rsmtable.specs.declared.refusal.RsmTableRefusal.{RsmTableRefusal}
-use Rattle.bn_rsmtable.specs.declared.refusal.RsmTableRefusal.TheVariants as faults
+use Rattle.bn_rsm.specs.Entry.{AreReadAs}
+use Rattle.bn_rsm.specs.TableFaults.{move_table_fault}
+use Rattle.bn_rsm.specs.Reading.{MovesClash, ReadsMoves}
+use Rattle.bn_rsm.specs.declared.table_refusal.RsmTableRefusal.{RsmTableRefusal}
+use Rattle.bn_rsm.specs.declared.table_refusal.RsmTableRefusal.TheVariants as faults
 use Rattle.bn_realise.specs.Banks.{IsBankWire, exit_after, bank_input_line}
 use Rattle.bn_realise.specs.BankNets.{bank_elements, start_at}
 use Rattle.bn_circuits.specs.declared.place.Place.{Place}

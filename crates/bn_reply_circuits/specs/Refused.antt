@@ -10,9 +10,9 @@ use Rattle.bn_netlist.specs.declared.line_refusal.NetlistRefusal.TheVariants.{Sy
 use Rattle.bn_netlist.specs.declared.line_refusal.NetlistRefusal.TheVariants.{StartFed, EndWired, LeftWired, TooMany}
 use Rattle.bn_netlist.specs.declared.line_refusal.NetlistRefusal.TheVariants.{Spelling, NoMemory}
 use Rattle.bn_rsm.specs.declared.refusal.RsmRefusal.TheVariants as clash
-use Rattle.bn_rsmtable.specs.declared.refusal.RsmTableRefusal.{RsmTableRefusal}
-use Rattle.bn_rsmtable.specs.declared.refusal.RsmTableRefusal.TheVariants as faults
-use Rattle.bn_reply_laws.specs.CircuitReply.{fault_text}
+use Rattle.bn_rsm.specs.declared.table_refusal.RsmTableRefusal.{RsmTableRefusal}
+use Rattle.bn_rsm.specs.declared.table_refusal.RsmTableRefusal.TheVariants as faults
+use Rattle.bn_reply_relations.specs.CircuitReply.{fault_text}
 use Rattle.bn_reply_circuits.specs.RealiseReply.{clash_line, rsm_fault_line}
 use Rattle.bn_reply.specs.Ends.{Finishes, FinishesReply}
 use Rattle.bn_reply.specs.Streams.{read_fault_text, size_text}

@@ -5,7 +5,7 @@ use Rattle.bn_netlist_laws.specs.Spelling.{Spelling, circuit_of, moved_to}
 use Rattle.bn_packed.specs.Running.{run_along, places_along}
 use Rattle.bn_packed.specs.declared.direction.Direction.{Direction}
 use Rattle.bn_reply.specs.declared.status.Status.{Status}
-use Rattle.bn_reply_laws.specs.CircuitReply.{CircuitReplies}
+use Rattle.bn_reply_relations.specs.CircuitReply.{CircuitReplies}
 
 -- what the command answers that makes at most e steps in this direction: forward it is `step`, backward `back`
 abbrev pub WalkReplies : Direction → ℕ → List ℕ → Status → List ℕ → List Place → Type 0

@@ -2,6 +2,6 @@
 ghost use Rattle.bn_reply_circuits.specs.Laws.{Laws};
 
 /// The laws of this crate, a named field each.
-pub fn circuit_command_laws()
+pub fn reply_circuits_laws()
     ensures { Laws }
 {}

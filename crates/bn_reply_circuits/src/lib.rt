@@ -16,7 +16,7 @@ mod walk;
 
 pub use config::{give_config, refuse_input};
 pub use farm::reply_farm;
-pub use laws::circuit_command_laws;
+pub use laws::reply_circuits_laws;
 pub use migrate::answer_migrate;
 pub use mirror::answer_mirror;
 pub use plan::answer_plan;

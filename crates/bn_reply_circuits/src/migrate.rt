@@ -4,7 +4,7 @@ ghost use Rattle.std.specs.Prelude.{Option, List};
 ghost use Rattle.bn_circuits.specs.declared.place.Place.{Place};
 ghost use Rattle.bn_reply.specs.Outside.{outside};
 ghost use Rattle.bn_reply.specs.Streams.{StreamEnds};
-ghost use Rattle.bn_reply_laws.specs.MigrateReply.{MigrateReplies};
+ghost use Rattle.bn_reply_relations.specs.MigrateReply.{MigrateReplies};
 
 use crate::config::{give_config, refuse_input};
 use bn_io::{Input, Sink};

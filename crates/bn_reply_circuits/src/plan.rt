@@ -8,9 +8,9 @@ ghost use Rattle.bn_reply_circuits.specs.PlanReply.{PlanReplies, TellsPlan};
 
 use crate::config::refuse_input;
 use crate::plan_text::plan_text;
+use bn_circuits::{MOST_ELEMENTS, Net};
 use bn_element::Rotary;
 use bn_io::{Input, Sink};
-use bn_net::{MOST_ELEMENTS, Net};
 use bn_netlist::{NetConfig, read_text};
 use bn_plan::plan;
 use bn_reply::{MOST_INPUT_BYTES, NoMemory, Reply, Status, give_reply};

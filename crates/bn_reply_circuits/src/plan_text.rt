@@ -9,8 +9,8 @@ ghost use Rattle.bn_plan.specs.Wires.{HasFourLines};
 ghost use Rattle.bn_reply_circuits.specs.PlanReply.{plan_text, wire_line, wire_lines};
 
 use bn_base::push_u64;
+use bn_circuits::Line;
 use bn_element::{EAST, NORTH, SOUTH};
-use bn_net::Line;
 use bn_plan::{Plan, Tracked};
 use bn_reply::NoMemory;
 use std::alloc::Global;

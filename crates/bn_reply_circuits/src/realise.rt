@@ -12,14 +12,13 @@ ghost use Rattle.bn_reply_circuits.specs.RealiseReply.{BankReplies, RealiseRepli
 ghost use Rattle.bn_reply_circuits.specs.Unwritten.{IsBankConfig, WillReply};
 
 use crate::unwritten::Unwritten;
+use bn_circuits::{Line, MOST_ELEMENTS};
 use bn_element::{EAST, Element, WEST};
 use bn_io::Sink;
-use bn_net::{Line, MOST_ELEMENTS};
 use bn_netlist::{NetConfig, Version};
 use bn_realise::{Bank, BankRefusal, bank};
 use bn_reply::{NoMemory, Reply, Status, empty_text, field_text, record_text};
-use bn_rsm::Rsm;
-use bn_rsmtable::{RsmTableRefusal, read_rsm};
+use bn_rsm::{Rsm, RsmTableRefusal, read_rsm};
 use std::alloc::Global;
 
 /// Answers `realise` to a state, an input line, both counted from 1, and some bytes: whether they are the table of a

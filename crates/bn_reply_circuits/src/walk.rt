@@ -1,16 +1,16 @@
 //! The commands `step` and `back`.
 
 ghost use Rattle.std.specs.Prelude.{◌≡◌};
-ghost use Rattle.bn_net.specs.Watching.{Hears};
+ghost use Rattle.bn_circuits.specs.Watching.{Hears};
 ghost use Rattle.bn_netlist.specs.PackedText.{spelling_of_packed};
 ghost use Rattle.bn_reply.specs.Outside.{outside};
 ghost use Rattle.bn_reply.specs.Streams.{StreamEnds};
 ghost use Rattle.bn_reply_circuits.specs.Walking.{WalkReplies, walked_places, walked_to};
-ghost use Rattle.bn_reply_laws.specs.CircuitReply.{BackReplies, StepReplies};
+ghost use Rattle.bn_reply_relations.specs.CircuitReply.{BackReplies, StepReplies};
 
 use crate::config::{give_config, refuse_input};
+use bn_circuits::Watch;
 use bn_io::{Input, Sink};
-use bn_net::Watch;
 use bn_netlist::{PackedConfig, read_text};
 use bn_packed::Direction;
 use bn_reply::{MOST_INPUT_BYTES, Status};

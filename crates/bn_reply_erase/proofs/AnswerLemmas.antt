@@ -4,9 +4,9 @@ use Rattle.std.proofs.Common.{sym, subst, ◌∙◌, arith, get_or}
 use Rattle.bn_circuits.specs.declared.place.Place.{Place}
 use Rattle.bn_machine.specs.Machine.{Program}
 use Rattle.bn_bennett_laws.specs.Stages.{IsSpelledBy}
-use Rattle.bn_standard.specs.Standard.{IsStandard}
-use Rattle.bn_standard.specs.Verdict.{IsStandardRefusal}
-use Rattle.bn_standard.specs.declared.why.Why.{Why}
+use Rattle.bn_machine.specs.Standard.{IsStandard}
+use Rattle.bn_machine.specs.Verdict.{IsStandardRefusal}
+use Rattle.bn_machine.specs.declared.why.Why.{Why}
 use Rattle.bn_table.specs.Reading.{Reads}
 use Rattle.bn_table.specs.Rows.{Named}
 use Rattle.bn_erase_laws.specs.Erasing.{IsWord}

@@ -7,7 +7,7 @@ use Rattle.bn_csv.specs.Lines.{lines_of}
 use Rattle.bn_quad.specs.Names.{Naming}
 use Rattle.bn_qtable.specs.Rows.{quadruple_rows_by}
 use Rattle.bn_bennett_laws.specs.declared.name.Name.TheVariants.{GoRight}
-use Rattle.bn_reply_tables.proofs.BennettLemmas.{rows_named}
+use Rattle.bn_reply_machines.proofs.BennettLemmas.{rows_named}
 use Rattle.bn_erase_laws.specs.declared.name.ErasingName.TheVariants.{First}
 use Rattle.bn_erase.specs.Joint.{Joint}
 use Rattle.bn_erase.specs.Made.{Erasure, IsErasing, name_of}

@@ -2,7 +2,7 @@
 use Rattle.std.specs.Prelude.{ℕ, ℤ, List}
 use Rattle.bn_machine.specs.Window.{Windowed, with_tape}
 use Rattle.bn_erase_laws.specs.Outcome.{rewound}
-use Rattle.bn_reply_tables.proofs.OutputLemmas.{HasRead}
+use Rattle.bn_reply_machines.proofs.OutputLemmas.{HasRead}
 
 -- the window with its head at 0
 abbrev pub from_start : Windowed → Windowed

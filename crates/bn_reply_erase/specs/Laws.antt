@@ -3,7 +3,7 @@ use Rattle.std.specs.Prelude.{◌≡◌, ℕ, ◌+◌, ◌*◌, ◌≤◌, List,
 use Rattle.bn_circuits.specs.declared.place.Place.{Place}
 use Rattle.bn_table.specs.Reading.{Reads}
 use Rattle.bn_table.specs.Rows.{Named}
-use Rattle.bn_standard.specs.Standard.{IsStandard}
+use Rattle.bn_machine.specs.Standard.{IsStandard}
 use Rattle.bn_bennett_laws.specs.Laws.{HaltsAfter}
 use Rattle.bn_erase.specs.Joint.{joined}
 use Rattle.bn_erase.specs.declared.erasing.TheConstants.{MOST_QUADRUPLES}

@@ -2,6 +2,6 @@
 ghost use Rattle.bn_reply_erase.specs.Laws.{Laws};
 
 /// Laws on what `erase` and `erase =W n` answer, a named field each.
-pub fn erase_reply_laws()
+pub fn reply_erase_laws()
     ensures { Laws }
 {}

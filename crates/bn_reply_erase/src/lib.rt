@@ -9,4 +9,4 @@ mod pair;
 mod run;
 
 pub use erase::{reply_erase, reply_erase_run};
-pub use laws::erase_reply_laws;
+pub use laws::reply_erase_laws;

@@ -11,7 +11,7 @@ use bn_erase::Erasing;
 use bn_machine::{Tape, TapeRefusal};
 use bn_quad::{IndexedMachine, QuadTurn, Tapes};
 use bn_reply::NoMemory;
-use bn_reply_tables::letter_at;
+use bn_reply_machines::letter_at;
 use std::alloc::Global;
 
 /// How a run comes out.

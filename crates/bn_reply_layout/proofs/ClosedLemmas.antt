@@ -1,7 +1,7 @@
 -- The law on what `layout` answers with the laws below it put in, for the crate above that cites it as it is.
 use Rattle.bn_table.proofs.MachineLemmas.{tables_machines}
-use Rattle.bn_board_laws.proofs.ClosedLemmas.{flats_one, flats_there}
-use Rattle.bn_reply_laws.proofs.ClosedLemmas.{counted}
+use Rattle.bn_boards.proofs.ClosedLemmas.{flats_one, flats_there}
+use Rattle.bn_reply_relations.proofs.ClosedLemmas.{counted}
 use Rattle.bn_reply_layout.proofs.SettledLemmas.{layout_settled}
 use Rattle.bn_reply_layout.specs.LayoutReply.{LayoutIsSettled}
 

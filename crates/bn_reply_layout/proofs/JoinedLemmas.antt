@@ -5,11 +5,11 @@ use Rattle.std.proofs.Common.{arith, sym, ap, ◌∙◌}
 use Rattle.std.proofs.lemmas.Grind.{flat_map-append}
 use Rattle.bn_machine.specs.Outcome.{Limits}
 use Rattle.bn_network.specs.Networks.{cell_size, cells_in, first_cell}
-use Rattle.bn_board_spec.specs.Layouts.{Layout, elements_of, first_element, lines_at}
+use Rattle.bn_boards.specs.Layouts.{Layout, elements_of, first_element, lines_at}
 use Rattle.bn_reply.proofs.PieceLemmas.{two_pieces, three_pieces}
 use Rattle.bn_reply_layout.specs.declared.bank.Bank.{Bank}
 use Rattle.bn_reply_layout.specs.Modules.{control_bank, modules_of, shape, tape_banks}
-use Rattle.bn_reply_laws.specs.RunText.{elements_line}
+use Rattle.bn_reply_relations.specs.RunText.{elements_line}
 use Rattle.bn_reply_layout.specs.ModuleText.{module_line, module_lines, modules_line}
 use Rattle.bn_reply_layout.proofs.ModuleLemmas.{module_count}
 

@@ -1,9 +1,9 @@
 -- The laws of this crate that follow from those of the crates below it, each proved.
 use Rattle.bn_bennett.proofs.LawLemmas.{translations_are_uniform}
-use Rattle.bn_board_laws.proofs.LawLemmas.{flats_are_there}
-use Rattle.bn_board_spec.proofs.LawLemmas.{flats_are_one}
+use Rattle.bn_boards.proofs.BoardLawLemmas.{flats_are_there}
+use Rattle.bn_boards.proofs.LayoutLawLemmas.{flats_are_one}
 use Rattle.bn_network.proofs.ExistingLemmas.{have-entries}
-use Rattle.bn_reply_laws.proofs.LawLemmas.{boards_are_counted}
+use Rattle.bn_reply_relations.proofs.LawLemmas.{boards_are_counted}
 use Rattle.bn_reply_layout.proofs.PlaceLemmas.{modules-named, elements-found}
 use Rattle.bn_reply_layout.proofs.SettledLemmas.{layout_settled}
 use Rattle.bn_reply_layout.specs.LayoutReply.{LayoutIsSettled}

@@ -6,7 +6,7 @@ use Rattle.std.proofs.lemmas.Bool.{cases_lt}
 use Rattle.std.proofs.lemmas.Option.{slice_get_within}
 use Rattle.std.proofs.lemmas.List.FromFn.{length-map-range_with_len}
 use Rattle.bn_network.specs.Networks.{IsTape, cells_in, first_cell, left_of}
-use Rattle.bn_board_spec.specs.Layouts.{Layout, first_element, symbol_count_at}
+use Rattle.bn_boards.specs.Layouts.{Layout, first_element, symbol_count_at}
 use Rattle.bn_reply_layout.specs.declared.bank.Bank.{Bank}
 use Rattle.bn_reply_layout.specs.Modules.{cell_bank, control_bank, modules_of, tape_banks}
 

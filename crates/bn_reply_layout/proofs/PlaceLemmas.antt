@@ -15,12 +15,12 @@ use Rattle.bn_network.specs.Cells.{cell_line_count, cell_table}
 use Rattle.bn_network.specs.Controls.{lines_before, symbol_count}
 use Rattle.bn_network.specs.ControlLaws.{StatesHaveEntries}
 use Rattle.bn_network.specs.Networks.{IsTape, cell_size, cells_in, first_cell}
-use Rattle.bn_board_spec.specs.Boards.{base}
-use Rattle.bn_board_spec.specs.Flats.{Flat, IsAccepted, IsFlatOf, machine_of}
-use Rattle.bn_board_spec.specs.Layouts.{cell_element, lines_at, symbol_count_at}
-use Rattle.bn_board_spec.proofs.LetterLemmas.{letters_are}
-use Rattle.bn_board_spec.proofs.ModuleLemmas.{place_once}
-use Rattle.bn_board_spec.proofs.ReadingLemmas.{flat-Readings, own_accepted, own_flat}
+use Rattle.bn_boards.specs.Boards.{base}
+use Rattle.bn_boards.specs.Flats.{Flat, IsAccepted, IsFlatOf, machine_of}
+use Rattle.bn_boards.specs.Layouts.{cell_element, lines_at, symbol_count_at}
+use Rattle.bn_boards.proofs.LetterLemmas.{letters_are}
+use Rattle.bn_boards.proofs.ModuleLemmas.{place_once}
+use Rattle.bn_boards.proofs.ReadingLemmas.{flat-reads, own_accepted, own_flat}
 use Rattle.bn_board.specs.Locations.{IsLocated, IsInputLine, left, in_control, in_cell}
 use Rattle.bn_board.specs.declared.located.Located.{Located}
 use Rattle.bn_reply_layout.specs.declared.bank.Bank.{Bank}
@@ -72,7 +72,7 @@ module _ (uniform : TranslationsAreUniform) (entries : StatesHaveEntries) (p : P
       → IsBankOf f (first_cell f.layout.limits t + q) (bank_at f.layout t q)
   cell_is t q tape low =
       let own = own_flat p word l f flat in
-      let read = (flat-Readings uniform entries p f own (own_accepted p word l f flat accepted)).1 in
+      let read = (flat-reads p f own (own_accepted p word l f flat accepted)).1 in
       let limits : f.layout.limits ≡ f.limits = own.is_layout.limits in
       let few : q < cells_in f.limits t = subst (λ x. q < cells_in x t) limits low in
       let letters : symbol_count_at f.layout t ≡ symbol_count (machine_of f) t =
@@ -81,9 +81,9 @@ module _ (uniform : TranslationsAreUniform) (entries : StatesHaveEntries) (p : P
         number = refl;
         table = cell_table (symbol_count (machine_of f) t);
         has_table = subst (λ x. slice_get f.network.tables (first_cell x t + q)
-            ≡ Some (cell_table (symbol_count (machine_of f) t))) (sym limits) (read.cell_table_is t q tape few);
+            ≡ Some (cell_table (symbol_count (machine_of f) t))) (sym limits) (read.cell_tables t q tape few);
         first = sym (subst (λ x. base f.network.tables (first_cell x t + q) ≡ cell_element f.layout t q) (sym limits)
-            (read.cell_base_is t q tape few));
+            (read.cell_bases t q tape few));
         columns = ap (λ z. 2 * z) letters;
         lines = ap cell_line_count letters;
       }

@@ -4,18 +4,18 @@ use Rattle.std.proofs.Common.{sym, subst, ◌∙◌}
 use Rattle.bn_circuits.specs.declared.place.Place.{Place}
 use Rattle.bn_table.specs.Laws.{TablesAreMachines}
 use Rattle.bn_table.specs.Rows.{Named}
-use Rattle.bn_board_laws.specs.ExistenceLaws.{FlatsAreThere}
-use Rattle.bn_board_spec.specs.Flats.{Flat}
-use Rattle.bn_board_spec.specs.LayoutLaws.{FlatsAreOne}
+use Rattle.bn_boards.specs.ExistenceLaws.{FlatsAreThere}
+use Rattle.bn_boards.specs.Flats.{Flat}
+use Rattle.bn_boards.specs.LayoutLaws.{FlatsAreOne}
 use Rattle.bn_reply.specs.Answering.{AgreeInAll, HasAnswer}
 use Rattle.bn_reply.specs.Codes.{IsReplyStatus}
 use Rattle.bn_reply.specs.declared.status.Status.{Status}
 use Rattle.bn_reply.specs.declared.status.Status.TheVariants as statuses
-use Rattle.bn_reply_laws.specs.ToldRuns.{IsGiven}
-use Rattle.bn_reply_laws.specs.Laws.{BoardsAreCounted}
-use Rattle.bn_reply_laws.specs.Windows.{ComesTo}
-use Rattle.bn_reply_laws.proofs.TellingLemmas.{same_boards}
-use Rattle.bn_reply_laws.proofs.WindowLemmas.{window_settled}
+use Rattle.bn_reply_relations.specs.ToldRuns.{IsGiven}
+use Rattle.bn_reply_relations.specs.Laws.{BoardsAreCounted}
+use Rattle.bn_reply_relations.specs.Windows.{ComesTo}
+use Rattle.bn_reply_relations.proofs.TellingLemmas.{same_boards}
+use Rattle.bn_reply_relations.proofs.WindowLemmas.{window_settled}
 use Rattle.bn_reply_layout.specs.LayoutText.{layout_text}
 use Rattle.bn_reply_layout.specs.LayoutReply.{TellsLayout, LayoutIsSettled}
 

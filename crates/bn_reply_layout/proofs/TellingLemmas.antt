@@ -3,8 +3,8 @@ use Rattle.std.specs.Prelude.{◌≡◌, ℕ, ◌+◌, List, [], ◌∷◌, ◌+
 use Rattle.std.proofs.Common.{zero, suc, arith, sym, ap, subst, ◌∙◌, append_assoc}
 use Rattle.std.specs.List.{flat_map}
 use Rattle.bn_network.specs.Controls.{ControlState}
-use Rattle.bn_board_spec.specs.Layouts.{elements_of}
-use Rattle.bn_reply_laws.specs.RunText.{elements_line}
+use Rattle.bn_boards.specs.Layouts.{elements_of}
+use Rattle.bn_reply_relations.specs.RunText.{elements_line}
 use Rattle.bn_reply_layout.specs.Modules.{modules_of}
 use Rattle.bn_reply_layout.specs.ModuleText.{module_line, module_lines, modules_line}
 use Rattle.bn_reply_layout.specs.ControlText.{column_line, column_lines, state_names}

@@ -16,9 +16,9 @@ use Rattle.bn_network.proofs.RangeLemmas.{rule_in_range}
 use Rattle.bn_control.specs.declared.name.StateName.{StateName}
 use Rattle.bn_control.specs.declared.name.StateName.TheVariants.{Begin, End, Reads, Shifts, Writes}
 use Rattle.bn_control.specs.Names.{listed, state_of}
-use Rattle.bn_board_spec.specs.Flats.{Flat, IsAccepted}
-use Rattle.bn_board_spec.specs.Layouts.{lines_at}
-use Rattle.bn_board_laws.proofs.ClosedLemmas.{read_off}
+use Rattle.bn_boards.specs.Flats.{Flat, IsAccepted}
+use Rattle.bn_boards.specs.Layouts.{lines_at}
+use Rattle.bn_boards.proofs.ClosedLemmas.{read_off}
 use Rattle.bn_board.specs.Flattened.{Flattened}
 use Rattle.bn_reply_boards.specs.Opened.{IsMade}
 use Rattle.bn_reply_boards.proofs.PieceLemmas.{four_pieces}

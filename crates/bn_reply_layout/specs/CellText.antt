@@ -4,7 +4,7 @@ use Rattle.std.specs.List.{flat_map, range_with_len}
 use Rattle.bn_table.specs.Rows.{Named}
 use Rattle.bn_network.specs.Cells.{CellState, Plain, Head, cell_line, cell_line_count, state_of}
 use Rattle.bn_reply.specs.Lines.{line}
-use Rattle.bn_reply_laws.specs.RunText.{symbol_text}
+use Rattle.bn_reply_relations.specs.RunText.{symbol_text}
 use Rattle.bn_reply_boards.specs.LineNames.{cell_line_text}
 
 -- a state of a cell of this tape

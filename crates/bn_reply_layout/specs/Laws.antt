@@ -1,4 +1,4 @@
--- The laws of this crate, a named field each. `Laws` is the contract of `layout_reply_laws`.
+-- The laws of this crate, a named field each. `Laws` is the contract of `reply_layout_laws`.
 use Rattle.bn_reply_layout.specs.LayoutReply.{LayoutIsSettled}
 use Rattle.bn_reply_layout.specs.PlaceLaws.{ModulesAreNamed, ElementsAreFound, TextsTellAll}
 

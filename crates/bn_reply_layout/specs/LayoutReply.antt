@@ -5,11 +5,11 @@ use Rattle.bn_circuits.specs.declared.place.Place.{Place}
 use Rattle.bn_machine.specs.Outcome.{Limits}
 use Rattle.bn_network.specs.Limits.{AreSmall}
 use Rattle.bn_table.specs.Rows.{Named}
-use Rattle.bn_board_spec.specs.Flats.{Flat}
+use Rattle.bn_boards.specs.Flats.{Flat}
 use Rattle.bn_reply.specs.Answering.{IsSettled}
 use Rattle.bn_reply.specs.declared.status.Status.{Status}
 use Rattle.bn_reply.specs.declared.status.Status.TheVariants.{Done}
-use Rattle.bn_reply_laws.specs.Windows.{WindowReplies}
+use Rattle.bn_reply_relations.specs.Windows.{WindowReplies}
 use Rattle.bn_reply_layout.specs.LayoutText.{layout_text}
 
 -- the text is that of the board's layout, with the control's states in their order; and nothing is told

@@ -5,7 +5,7 @@ use Rattle.std.specs.List.{flat_map, range_with_len}
 use Rattle.bn_table.specs.Rows.{Named}
 use Rattle.bn_bennett.specs.Translation.{Translation}
 use Rattle.bn_network.specs.Controls.{ControlState}
-use Rattle.bn_board_spec.specs.Layouts.{Layout, lines_at}
+use Rattle.bn_boards.specs.Layouts.{Layout, lines_at}
 use Rattle.bn_reply_layout.specs.ModuleText.{module_lines}
 use Rattle.bn_reply_layout.specs.ControlText.{column_lines, control_line_line, state_names}
 use Rattle.bn_reply_layout.specs.CellText.{tape_lines}

@@ -1,9 +1,9 @@
 -- The text lines of a board's modules (this project's own profile).
 use Rattle.std.specs.Prelude.{ℕ, List, [], ◌∷◌, ◌++◌, codes, decimal, length}
 use Rattle.std.specs.List.{flat_map}
-use Rattle.bn_board_spec.specs.Layouts.{Layout, elements_of}
+use Rattle.bn_boards.specs.Layouts.{Layout, elements_of}
 use Rattle.bn_reply.specs.Lines.{line, position_text}
-use Rattle.bn_reply_laws.specs.RunText.{elements_line}
+use Rattle.bn_reply_relations.specs.RunText.{elements_line}
 use Rattle.bn_reply_layout.specs.declared.bank.Bank.{Bank}
 use Rattle.bn_reply_layout.specs.declared.bank.ModuleName.{ModuleName}
 use Rattle.bn_reply_layout.specs.declared.bank.ModuleName.TheVariants.{Control, Cell}

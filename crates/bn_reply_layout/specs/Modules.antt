@@ -5,7 +5,7 @@ use Rattle.std.specs.List.{range_with_len}
 use Rattle.bn_machine.specs.Outcome.{Limits}
 use Rattle.bn_network.specs.Cells.{cell_line_count}
 use Rattle.bn_network.specs.Networks.{cells_in, cell_size, first_cell, left_of}
-use Rattle.bn_board_spec.specs.Layouts.{Layout, first_element, lines_at, symbol_count_at}
+use Rattle.bn_boards.specs.Layouts.{Layout, first_element, lines_at, symbol_count_at}
 use Rattle.bn_reply_layout.specs.declared.bank.Bank.{Bank}
 use Rattle.bn_reply_layout.specs.declared.bank.ModuleName.TheVariants.{Control, Cell}
 

@@ -8,8 +8,8 @@ use Rattle.bn_machine.specs.Machine.{Program}
 use Rattle.bn_machine.specs.Outcome.{Limits}
 use Rattle.bn_table.specs.Rows.{Named}
 use Rattle.bn_network.specs.Controls.{ControlState}
-use Rattle.bn_board_spec.specs.Boards.{base, size}
-use Rattle.bn_board_spec.specs.Flats.{Flat, IsAccepted, IsFlatOf}
+use Rattle.bn_boards.specs.Boards.{base, size}
+use Rattle.bn_boards.specs.Flats.{Flat, IsAccepted, IsFlatOf}
 use Rattle.bn_board.specs.Locations.{IsLocated}
 use Rattle.bn_board.specs.declared.located.Located.{Located}
 use Rattle.bn_board.specs.declared.located.Located.TheVariants as located

@@ -4,7 +4,7 @@ ghost use Rattle.std.specs.Prelude.{◌≡◌, ◌≢◌, ◌<◌, ◌≤◌, �
 ghost use Rattle.std.specs.List.{flat_map, range_with_len};
 ghost use Rattle.bn_network.specs.Cells.{cell_line_count, state_of};
 ghost use Rattle.bn_cell.specs.Sizes.{IsCellSize};
-ghost use Rattle.bn_reply_laws.specs.RunText.{number_text, symbol_text};
+ghost use Rattle.bn_reply_relations.specs.RunText.{number_text, symbol_text};
 ghost use Rattle.bn_reply_layout.specs.CellText.{cell_column_line, cell_line_line, cell_lines, cell_state_text};
 
 use bn_base::push_u64;

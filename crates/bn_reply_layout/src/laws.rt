@@ -2,6 +2,6 @@
 ghost use Rattle.bn_reply_layout.specs.Laws.{Laws};
 
 /// The laws of this crate, a named field each.
-pub fn layout_reply_laws()
+pub fn reply_layout_laws()
     ensures { Laws }
 {}

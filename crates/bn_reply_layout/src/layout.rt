@@ -4,13 +4,13 @@ ghost use Rattle.std.specs.Prelude.{◌≡◌, ◌≤◌, List, [], IfOk, Option
 ghost use Rattle.bn_io.specs.Faults.{CountsUnless};
 ghost use Rattle.bn_circuits.specs.declared.place.Place.{Place};
 ghost use Rattle.bn_network.specs.Limits.{AreSmall};
-ghost use Rattle.bn_assembly.specs.Assembled.{limits_of};
+ghost use Rattle.bn_network_assembly.specs.Assembled.{limits_of};
 ghost use Rattle.bn_reply.specs.Streams.{AnswerEnds};
 ghost use Rattle.bn_reply_layout.specs.LayoutReply.{LayoutReplies};
 
 use crate::layout_text::layout_text;
-use bn_assembly::Windows;
 use bn_io::Sink;
+use bn_network_assembly::Windows;
 use bn_reply::{NoMemory, Reply, Status, give_reply};
 use bn_reply_boards::{OpenedInput, open_input};
 use std::alloc::Global;

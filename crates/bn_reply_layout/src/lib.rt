@@ -12,5 +12,5 @@ mod module_text;
 mod sizes;
 
 pub use bank::{Bank, ModuleName};
-pub use laws::layout_reply_laws;
+pub use laws::reply_layout_laws;
 pub use layout::{answer_layout, reply_layout};

@@ -4,15 +4,15 @@ ghost use Rattle.std.specs.Prelude.{◌≡◌, ℕ, ◌+◌, ◌*◌, ◌<◌, �
 ghost use Rattle.std.specs.List.{flat_map};
 ghost use Rattle.bn_network.specs.Limits.{AreSmall};
 ghost use Rattle.bn_network.specs.Networks.{cell_size, cells_in, first_cell};
-ghost use Rattle.bn_assembly.specs.Assembled.{limits_of};
+ghost use Rattle.bn_network_assembly.specs.Assembled.{limits_of};
 ghost use Rattle.bn_reply_layout.specs.Modules.{cell_bank, cell_banks, shape};
 ghost use Rattle.bn_reply_layout.specs.ModuleText.{bank_text, module_line, module_lines, module_text};
 
 use crate::bank::{Bank, ModuleName};
-use bn_assembly::Windows;
 use bn_base::{MOST_COUNT, push_u64};
-use bn_net::MOST_ELEMENTS;
+use bn_circuits::MOST_ELEMENTS;
 use bn_network::MOST_SYMBOLS;
+use bn_network_assembly::Windows;
 use bn_reply::{NoMemory, push, push_counted, push_position};
 
 /// The cells of a tape that are told in a row.

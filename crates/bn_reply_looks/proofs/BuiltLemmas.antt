@@ -6,7 +6,7 @@ use Rattle.bn_circuits.specs.Circuits.{Goes}
 use Rattle.bn_circuits.specs.Stepping.{run}
 use Rattle.bn_circuits.specs.declared.place.Place.{Place}
 use Rattle.bn_circuits.specs.declared.place.Place.TheVariants.{Enter, Left}
-use Rattle.bn_net.specs.RotaryNets.{rotary_circuit}
+use Rattle.bn_circuits.specs.RotaryNets.{rotary_circuit}
 use Rattle.bn_quad.specs.Names.{Naming}
 use Rattle.bn_quad.specs.Quadruples.{Configuration, IsQuadMachine, Quadruples, QuadruplesRunTo, final_state_of}
 use Rattle.bn_quad.specs.Quadruples.{initial_of}
@@ -14,12 +14,12 @@ use Rattle.bn_qtable.specs.Rows.{QuadTable, table_of}
 use Rattle.bn_bennett_laws.specs.Stages.{rooms_of}
 use Rattle.bn_bennett_laws.specs.Steps.{EndsAt, Exit}
 use Rattle.bn_network.specs.Starts.{start_from}
-use Rattle.bn_board_spec.specs.Layouts.{IsLayout, Layout, spelled_by}
+use Rattle.bn_boards.specs.Layouts.{IsLayout, Layout, spelled_by}
 use Rattle.bn_board.specs.Flattened.{Flattened, IsBoardKept, origin}
-use Rattle.bn_build_laws.specs.Builds.{Build, IsStart, start_of}
-use Rattle.bn_build_laws.specs.Runs.{EndsInWindow}
-use Rattle.bn_build_laws.proofs.FitLemmas.{final_fits}
-use Rattle.bn_build_laws.proofs.OnceLemmas.{starts_once}
+use Rattle.bn_boards.specs.Builds.{Build, IsStart, start_of}
+use Rattle.bn_boards.specs.BuildRuns.{EndsInWindow}
+use Rattle.bn_boards.proofs.FitLemmas.{final_fits}
+use Rattle.bn_boards.proofs.OnceLemmas.{starts_once}
 use Rattle.bn_reply_builds.specs.DriveText.{drive_exit_line}
 use Rattle.bn_reply_builds.specs.declared.outcome.Outcome.{Outcome}
 use Rattle.bn_reply_builds.specs.Outcomes.{outcome_by, outcome_line}

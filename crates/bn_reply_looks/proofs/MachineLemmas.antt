@@ -8,10 +8,10 @@ use Rattle.bn_circuits.proofs.RunLemmas.{run-zero, run_makes}
 use Rattle.bn_quad.specs.Quadruples.{Configuration, initial_of}
 use Rattle.bn_qtable.specs.Rows.{QuadTable}
 use Rattle.bn_network.specs.Starts.{start_from}
-use Rattle.bn_board_spec.specs.Layouts.{spelled_by, spelled_config}
-use Rattle.bn_build_laws.specs.Builds.{Build, IsBuild, IsStart, build_elements, start_of}
-use Rattle.bn_build_laws.specs.Runs.{ShowsMoment}
-use Rattle.bn_build_laws.proofs.MomentLemmas.{builds-show}
+use Rattle.bn_boards.specs.Layouts.{spelled_by, spelled_config}
+use Rattle.bn_boards.specs.Builds.{Build, IsBuild, IsStart, build_elements, start_of}
+use Rattle.bn_boards.specs.BuildRuns.{ShowsMoment}
+use Rattle.bn_boards.proofs.BuildMomentLemmas.{builds-show}
 use Rattle.bn_reply_builds.specs.Outcomes.{drive_tape_lines}
 use Rattle.bn_reply_views.specs.ViewText.{element_line, module_line}
 use Rattle.bn_view.specs.Shown.{IsShown, moment, start}

@@ -8,15 +8,15 @@ use Rattle.bn_circuits.specs.Stepping.{run}
 use Rattle.bn_circuits.specs.declared.config.Config.{Config}
 use Rattle.bn_circuits.proofs.RunLemmas.{Reaches-back, back-zero}
 use Rattle.bn_machine.specs.Outcome.{Limits}
-use Rattle.bn_net.specs.RotaryNets.{rotary_circuit}
+use Rattle.bn_circuits.specs.RotaryNets.{rotary_circuit}
 use Rattle.bn_quad.specs.Names.{Naming}
 use Rattle.bn_quad.specs.Quadruples.{Configuration, Quadruples}
 use Rattle.bn_qtable.specs.Rows.{table_of}
 use Rattle.bn_qtable.specs.TapeWords.{TapeWords}
 use Rattle.bn_network.specs.Starts.{start_from, words_on}
-use Rattle.bn_board_spec.specs.Layouts.{moment_at}
+use Rattle.bn_boards.specs.Layouts.{moment_at}
 use Rattle.bn_board.specs.Flattened.{Flattened, IsBoardKept, IsSameBoard, origin, origin_by}
-use Rattle.bn_build_laws.specs.Builds.{Build, IsStart, build_elements, start_of}
+use Rattle.bn_boards.specs.Builds.{Build, IsStart, build_elements, start_of}
 use Rattle.bn_reply.specs.declared.reply.Reply.{Reply}
 use Rattle.bn_reply.specs.declared.status.Status.TheVariants as statuses
 use Rattle.bn_reply_builds.specs.BuildReply.{BuiltReplies, IsBuiltFor}

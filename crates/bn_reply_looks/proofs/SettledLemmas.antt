@@ -16,8 +16,8 @@ use Rattle.bn_quad.specs.Quadruples.{Configuration}
 use Rattle.bn_qtable.specs.Reading.{ReadsQuadruples}
 use Rattle.bn_qtable.specs.Rows.{QuadTable}
 use Rattle.bn_network.specs.Starts.{AreInputs, start_from, words_on}
-use Rattle.bn_board_spec.specs.Layouts.{Layout, moment_at}
-use Rattle.bn_build_laws.specs.Builds.{Build, IsStart, build_elements, start_of}
+use Rattle.bn_boards.specs.Layouts.{Layout, moment_at}
+use Rattle.bn_boards.specs.Builds.{Build, IsStart, build_elements, start_of}
 use Rattle.bn_reply.specs.Answering.{HasAnswer, AgreeInAll}
 use Rattle.bn_reply.specs.Codes.{IsReplyStatus}
 use Rattle.bn_reply.specs.declared.status.Status.{Status}

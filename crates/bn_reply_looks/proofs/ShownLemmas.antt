@@ -15,14 +15,14 @@ use Rattle.bn_qtable.specs.Rows.{QuadTable}
 use Rattle.bn_bennett_laws.specs.Steps.{Exit}
 use Rattle.bn_network.specs.Controls.{symbol_count}
 use Rattle.bn_network.specs.Starts.{start_from}
-use Rattle.bn_board_spec.specs.Boards.{size}
-use Rattle.bn_board_spec.specs.Layouts.{Layout, elements_of, moment_at, spelled_by}
-use Rattle.bn_board_laws.proofs.NetworkReadLemmas.{networks-read}
-use Rattle.bn_build_laws.specs.Builds.{Build, IsBuild, IsStart, build_elements, start_of}
-use Rattle.bn_build_laws.specs.Runs.{EndsInWindow, HasLeft}
-use Rattle.bn_build_laws.proofs.ConverseLemmas.{builds-once}
-use Rattle.bn_build_laws.proofs.LeftLemmas.{builds-left}
-use Rattle.bn_board_spec.proofs.StartingLemmas.{no_letters as none_low}
+use Rattle.bn_boards.specs.Boards.{size}
+use Rattle.bn_boards.specs.Layouts.{Layout, elements_of, moment_at, spelled_by}
+use Rattle.bn_boards.proofs.NetworkReadLemmas.{networks-read}
+use Rattle.bn_boards.specs.Builds.{Build, IsBuild, IsStart, build_elements, start_of}
+use Rattle.bn_boards.specs.BuildRuns.{EndsInWindow, HasLeft}
+use Rattle.bn_boards.proofs.ConverseLemmas.{builds-once}
+use Rattle.bn_boards.proofs.LeftLemmas.{builds-left}
+use Rattle.bn_boards.proofs.StartingLemmas.{no_letters as none_low}
 use Rattle.bn_reply_builds.specs.DriveText.{drive_exit_line}
 use Rattle.bn_view.specs.Modules.{IsModuleAt}
 use Rattle.bn_view.specs.Shown.{IsShown}

@@ -2,15 +2,15 @@
 use Rattle.std.specs.Prelude.{◌≡◌, ℕ, ◌*◌, ◌≤◌, List, [], length}
 use Rattle.bn_circuits.specs.Circuits.{clock}
 use Rattle.bn_circuits.specs.declared.place.Place.TheVariants.{Enter}
-use Rattle.bn_net.specs.RotaryNets.{rotary_circuit}
+use Rattle.bn_circuits.specs.RotaryNets.{rotary_circuit}
 use Rattle.bn_quad.specs.Names.{Naming}
 use Rattle.bn_quad.specs.Quadruples.{Configuration, Quadruples}
 use Rattle.bn_qtable.specs.Rows.{QuadTable, counts_of, table_of}
 use Rattle.bn_bennett_laws.specs.Steps.{Exit}
 use Rattle.bn_network.specs.Starts.{FitsWindow, start_from}
 use Rattle.bn_board.specs.Flattened.{Flattened, origin}
-use Rattle.bn_build_laws.specs.Builds.{Build, IsBuild, IsStart, build_elements, start_of}
-use Rattle.bn_build_laws.specs.Exits.{BoardLeaves}
+use Rattle.bn_boards.specs.Builds.{Build, IsBuild, IsStart, build_elements, start_of}
+use Rattle.bn_boards.specs.Exits.{BoardLeaves}
 use Rattle.bn_reply_builds.specs.DriveText.{drive_exit_line}
 use Rattle.bn_reply_builds.specs.Stopping.{HasFewSymbols}
 use Rattle.bn_reply_looks.specs.Looking.{ShowsBuild}

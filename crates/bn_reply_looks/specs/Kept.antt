@@ -1,6 +1,6 @@
 -- The law of the trait by which a board is shown: its term stands with the clauses, which cite nothing of proofs.
 use Rattle.std.proofs.Common.{sym, ap, ◌∙◌}
-use Rattle.bn_net.specs.RotaryNets.{rotary_circuit}
+use Rattle.bn_circuits.specs.RotaryNets.{rotary_circuit}
 use Rattle.bn_quad.specs.Names.{Naming}
 use Rattle.bn_quad.specs.Quadruples.{Quadruples}
 use Rattle.bn_board.specs.Flattened.{Flattened, IsSameBoard}

@@ -7,8 +7,8 @@ use Rattle.bn_quad.specs.Quadruples.{Configuration, QuadruplesRunTo}
 use Rattle.bn_qtable.specs.Rows.{QuadTable}
 use Rattle.bn_bennett_laws.specs.Stages.{rooms_of}
 use Rattle.bn_network.specs.Starts.{start_from}
-use Rattle.bn_board_spec.specs.Layouts.{spelled_config}
-use Rattle.bn_build_laws.specs.Builds.{Build, IsBuild, IsStart, build_elements, start_of}
+use Rattle.bn_boards.specs.Layouts.{spelled_config}
+use Rattle.bn_boards.specs.Builds.{Build, IsBuild, IsStart, build_elements, start_of}
 use Rattle.bn_reply_builds.specs.Outcomes.{drive_tape_lines}
 use Rattle.bn_reply_looks.specs.LookText.{state_line}
 use Rattle.bn_reply_looks.specs.Looking.{ShowsBuild}

@@ -9,7 +9,7 @@ use Rattle.bn_quad.specs.Quadruples.{Configuration}
 use Rattle.bn_qtable.specs.Rows.{QuadTable}
 use Rattle.bn_qtable.specs.TapeWords.{TapeWords}
 use Rattle.bn_network.specs.Starts.{words_on}
-use Rattle.bn_build_laws.specs.Builds.{Build, start_of}
+use Rattle.bn_boards.specs.Builds.{Build, start_of}
 use Rattle.bn_reply.specs.Answering.{IsSettled}
 use Rattle.bn_reply.specs.declared.status.Status.{Status}
 use Rattle.bn_reply.specs.declared.status.Status.TheVariants.{Done}

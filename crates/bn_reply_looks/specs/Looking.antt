@@ -6,8 +6,8 @@ use Rattle.bn_circuits.specs.declared.place.Place.{Place}
 use Rattle.bn_circuits.specs.declared.place.Place.TheVariants.{Enter}
 use Rattle.bn_quad.specs.Quadruples.{Configuration, initial_of}
 use Rattle.bn_qtable.specs.Rows.{QuadTable}
-use Rattle.bn_build_laws.specs.Builds.{Build, start_of}
-use Rattle.bn_build_laws.specs.Runs.{HasLeft}
+use Rattle.bn_boards.specs.Builds.{Build, start_of}
+use Rattle.bn_boards.specs.BuildRuns.{HasLeft}
 use Rattle.bn_reply_builds.specs.DriveText.{drive_exit_line}
 use Rattle.bn_view.specs.Viewed.{IsFoundView}
 use Rattle.bn_view.specs.declared.layers.BoardLayers.{BoardLayers}

@@ -2,6 +2,6 @@
 ghost use Rattle.bn_reply_looks.specs.Laws.{Laws};
 
 /// Laws on the answers, a named field each.
-pub fn look_reply_laws()
+pub fn reply_looks_laws()
     ensures { Laws }
 {}

@@ -8,6 +8,6 @@ mod look_text;
 mod play;
 mod viewer;
 
-pub use laws::look_reply_laws;
+pub use laws::reply_looks_laws;
 pub use look::reply_look;
 pub use play::reply_play;

@@ -3,11 +3,11 @@
 ghost use Rattle.std.specs.Prelude.{[], IfOk};
 ghost use Rattle.bn_qtable.specs.TapeWords.{tape_words_of};
 ghost use Rattle.bn_network.specs.Limits.{AreSmall};
-ghost use Rattle.bn_assembly.specs.Assembled.{limits_of};
+ghost use Rattle.bn_network_assembly.specs.Assembled.{limits_of};
 ghost use Rattle.bn_reply_looks.specs.LookReply.{LookReplies};
 
 use crate::look_text::build_text;
-use bn_assembly::Windows;
+use bn_network_assembly::Windows;
 use bn_qtable::TapeWords;
 use bn_reply::{NoMemory, Reply, Status};
 use bn_reply_builds::{OpenedBuild, open_build};

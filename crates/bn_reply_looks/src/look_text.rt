@@ -11,7 +11,7 @@ ghost use Rattle.bn_reply_looks.specs.Built.{AreNames, IsExitText, ShowsRun};
 ghost use Rattle.bn_reply_looks.specs.LookText.{look_text, state_line};
 
 use bn_board::Board;
-use bn_net::Place;
+use bn_circuits::Place;
 use bn_quad::{QuadNames, Uniform};
 use bn_reply::{NoMemory, push};
 use bn_reply_builds::{

@@ -11,13 +11,13 @@ use Rattle.bn_machine.specs.Run.{Ending, HasEnding, Halted, Stuck, Running}
 use Rattle.bn_machine.specs.Run as free
 use Rattle.bn_machine.specs.Tape.{scanned}
 use Rattle.bn_machine.proofs.OutputLemmas.{output_exists}
-use Rattle.bn_net.proofs.WalkLemmas.{hears-nothing}
+use Rattle.bn_circuits.proofs.WalkLemmas.{hears-nothing}
 use Rattle.bn_table.specs.Rows.{IsTable, Named}
 use Rattle.bn_reply.specs.Ends as written
 use Rattle.bn_reply.specs.Streams.{AnswerEnds, IsBegun, begun, cut, wanting, whole}
 use Rattle.bn_reply.specs.Words.{IsSpelledBy}
 use Rattle.bn_reply.specs.declared.status.Status.{Status}
-use Rattle.bn_reply_tables.specs.MachineReply.{ending_status}
+use Rattle.bn_reply_machines.specs.MachineReply.{ending_status}
 use Rattle.bn_reply_traces.specs.MomentText.{AreLines, IsLineAfter, IsNext}
 use Rattle.bn_reply_traces.specs.Stages.{AreTold, AreToldInPart, IsEndedAt, IsOutcome, IsRule, IsWordOf, OutcomeEnds}
 use Rattle.bn_reply_traces.specs.TraceReply.{TellsTrace, outcome_line}

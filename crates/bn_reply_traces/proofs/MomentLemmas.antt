@@ -20,7 +20,7 @@ use Rattle.bn_machine.proofs.MachineStepLemmas.{moment_after}
 use Rattle.bn_table.specs.Rows.{IsTable, Named}
 use Rattle.bn_base.specs.declared.limits.TheConstants.{MOST_COUNT}
 use Rattle.bn_reply.specs.Lines.{line}
-use Rattle.bn_reply_tables.proofs.FitLemmas.{Fits, AreSymbols, run_fits, start_fits}
+use Rattle.bn_reply_machines.proofs.FitLemmas.{Fits, AreSymbols, run_fits, start_fits}
 use Rattle.bn_table.proofs.MachineLemmas.{table_machine}
 use Rattle.bn_reply_traces.specs.Extents.{IsMarked}
 use Rattle.bn_reply_traces.specs.MomentText.{IsLineAfter, IsNext, letter_text, rule_text}

@@ -9,7 +9,7 @@ use Rattle.bn_io.specs.Told.{Grows, GrowsByFront}
 use Rattle.bn_io.proofs.FaultsLemmas.{Rose-late}
 use Rattle.bn_io.proofs.ToldLemmas.{Grows-joins}
 use Rattle.bn_machine.proofs.OutcomeLemmas.{run_goes_on}
-use Rattle.bn_net.proofs.WalkLemmas.{hears-nothing}
+use Rattle.bn_circuits.proofs.WalkLemmas.{hears-nothing}
 use Rattle.bn_quad.specs.Overlap.{IsDeterministic}
 use Rattle.bn_quad.specs.Quadruples.{Configuration, Quadruples, QuadruplesRunTo, everywhere, final_state_of}
 use Rattle.bn_quad.proofs.QuadStepLemmas.{goes_function}

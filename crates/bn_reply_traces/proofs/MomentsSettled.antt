@@ -4,10 +4,10 @@ use Rattle.std.proofs.Common.{arith}
 use Rattle.bn_reply.specs.Lines.{foreign_line}
 use Rattle.bn_reply.specs.Words.{IsSpelledBy}
 use Rattle.bn_reply_traces.specs.MomentsReply.{MomentsAreSettled, TellsMoments}
-use Rattle.bn_reply_tables.specs.QuadReply.{TapeWordReplies, lettered, tape_foreign_line}
-use Rattle.bn_reply_tables.proofs.AlphabetLemmas.{read_alphabet}
+use Rattle.bn_reply_machines.specs.QuadReply.{TapeWordReplies, lettered, tape_foreign_line}
+use Rattle.bn_reply_machines.proofs.AlphabetLemmas.{read_alphabet}
 use Rattle.bn_reply_traces.proofs.MomentsLemmas.{moments_settled}
-use Rattle.bn_reply_tables.proofs.QuadReplyLemmas.{quad_settled, tape_word_settled}
+use Rattle.bn_reply_machines.proofs.QuadReplyLemmas.{quad_settled, tape_word_settled}
 
 letters_of_word : (names : List (List ℕ)) (word symbols : List ℕ) → IsSpelledBy (lettered names) word symbols →
     All (λ s. s ≢ 0) symbols

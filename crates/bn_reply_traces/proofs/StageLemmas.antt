@@ -19,9 +19,9 @@ use Rattle.bn_machine.proofs.OutcomeLemmas.{run_goes_on}
 use Rattle.bn_machine.proofs.TapeLemmas.{cell-write_beside}
 use Rattle.bn_table.specs.Rows.{Named}
 use Rattle.bn_base.specs.declared.limits.TheConstants.{MOST_COUNT}
-use Rattle.bn_reply_tables.specs.MachineRun.{IsLetterAt, Reached}
-use Rattle.bn_reply_tables.proofs.RunLemmas.{one_step_more}
-use Rattle.bn_reply_tables.proofs.WholeRunLemmas.{Cuts, cuts}
+use Rattle.bn_reply_machines.specs.MachineRun.{IsLetterAt, Reached}
+use Rattle.bn_reply_machines.proofs.RunLemmas.{one_step_more}
+use Rattle.bn_reply_machines.proofs.WholeRunLemmas.{Cuts, cuts}
 use Rattle.bn_reply_traces.specs.Extents.{IsFirst, IsLast}
 use Rattle.bn_reply_traces.specs.Stages.{IsMoved, IsRule, IsStageAfter, StandsFor}
 use Rattle.bn_reply_traces.specs.declared.extent.Extent.{Extent}

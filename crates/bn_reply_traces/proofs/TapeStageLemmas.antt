@@ -13,7 +13,7 @@ use Rattle.bn_machine.proofs.TapeLemmas.{at_set_cell, cell-word, cell-write_besi
 use Rattle.bn_base.specs.declared.limits.TheConstants.{MOST_COUNT}
 use Rattle.bn_quad.specs.Quadruples.{Deed, IsDeedInRange, Move, Rewrite, done}
 use Rattle.bn_reply_traces.specs.Extents.{IsFirst, IsLast}
-use Rattle.bn_reply_tables.specs.Opened.{IsWordOn}
+use Rattle.bn_reply_machines.specs.Opened.{IsWordOn}
 use Rattle.bn_reply_traces.specs.QuadStages.{IsClear, IsStepped, IsTapeStage, IsWide}
 use Rattle.bn_reply_traces.specs.Stages.{AreBelow, IsMoved, IsWithin, StandsFor}
 use Rattle.bn_reply_traces.specs.declared.extent.Extent.{Extent}

@@ -8,7 +8,7 @@ use Rattle.bn_machine.specs.Run.{Ending, Halted}
 use Rattle.bn_machine.specs.Run as run
 use Rattle.bn_table.specs.Rows.{Named}
 use Rattle.bn_reply.specs.declared.status.Status.TheVariants.{Stuck}
-use Rattle.bn_reply_tables.specs.MachineReply.{ending_status, machine_stuck_line}
+use Rattle.bn_reply_machines.specs.MachineReply.{ending_status, machine_stuck_line}
 use Rattle.bn_reply_traces.specs.Extents.{symbols_from}
 use Rattle.bn_reply_traces.specs.MomentText.{names_text}
 use Rattle.bn_reply_traces.specs.Stages.{IsOutcome}

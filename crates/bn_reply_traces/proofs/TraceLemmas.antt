@@ -22,7 +22,7 @@ use Rattle.bn_reply.specs.TableReply.{WordReplies}
 use Rattle.bn_reply.specs.Words.{IsSpelledBy}
 use Rattle.bn_reply.proofs.SettledLemmas.{standard_settled, word_settled}
 use Rattle.bn_reply.proofs.TableLemmas.{reads_table}
-use Rattle.bn_reply_tables.specs.MachineReply.{ending_status}
+use Rattle.bn_reply_machines.specs.MachineReply.{ending_status}
 use Rattle.bn_reply_traces.specs.Extents.{IsFirst, IsLast, symbols_from}
 use Rattle.bn_reply_traces.specs.MomentText.{AreLines, IsLineAfter, IsMomentLine, IsNext, IsTapeText, letter_text}
 use Rattle.bn_reply_traces.specs.MomentText.{rule_text, tape_text}

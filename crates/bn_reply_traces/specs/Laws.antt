@@ -1,4 +1,4 @@
--- The laws of this crate, a named field each. `Laws` is the contract of `trace_reply_laws`.
+-- The laws of this crate, a named field each. `Laws` is the contract of `reply_traces_laws`.
 use Rattle.bn_reply_traces.specs.MomentsReply.{MomentsAreSettled}
 use Rattle.bn_reply_traces.specs.TraceReply.{TraceIsSettled}
 

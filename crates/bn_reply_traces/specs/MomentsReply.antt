@@ -14,7 +14,7 @@ use Rattle.bn_reply.specs.declared.status.Status.{Status}
 use Rattle.bn_reply.specs.declared.status.Status.TheVariants as statuses
 use Rattle.bn_reply_traces.specs.ConfigurationText.{IsConfigurationLineAfter, name_in}
 use Rattle.bn_reply_traces.specs.MomentText.{AreLines}
-use Rattle.bn_reply_tables.specs.QuadReply.{QuadReplies, TapeWordReplies, tape_foreign_line}
+use Rattle.bn_reply_machines.specs.QuadReply.{QuadReplies, TapeWordReplies, tape_foreign_line}
 
 -- how a run comes out: the machine has halted, is stuck, or goes on
 pub data Outcome : Type 0 where

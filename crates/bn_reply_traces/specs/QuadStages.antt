@@ -13,7 +13,7 @@ use Rattle.bn_quad.specs.Quadruples.{Configuration, GoesBy, IsQuadMachine, Quadr
 use Rattle.bn_qtable.specs.Reading.{ReadsQuadruples}
 use Rattle.bn_qtable.specs.Rows.{QuadTable, table_of}
 use Rattle.bn_network.specs.Starts.{words_on}
-use Rattle.bn_reply_tables.specs.Opened.{IsWordOn}
+use Rattle.bn_reply_machines.specs.Opened.{IsWordOn}
 use Rattle.bn_reply_traces.specs.ConfigurationText.{IsConfigurationLineAfter, IsNextQuadruple}
 use Rattle.bn_reply_traces.specs.Extents.{IsFirst, IsLast}
 use Rattle.bn_reply_traces.specs.MomentText.{AreLines}

@@ -15,7 +15,7 @@ use Rattle.bn_reply.specs.Ends.{Finishes}
 use Rattle.bn_reply.specs.Lines.{line}
 use Rattle.bn_reply.specs.declared.status.Status.{Status}
 use Rattle.bn_reply.specs.declared.status.Status.TheVariants.{NoMemory}
-use Rattle.bn_reply_tables.specs.MachineRun.{Reached}
+use Rattle.bn_reply_machines.specs.MachineRun.{Reached}
 use Rattle.bn_reply_traces.specs.Extents.{IsFirst, IsLast, symbols_from}
 use Rattle.bn_reply_traces.specs.MomentText.{AreLines, IsLineAfter, letter_text, rule_text, tape_text}
 use Rattle.bn_reply_traces.specs.declared.extent.Extent.{Extent}

@@ -8,7 +8,7 @@ use Rattle.bn_reply.specs.Answering.{IsSettled}
 use Rattle.bn_reply.specs.Lines.{line, running_line}
 use Rattle.bn_reply.specs.TableReply.{StandardReplies, WordReplies}
 use Rattle.bn_reply.specs.declared.status.Status.{Status}
-use Rattle.bn_reply_tables.specs.MachineReply.{ending_status, machine_stuck_line}
+use Rattle.bn_reply_machines.specs.MachineReply.{ending_status, machine_stuck_line}
 use Rattle.bn_reply_traces.specs.MomentText.{AreLines, IsLineAfter}
 
 -- the last line: how the run comes out after i steps

@@ -8,7 +8,7 @@ ghost use Rattle.bn_reply_traces.specs.QuadStages.{IsStepped};
 ghost use Rattle.bn_reply_traces.specs.Stages.{IsMoved, StandsFor};
 
 use bn_machine::Tape;
-use bn_reply_tables::letter_at;
+use bn_reply_machines::letter_at;
 
 /// The positions of the first and of the last cell of a tape that isn't blank or has the head.
 #[derive(Clone, Copy, PartialEq, Eq, Debug)]

@@ -2,6 +2,6 @@
 ghost use Rattle.bn_reply_traces.specs.Laws.{Laws};
 
 /// Laws on the answers, a named field each.
-pub fn trace_reply_laws()
+pub fn reply_traces_laws()
     ensures { Laws }
 {}

@@ -12,6 +12,6 @@ mod stage;
 mod tape_text;
 mod trace;
 
-pub use laws::trace_reply_laws;
+pub use laws::reply_traces_laws;
 pub use moments::{answer_moments, answer_three_moments};
 pub use trace::answer_trace;

@@ -7,8 +7,8 @@ ghost use Rattle.bn_reply.specs.Lines.{foreign_line};
 ghost use Rattle.bn_reply.specs.Streams.{AnswerEnds};
 ghost use Rattle.bn_qtable.specs.Rows.{table_of};
 ghost use Rattle.bn_reply_traces.specs.MomentsReply.{MomentsReplies, TellsMoments, ThreeMomentsReplies};
-ghost use Rattle.bn_reply_tables.specs.QuadReply.{TapeWordReplies, tape_foreign_line};
-ghost use Rattle.bn_reply_tables.specs.Opened.{IsAlphabet, IsWordOn};
+ghost use Rattle.bn_reply_machines.specs.QuadReply.{TapeWordReplies, tape_foreign_line};
+ghost use Rattle.bn_reply_machines.specs.Opened.{IsAlphabet, IsWordOn};
 ghost use Rattle.bn_reply_traces.specs.QuadStages.{IsAsked, asked_table};
 ghost use Rattle.bn_quad.specs.Names.{symbols_on};
 
@@ -18,7 +18,7 @@ use bn_base::MOST_COUNT;
 use bn_io::Sink;
 use bn_quad::{IndexedMachine, QuadMachine, QuadNames};
 use bn_reply::{NoMemory, Status, foreign_letter, give_reply};
-use bn_reply_tables::{OpenedQuads, Spelling, TapeNames, foreign_on_tape, open_quads};
+use bn_reply_machines::{OpenedQuads, Spelling, TapeNames, foreign_on_tape, open_quads};
 use std::alloc::Global;
 
 /// Answers `moments` to a word on tape 1, a greatest number of steps and some bytes: whether they are a table of

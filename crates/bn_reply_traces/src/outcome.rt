@@ -3,7 +3,7 @@
 ghost use Rattle.std.specs.Prelude.{◌≡◌, ◌<◌, ◌++◌, ℕ, List, IfOk};
 ghost use Rattle.bn_machine.specs.Run.{Ending};
 ghost use Rattle.bn_machine.specs.Tape.{scanned};
-ghost use Rattle.bn_reply_tables.specs.MachineReply.{ending_status};
+ghost use Rattle.bn_reply_machines.specs.MachineReply.{ending_status};
 ghost use Rattle.bn_reply_traces.specs.Stages.{IsOutcome};
 ghost use Rattle.bn_reply_traces.specs.TraceReply.{outcome_line};
 

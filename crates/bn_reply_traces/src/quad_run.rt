@@ -19,7 +19,7 @@ use crate::trace::{Ended, Unfinished};
 use bn_io::{Sink, WriteFault, give_pieces};
 use bn_quad::{IndexedMachine, QuadMachine, QuadNames};
 use bn_reply::{NoMemory, Status, finish};
-use bn_reply_tables::TapeNames;
+use bn_reply_machines::TapeNames;
 use std::alloc::Global;
 
 /// A machine with its index and its names, the symbols of the words on its tapes, and the greatest number of steps.

@@ -18,7 +18,7 @@ use crate::trace::push_rule;
 use bn_base::push_u64;
 use bn_machine::Tape;
 use bn_reply::{NoMemory, Status, push, push_counted};
-use bn_reply_tables::TapeNames;
+use bn_reply_machines::TapeNames;
 
 // Appends how many steps have led to a stage, its state, and what its tapes show.
 pub(crate) fn push_configuration(

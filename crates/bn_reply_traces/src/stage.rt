@@ -13,7 +13,7 @@ use crate::extent::Extent;
 use bn_base::MOST_COUNT;
 use bn_machine::{Machine, Quint, Tape, TapeRefusal, Turn};
 use bn_reply::NoMemory;
-use bn_reply_tables::letter_at;
+use bn_reply_machines::letter_at;
 use std::alloc::Global;
 
 /// A moment of a run: the state, counted from 0, the tape in its window, and the cells of it that are shown.

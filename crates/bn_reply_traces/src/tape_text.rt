@@ -12,7 +12,7 @@ use crate::extent::Extent;
 use bn_base::push_u64;
 use bn_machine::Tape;
 use bn_reply::{NoMemory, push, push_position};
-use bn_reply_tables::TapeNames;
+use bn_reply_machines::TapeNames;
 use bn_table::Table;
 
 /// What spells the symbols of a tape. Clauses see the name of each symbol, and how many symbols there are.

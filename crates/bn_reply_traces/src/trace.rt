@@ -11,7 +11,7 @@ ghost use Rattle.bn_table.specs.Rows.{IsTable};
 ghost use Rattle.bn_reply.specs.Streams.{AnswerEnds};
 ghost use Rattle.bn_reply.specs.TableReply.{JudgedReplies, WordReplies};
 ghost use Rattle.bn_reply.specs.Words.{IsSpelledBy};
-ghost use Rattle.bn_reply_tables.specs.MachineReply.{ending_status};
+ghost use Rattle.bn_reply_machines.specs.MachineReply.{ending_status};
 ghost use Rattle.bn_reply_traces.specs.MomentText.{rule_text};
 ghost use Rattle.bn_reply_traces.specs.Stages.{AreTold, AreToldInPart, IsEndedAt, IsOutcome, IsRule, IsShowable};
 ghost use Rattle.bn_reply_traces.specs.Stages.{IsStageAfter, IsWordOf, OutcomeEnds, StandsFor, stage_line};

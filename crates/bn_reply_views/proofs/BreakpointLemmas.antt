@@ -12,11 +12,11 @@ use Rattle.bn_circuits.proofs.RunLemmas.{Reaches-run, Reaches-back, run_composes
 use Rattle.bn_machine.specs.Machine.{Program}
 use Rattle.bn_machine.specs.Outcome.{Limits}
 use Rattle.bn_machine.proofs.OutcomeLemmas.{outcome_exists}
-use Rattle.bn_board_spec.specs.Layouts.{moment_at}
-use Rattle.bn_board_spec.specs.Flats.{Flat, IsAccepted, IsFlatOf, flat_start}
-use Rattle.bn_board_spec.proofs.ReadingLemmas.{own_accepted, own_flat}
+use Rattle.bn_boards.specs.Layouts.{moment_at}
+use Rattle.bn_boards.specs.Flats.{Flat, IsAccepted, IsFlatOf, flat_start}
+use Rattle.bn_boards.proofs.ReadingLemmas.{own_accepted, own_flat}
 use Rattle.bn_board.specs.Flattened.{origin}
-use Rattle.bn_board_laws.proofs.ClosedLemmas.{have_moments, run_to_exit}
+use Rattle.bn_boards.proofs.ClosedLemmas.{have_moments, run_to_exit}
 use Rattle.bn_view.specs.Viewed.{Comes, Finds}
 use Rattle.bn_view.proofs.StandingLemmas.{within_run}
 use Rattle.bn_session.specs.Breakpoints.{Breakpoint, some_holds}

@@ -1,8 +1,8 @@
 -- The laws of this crate that follow from those of the crates below it, each proved.
-use Rattle.bn_board_laws.proofs.ClosedLemmas.{flats_one, flats_there, run_to_exit}
-use Rattle.bn_reply_laws.proofs.ClosedLemmas.{counted}
-use Rattle.bn_reply_laws.proofs.RunLemmas.{exits-named}
-use Rattle.bn_reply_laws.proofs.SettledLemmas.{circuits_settled}
+use Rattle.bn_boards.proofs.ClosedLemmas.{flats_one, flats_there, run_to_exit}
+use Rattle.bn_reply_relations.proofs.ClosedLemmas.{counted}
+use Rattle.bn_reply_relations.proofs.RunLemmas.{exits-named}
+use Rattle.bn_reply_relations.proofs.SettledLemmas.{circuits_settled}
 use Rattle.bn_reply_views.proofs.SessionSettledLemmas.{session_settled}
 use Rattle.bn_reply_views.proofs.SteppedLemmas.{views-show_steps}
 use Rattle.bn_reply_views.proofs.ViewSettledLemmas.{view_settled}

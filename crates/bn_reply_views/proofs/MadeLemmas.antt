@@ -3,15 +3,15 @@ use Rattle.std.specs.Prelude.{◌≡◌, ℕ, List, [], refl}
 use Rattle.std.proofs.Common.{sym, ap, subst, ◌∙◌}
 use Rattle.bn_circuits.specs.Stepping.{run}
 use Rattle.bn_circuits.proofs.RunLemmas.{back-zero}
-use Rattle.bn_net.specs.RotaryNets.{rotary_circuit}
+use Rattle.bn_circuits.specs.RotaryNets.{rotary_circuit}
 use Rattle.bn_machine.specs.Outcome.{Limits}
 use Rattle.bn_table.specs.Rows.{Named}
 use Rattle.bn_bennett.specs.Translation.{Translation}
-use Rattle.bn_board_spec.specs.Flats.{Flat, IsAccepted, flat_start}
+use Rattle.bn_boards.specs.Flats.{Flat, IsAccepted, flat_start}
 use Rattle.bn_board.specs.Flattened.{Flattened, IsSameBoard, origin, origin_by}
 use Rattle.bn_reply.specs.declared.status.Status.TheVariants as statuses
-use Rattle.bn_reply_laws.specs.Laws.{ExitsAreNamed}
-use Rattle.bn_reply_laws.specs.RunReply.{board_after}
+use Rattle.bn_reply_relations.specs.Laws.{ExitsAreNamed}
+use Rattle.bn_reply_relations.specs.RunReply.{board_after}
 use Rattle.bn_reply_boards.specs.Opened.{IsMade}
 use Rattle.bn_view.specs.Viewed.{IsBoardFor, IsViewOf}
 use Rattle.bn_reply_views.specs.Showing.{TellsLayers}

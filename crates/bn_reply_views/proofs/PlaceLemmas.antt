@@ -2,8 +2,8 @@
 use Rattle.std.specs.Prelude.{◌≡◌, ℕ, ◌≤◌, List, [], ◌∷◌, ◌++◌, None, refl}
 use Rattle.std.proofs.Common.{sym, ap, subst, ◌∙◌}
 use Rattle.std.proofs.lemmas.List.{append-nil}
-use Rattle.bn_reply_laws.specs.CompileReply.{CompileReplies}
-use Rattle.bn_reply_laws.specs.CircuitReply.{StepReplies}
+use Rattle.bn_reply_relations.specs.CompileReply.{CompileReplies}
+use Rattle.bn_reply_relations.specs.CircuitReply.{StepReplies}
 use Rattle.bn_reply.specs.declared.status.Status.{Status}
 use Rattle.bn_reply_views.specs.ViewReply.{ViewReplies}
 use Rattle.bn_circuits.specs.Stepping.{places, run}
@@ -15,35 +15,35 @@ use Rattle.bn_netlist_laws.proofs.VersionLemmas.{spellings-move}
 use Rattle.bn_netlist_laws.specs.Spelling.{Spelling, Spelled, circuit_of, moved_to}
 use Rattle.bn_netlist_laws.specs.declared.version.Version.TheVariants.{Two}
 use Rattle.bn_table.specs.Rows.{Named}
-use Rattle.bn_board_spec.specs.Flats.{Flat}
-use Rattle.bn_reply_laws.specs.CircuitReply.{walked}
+use Rattle.bn_boards.specs.Flats.{Flat}
+use Rattle.bn_reply_relations.specs.CircuitReply.{walked}
 use Rattle.bn_reply.specs.TableReply.{WordReplies}
 use Rattle.bn_reply.specs.declared.status.Status.TheVariants.{Done}
 use Rattle.bn_reply.proofs.SettledLemmas.{standard_tells, word_tells}
 use Rattle.bn_reply.proofs.TableLemmas.{reads_table}
-use Rattle.bn_reply_laws.specs.RunReply.{board_after}
-use Rattle.bn_reply_laws.specs.Windows.{BoardReplies, board, large, long}
-use Rattle.bn_reply_laws.proofs.CompileLemmas.{IsCompiled, compiled}
-use Rattle.bn_reply_laws.proofs.TellingLemmas.{after_same}
-use Rattle.bn_reply_laws.proofs.WindowLemmas.{standard_machine}
+use Rattle.bn_reply_relations.specs.RunReply.{board_after}
+use Rattle.bn_reply_relations.specs.Windows.{BoardReplies, board, large, long}
+use Rattle.bn_reply_relations.proofs.CompileLemmas.{IsCompiled, compiled}
+use Rattle.bn_reply_relations.proofs.TellingLemmas.{after_same}
+use Rattle.bn_reply_relations.proofs.WindowLemmas.{standard_machine}
 use Rattle.bn_reply_views.specs.ViewReply.{TellsView}
 use Rattle.bn_reply_views.specs.ViewText.{element_line}
 use Rattle.bn_table.proofs.MachineLemmas.{tables_machines}
 use Rattle.bn_base.specs.Cuts.{IsCut}
 use Rattle.bn_base.proofs.CutLemmas.{cuts-one}
-use Rattle.bn_board_spec.specs.Flats.{flat_start}
-use Rattle.bn_board_spec.specs.Layouts.{moment_at}
+use Rattle.bn_boards.specs.Flats.{flat_start}
+use Rattle.bn_boards.specs.Layouts.{moment_at}
 use Rattle.bn_network.specs.Limits.{AreSmall}
-use Rattle.bn_reply_laws.specs.Windows.{ComesTo, WindowReplies}
-use Rattle.bn_reply_laws.specs.ToldRuns.{IsGiven}
-use Rattle.bn_reply_laws.proofs.WindowLemmas.{given_accepted}
+use Rattle.bn_reply_relations.specs.Windows.{ComesTo, WindowReplies}
+use Rattle.bn_reply_relations.specs.ToldRuns.{IsGiven}
+use Rattle.bn_reply_relations.proofs.WindowLemmas.{given_accepted}
 use Rattle.bn_reply_views.specs.ViewText.{view_text}
 use Rattle.bn_reply_views.proofs.SessionSettledLemmas.{states_apart}
 use Rattle.bn_reply_views.proofs.SteppedLemmas.{rest_of, runs_as}
 use Rattle.bn_reply_views.proofs.ViewClosedLemmas.{one}
 use Rattle.bn_reply_views.proofs.ViewSettledLemmas.{text_same, turned, view_there}
-use Rattle.bn_board_laws.proofs.ClosedLemmas.{flats_one}
-use Rattle.bn_reply_laws.proofs.SettledLemmas.{circuits_settled}
+use Rattle.bn_boards.proofs.ClosedLemmas.{flats_one}
+use Rattle.bn_reply_relations.proofs.SettledLemmas.{circuits_settled}
 use Rattle.bn_circuits.specs.declared.place.Place.{Place}
 use Rattle.bn_base.specs.Number.{greatest}
 use Rattle.bn_session.specs.Plays.{Plays, Session, place_line, session}

@@ -5,8 +5,8 @@ use Rattle.bn_circuits.specs.Stepping.{run}
 use Rattle.bn_circuits.specs.declared.config.Config.{Config}
 use Rattle.bn_circuits.proofs.RunLemmas.{Reaches-run}
 use Rattle.bn_table.specs.Rows.{Named}
-use Rattle.bn_board_spec.specs.Layouts.{moment_at}
-use Rattle.bn_board_spec.specs.Flats.{Flat, flat_start}
+use Rattle.bn_boards.specs.Layouts.{moment_at}
+use Rattle.bn_boards.specs.Flats.{Flat, flat_start}
 use Rattle.bn_session.specs.Plays.{Session, label_that_holds, place_line}
 use Rattle.bn_session.specs.declared.command.Command.{Command}
 use Rattle.bn_session.specs.declared.command.Command.TheVariants.{Step, Back, Go, Rev, BreakState, BreakElement, Drop}

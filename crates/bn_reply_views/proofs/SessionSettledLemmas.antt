@@ -19,21 +19,21 @@ use Rattle.bn_bennett_laws.proofs.Counts.{list_has_length, list_has_names, list_
 use Rattle.bn_bennett.specs.Printed.{translation_names}
 use Rattle.bn_bennett.specs.Translation.{Translation}
 use Rattle.bn_bennett.proofs.Tables.{is_table}
-use Rattle.bn_board_laws.specs.ExistenceLaws.{FlatsAreThere}
-use Rattle.bn_board_spec.specs.Layouts.{Layout, moment_at}
-use Rattle.bn_board_spec.specs.Flats.{AreSameFlats, Flat, IsAccepted, IsFlatOf, flat_start}
-use Rattle.bn_board_spec.specs.LayoutLaws.{FlatsAreOne}
+use Rattle.bn_boards.specs.ExistenceLaws.{FlatsAreThere}
+use Rattle.bn_boards.specs.Layouts.{Layout, moment_at}
+use Rattle.bn_boards.specs.Flats.{AreSameFlats, Flat, IsAccepted, IsFlatOf, flat_start}
+use Rattle.bn_boards.specs.LayoutLaws.{FlatsAreOne}
 use Rattle.bn_reply.specs.Answering.{AgreeInAll, HasAnswer, IsOneAnswer, IsSettled}
 use Rattle.bn_reply.specs.declared.status.Status.{Status}
 use Rattle.bn_reply.specs.TableReply.{ReadsStandard}
 use Rattle.bn_reply.proofs.TableLemmas.{reads_table}
-use Rattle.bn_reply_laws.specs.ToldRuns.{IsGiven}
-use Rattle.bn_reply_laws.specs.Laws.{BoardsAreCounted}
-use Rattle.bn_reply_laws.specs.RunReply.{board_after}
+use Rattle.bn_reply_relations.specs.ToldRuns.{IsGiven}
+use Rattle.bn_reply_relations.specs.Laws.{BoardsAreCounted}
+use Rattle.bn_reply_relations.specs.RunReply.{board_after}
 use Rattle.bn_network.specs.Limits.{AreSmall}
-use Rattle.bn_reply_laws.specs.Windows.{ComesTo, WindowReplies}
-use Rattle.bn_reply_laws.proofs.TellingLemmas.{after_same, same_boards}
-use Rattle.bn_reply_laws.proofs.WindowLemmas.{given_accepted, window_settled}
+use Rattle.bn_reply_relations.specs.Windows.{ComesTo, WindowReplies}
+use Rattle.bn_reply_relations.proofs.TellingLemmas.{after_same, same_boards}
+use Rattle.bn_reply_relations.proofs.WindowLemmas.{given_accepted, window_settled}
 use Rattle.bn_view.specs.Laws.{ViewsAreOne, ViewsAreThere}
 use Rattle.bn_view.specs.Viewed.{IsViewOf}
 use Rattle.bn_reply_views.specs.Showing.{TellsLayers}

@@ -7,22 +7,22 @@ use Rattle.bn_circuits.specs.Stepping.{run}
 use Rattle.bn_circuits.specs.declared.config.Config.{Config}
 use Rattle.bn_circuits.specs.declared.place.Place.{Place}
 use Rattle.bn_circuits.proofs.RunLemmas.{Reaches-back, Reaches-run, back-zero}
-use Rattle.bn_net.specs.RotaryNets.{rotary_circuit}
+use Rattle.bn_circuits.specs.RotaryNets.{rotary_circuit}
 use Rattle.bn_machine.specs.Outcome.{Limits}
 use Rattle.bn_quad.specs.Quadruples.{initial_of}
 use Rattle.bn_table.specs.Rows.{Named}
 use Rattle.bn_bennett_laws.specs.List.{symbols_of}
 use Rattle.bn_bennett.specs.Meaning.{machine_state_by, stage_by}
 use Rattle.bn_bennett.specs.Translation.{IsTranslation, Translation, name_of}
-use Rattle.bn_board_spec.specs.declared.exit.Exit.{Exit}
-use Rattle.bn_board_spec.specs.declared.exit.Exit.TheVariants.{End, Inside, Stuck, Unnamed, Window}
-use Rattle.bn_board_spec.specs.Layouts.{IsExit, Layout, moment_at, spelled_by}
-use Rattle.bn_board_spec.specs.Flats.{Flat, IsAccepted, flat_start}
-use Rattle.bn_board_spec.specs.LayoutLaws.{ExitsAreOne}
-use Rattle.bn_board_laws.specs.RunLaws.{BoardsRunToTheirExit}
+use Rattle.bn_boards.specs.declared.exit.Exit.{Exit}
+use Rattle.bn_boards.specs.declared.exit.Exit.TheVariants.{End, Inside, Stuck, Unnamed, Window}
+use Rattle.bn_boards.specs.Layouts.{IsExit, Layout, moment_at, spelled_by}
+use Rattle.bn_boards.specs.Flats.{Flat, IsAccepted, flat_start}
+use Rattle.bn_boards.specs.LayoutLaws.{ExitsAreOne}
+use Rattle.bn_boards.specs.RunLaws.{BoardsRunToTheirExit}
 use Rattle.bn_board.specs.Flattened.{Flattened, IsBoardKept, origin, origin_by}
-use Rattle.bn_reply_laws.specs.RunReply.{board_after}
-use Rattle.bn_reply_laws.specs.RunText.{exit_line, stuck_line, state_text, tape_lines}
+use Rattle.bn_reply_relations.specs.RunReply.{board_after}
+use Rattle.bn_reply_relations.specs.RunText.{exit_line, stuck_line, state_text, tape_lines}
 use Rattle.bn_reply_boards.specs.Opened.{IsMade}
 use Rattle.bn_reply_boards.specs.Shown.{HasNames}
 use Rattle.bn_reply_boards.proofs.NameLemmas.{exit_names}

@@ -17,27 +17,27 @@ use Rattle.bn_netlist_laws.specs.declared.version.Version.TheVariants.{Two}
 use Rattle.bn_netlist_laws.proofs.EntryLemmas.{has-text}
 use Rattle.bn_table.specs.Laws.{TablesAreMachines}
 use Rattle.bn_table.specs.Rows.{Named}
-use Rattle.bn_board_spec.specs.Flats.{Flat, IsFlatOf}
-use Rattle.bn_board_spec.specs.LayoutLaws.{FlatsAreOne}
-use Rattle.bn_reply_laws.specs.CircuitReply.{CircuitIsSettled, walked}
+use Rattle.bn_boards.specs.Flats.{Flat, IsFlatOf}
+use Rattle.bn_boards.specs.LayoutLaws.{FlatsAreOne}
+use Rattle.bn_reply_relations.specs.CircuitReply.{CircuitIsSettled, walked}
 use Rattle.bn_reply.specs.TableReply.{WordReplies}
 use Rattle.bn_reply.specs.declared.status.Status.TheVariants.{Done}
 use Rattle.bn_reply.proofs.SettledLemmas.{standard_tells, word_tells}
 use Rattle.bn_reply.proofs.TableLemmas.{reads_table}
-use Rattle.bn_reply_laws.specs.CompileReply.{IsFlatSpelling}
-use Rattle.bn_reply_laws.specs.RunReply.{board_after}
-use Rattle.bn_reply_laws.specs.Windows.{BoardReplies, board, large, long}
-use Rattle.bn_reply_laws.proofs.CompileLemmas.{IsCompiled, compiled}
-use Rattle.bn_reply_laws.proofs.SpelledLemmas.{target_of}
-use Rattle.bn_reply_laws.proofs.TellingLemmas.{after_same}
-use Rattle.bn_reply_laws.proofs.WindowLemmas.{standard_machine}
+use Rattle.bn_reply_relations.specs.CompileReply.{IsFlatSpelling}
+use Rattle.bn_reply_relations.specs.RunReply.{board_after}
+use Rattle.bn_reply_relations.specs.Windows.{BoardReplies, board, large, long}
+use Rattle.bn_reply_relations.proofs.CompileLemmas.{IsCompiled, compiled}
+use Rattle.bn_reply_relations.proofs.SpelledLemmas.{target_of}
+use Rattle.bn_reply_relations.proofs.TellingLemmas.{after_same}
+use Rattle.bn_reply_relations.proofs.WindowLemmas.{standard_machine}
 use Rattle.bn_reply_views.specs.ViewLaws.{ViewsShowSteps}
 use Rattle.bn_reply_views.specs.ViewReply.{TellsView}
 use Rattle.bn_reply_views.specs.ViewText.{element_line, machine_line, module_line, state_line}
 use Rattle.bn_view.specs.declared.layers.Layers.{Layers}
 use Rattle.bn_bennett.specs.Translation.{name_of}
 use Rattle.bn_bennett_laws.specs.List.{symbols_of}
-use Rattle.bn_reply_laws.specs.RunText.{exit_line, tape_lines}
+use Rattle.bn_reply_relations.specs.RunText.{exit_line, tape_lines}
 
 -- ---- one circuit
 

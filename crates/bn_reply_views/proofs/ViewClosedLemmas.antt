@@ -1,9 +1,9 @@
 -- The law on the answers of `view` with the laws below it put in, for the crates above that cite it as it is.
 use Rattle.bn_table.proofs.MachineLemmas.{tables_machines}
-use Rattle.bn_board_spec.proofs.ExitLemmas.{exits-one}
-use Rattle.bn_reply_laws.proofs.ClosedLemmas.{counted}
-use Rattle.bn_board_laws.proofs.ClosedLemmas.{flats_one, flats_there, read_off, run_to_exit}
-use Rattle.bn_reply_laws.proofs.RunLemmas.{exits-named}
+use Rattle.bn_boards.proofs.ExitLemmas.{exits-one}
+use Rattle.bn_reply_relations.proofs.ClosedLemmas.{counted}
+use Rattle.bn_boards.proofs.ClosedLemmas.{flats_one, flats_there, read_off, run_to_exit}
+use Rattle.bn_reply_relations.proofs.RunLemmas.{exits-named}
 use Rattle.bn_view.specs.Laws.{ViewsAreOne, ViewsAreThere}
 use Rattle.bn_view.proofs.OneLemmas.{views-one, views-there}
 use Rattle.bn_reply_views.specs.ViewReply.{ViewIsSettled}

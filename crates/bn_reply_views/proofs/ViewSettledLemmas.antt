@@ -10,23 +10,23 @@ use Rattle.bn_table.specs.Rows.{Named}
 use Rattle.bn_bennett_laws.specs.List.{symbols_of}
 use Rattle.bn_bennett.specs.Meaning.{machine_state_by, stage_by}
 use Rattle.bn_bennett.specs.Translation.{Translation, name_of}
-use Rattle.bn_board_laws.specs.ExistenceLaws.{FlatsAreThere}
-use Rattle.bn_board_spec.specs.declared.exit.Exit.{Exit}
-use Rattle.bn_board_spec.specs.BoardMoments.{IsBoardMoment}
-use Rattle.bn_board_spec.specs.Layouts.{IsExit, IsNamedExit, Layout, named, spelled_by, unnamed}
-use Rattle.bn_board_spec.specs.Flats.{AreSameFlats, Flat, flat_start, machine_of}
-use Rattle.bn_board_spec.specs.LayoutLaws.{FlatsAreOne}
+use Rattle.bn_boards.specs.ExistenceLaws.{FlatsAreThere}
+use Rattle.bn_boards.specs.declared.exit.Exit.{Exit}
+use Rattle.bn_boards.specs.BoardMoments.{IsBoardMoment}
+use Rattle.bn_boards.specs.Layouts.{IsExit, IsNamedExit, Layout, named, spelled_by, unnamed}
+use Rattle.bn_boards.specs.Flats.{AreSameFlats, Flat, flat_start, machine_of}
+use Rattle.bn_boards.specs.LayoutLaws.{FlatsAreOne}
 use Rattle.bn_reply.specs.Answering.{AgreeInAll, HasAnswer}
 use Rattle.bn_reply.specs.Codes.{IsReplyStatus}
 use Rattle.bn_reply.specs.declared.status.Status.{Status}
 use Rattle.bn_reply.specs.declared.status.Status.TheVariants as statuses
-use Rattle.bn_reply_laws.specs.ToldRuns.{IsGiven}
-use Rattle.bn_reply_laws.specs.Laws.{BoardsAreCounted, ExitsAreNamed}
-use Rattle.bn_reply_laws.specs.RunReply.{board_after}
-use Rattle.bn_reply_laws.specs.RunText.{tape_lines}
-use Rattle.bn_reply_laws.specs.Windows.{ComesTo}
-use Rattle.bn_reply_laws.proofs.TellingLemmas.{after_same, exit_same, moment_there, same_boards}
-use Rattle.bn_reply_laws.proofs.WindowLemmas.{given_accepted, window_settled}
+use Rattle.bn_reply_relations.specs.ToldRuns.{IsGiven}
+use Rattle.bn_reply_relations.specs.Laws.{BoardsAreCounted, ExitsAreNamed}
+use Rattle.bn_reply_relations.specs.RunReply.{board_after}
+use Rattle.bn_reply_relations.specs.RunText.{tape_lines}
+use Rattle.bn_reply_relations.specs.Windows.{ComesTo}
+use Rattle.bn_reply_relations.proofs.TellingLemmas.{after_same, exit_same, moment_there, same_boards}
+use Rattle.bn_reply_relations.proofs.WindowLemmas.{given_accepted, window_settled}
 use Rattle.bn_view.specs.Shown.{IsShown}
 use Rattle.bn_view.specs.Modules.{IsModuleAt}
 use Rattle.bn_view.specs.Viewed.{Comes, IsViewOf}

@@ -12,13 +12,13 @@ use Rattle.bn_bennett.specs.Printed.{translation_names, bennett_state_text}
 use Rattle.bn_bennett.specs.Translation.{IsTranslation, Translation, name_of}
 use Rattle.bn_bennett.specs.declared.translated.MachineState.{MachineState}
 use Rattle.bn_bennett.specs.declared.translated.MachineState.TheVariants.{AtState, Within}
-use Rattle.bn_board_spec.specs.declared.spelled.Spelled.{Spelled}
-use Rattle.bn_board_spec.specs.Layouts.{IsExit, symbol_count_at}
-use Rattle.bn_board_spec.specs.Flats.{Flat, IsAccepted, IsFlatOf}
-use Rattle.bn_board_spec.proofs.LetterLemmas.{symbols_are}
+use Rattle.bn_boards.specs.declared.spelled.Spelled.{Spelled}
+use Rattle.bn_boards.specs.Layouts.{IsExit, symbol_count_at}
+use Rattle.bn_boards.specs.Flats.{Flat, IsAccepted, IsFlatOf}
+use Rattle.bn_boards.proofs.LetterLemmas.{symbols_are}
 use Rattle.bn_board.specs.Flattened.{Flattened, IsBoardKept}
 use Rattle.bn_quad.specs.Names.{Naming}
-use Rattle.bn_reply_tables.proofs.FitLemmas.{AreSymbols, run_fits, start_fits}
+use Rattle.bn_reply_machines.proofs.FitLemmas.{AreSymbols, run_fits, start_fits}
 use Rattle.bn_reply_boards.specs.Shown.{HaveLetters}
 use Rattle.bn_reply_boards.proofs.ShownLemmas.{line_within, shown_letters}
 use Rattle.bn_view.specs.Viewed.{IsBoardFor, IsViewOf, MachineIsAt, ShowsMachine}

@@ -2,10 +2,10 @@
 use Rattle.std.proofs.Common.{sym, ap, subst, ◌∙◌}
 use Rattle.bn_circuits.specs.Circuits.{Goes}
 use Rattle.bn_lists.specs.Runs.{Reaches}
-use Rattle.bn_net.specs.RotaryNets.{rotary_circuit}
+use Rattle.bn_circuits.specs.RotaryNets.{rotary_circuit}
 use Rattle.bn_table.specs.Rows.{Named}
 use Rattle.bn_bennett.specs.Translation.{Translation}
-use Rattle.bn_board_spec.specs.Layouts.{IsExit, Layout}
+use Rattle.bn_boards.specs.Layouts.{IsExit, Layout}
 use Rattle.bn_board.specs.Flattened.{Flattened, IsSameBoard}
 use Rattle.bn_reply_views.specs.Viewing.{MayShow}
 

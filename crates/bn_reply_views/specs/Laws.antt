@@ -1,4 +1,4 @@
--- The laws of this crate, a named field each. `Laws` is the contract of `view_reply_laws`.
+-- The laws of this crate, a named field each. `Laws` is the contract of `reply_views_laws`.
 use Rattle.bn_reply_views.specs.BreakpointLaws.{GoesStopAtNextHit, RevsStopAtLastHit, StepsTakenBackAreSteps}
 use Rattle.bn_reply_views.specs.BreakpointLaws.{BoardsShowOneText}
 use Rattle.bn_reply_views.specs.PlaceLaws.{PlacesAreOneInAll, SessionsShowViews}

@@ -5,11 +5,11 @@ use Rattle.bn_circuits.specs.declared.place.Place.{Place}
 use Rattle.bn_machine.specs.Outcome.{Limits}
 use Rattle.bn_netlist_laws.specs.Spelling.{Spelling, Spelled}
 use Rattle.bn_netlist_laws.specs.declared.version.Version.TheVariants.{Two}
-use Rattle.bn_reply_laws.specs.CircuitReply.{StepReplies}
+use Rattle.bn_reply_relations.specs.CircuitReply.{StepReplies}
 use Rattle.bn_base.specs.Cuts.{IsCut}
 use Rattle.bn_reply.specs.declared.status.Status.{Status}
 use Rattle.bn_reply.specs.declared.status.Status.TheVariants.{Done}
-use Rattle.bn_reply_laws.specs.CompileReply.{CompileReplies}
+use Rattle.bn_reply_relations.specs.CompileReply.{CompileReplies}
 use Rattle.bn_network.specs.Limits.{AreSmall}
 use Rattle.bn_session.specs.Plays.{place_line}
 use Rattle.bn_session.specs.Sentences.{Step, View, script_text}

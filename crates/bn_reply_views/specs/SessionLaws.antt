@@ -4,8 +4,8 @@ use Rattle.bn_circuits.specs.Stepping.{run}
 use Rattle.bn_machine.specs.Machine.{Program}
 use Rattle.bn_machine.specs.Outcome.{Limits}
 use Rattle.bn_table.specs.Rows.{Named}
-use Rattle.bn_board_spec.specs.Layouts.{moment_at}
-use Rattle.bn_board_spec.specs.Flats.{Flat, IsFlatOf, flat_start}
+use Rattle.bn_boards.specs.Layouts.{moment_at}
+use Rattle.bn_boards.specs.Flats.{Flat, IsFlatOf, flat_start}
 use Rattle.bn_session.specs.Laws.{IsLeastHit, IsOnRun}
 use Rattle.bn_session.specs.Plays.{Plays, PlaysOne, Session, place_line, stops}
 use Rattle.bn_session.specs.declared.command.Command.{Command}

@@ -5,12 +5,12 @@ use Rattle.bn_circuits.specs.declared.place.Place.{Place}
 use Rattle.bn_machine.specs.Outcome.{Limits}
 use Rattle.bn_table.specs.Rows.{Named}
 use Rattle.bn_bennett.specs.Printed.{translation_names}
-use Rattle.bn_board_spec.specs.Layouts.{moment_at}
-use Rattle.bn_board_spec.specs.Flats.{Flat, flat_start}
+use Rattle.bn_boards.specs.Layouts.{moment_at}
+use Rattle.bn_boards.specs.Flats.{Flat, flat_start}
 use Rattle.bn_reply.specs.Answering.{IsSettled}
 use Rattle.bn_reply.specs.declared.status.Status.{Status}
 use Rattle.bn_network.specs.Limits.{AreSmall}
-use Rattle.bn_reply_laws.specs.Windows.{WindowReplies}
+use Rattle.bn_reply_relations.specs.Windows.{WindowReplies}
 use Rattle.bn_session.specs.Plays.{Plays, Session, session}
 use Rattle.bn_session.specs.declared.command.Command.{Command}
 use Rattle.bn_reply_views.specs.ScriptReply.{CutReplies, ScriptReplies}

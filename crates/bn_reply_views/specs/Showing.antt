@@ -6,7 +6,7 @@ use Rattle.bn_table.specs.Rows.{Named}
 use Rattle.bn_bennett.specs.Translation.{Translation}
 use Rattle.bn_bennett.specs.declared.translated.MachineState.{MachineState}
 use Rattle.bn_bennett.specs.declared.translated.MachineState.TheVariants.{AtState, Within}
-use Rattle.bn_board_spec.specs.Flats.{Flat}
+use Rattle.bn_boards.specs.Flats.{Flat}
 use Rattle.bn_reply_boards.specs.Shown.{HasNames, HaveLetters}
 use Rattle.bn_view.specs.Viewed.{IsViewOf}
 use Rattle.bn_view.specs.declared.layers.Layers.{Layers}

@@ -4,10 +4,10 @@ use Rattle.bn_circuits.specs.declared.place.Place.{Place}
 use Rattle.bn_machine.specs.Outcome.{Limits}
 use Rattle.bn_netlist_laws.specs.Spelling.{Spelling, Spelled}
 use Rattle.bn_netlist_laws.specs.declared.version.Version.TheVariants.{Two}
-use Rattle.bn_reply_laws.specs.CircuitReply.{StepReplies}
+use Rattle.bn_reply_relations.specs.CircuitReply.{StepReplies}
 use Rattle.bn_reply.specs.declared.status.Status.{Status}
 use Rattle.bn_reply.specs.declared.status.Status.TheVariants.{Done}
-use Rattle.bn_reply_laws.specs.CompileReply.{CompileReplies}
+use Rattle.bn_reply_relations.specs.CompileReply.{CompileReplies}
 use Rattle.bn_reply_views.specs.ViewReply.{ViewReplies}
 use Rattle.bn_reply_views.specs.ViewText.{element_line}
 

@@ -12,10 +12,10 @@ use Rattle.bn_bennett.specs.declared.translated.Stage.{Stage}
 use Rattle.bn_bennett.specs.declared.translated.Stage.TheVariants as stages
 use Rattle.bn_bennett.specs.declared.translated.MachineState.{MachineState}
 use Rattle.bn_bennett.specs.declared.translated.MachineState.TheVariants.{AtState, Within}
-use Rattle.bn_board_spec.specs.Flats.{Flat}
+use Rattle.bn_boards.specs.Flats.{Flat}
 use Rattle.bn_reply.specs.Lines.{line, position_text}
 use Rattle.bn_reply_boards.specs.LineNames.{cell_line_text, control_line_text}
-use Rattle.bn_reply_laws.specs.RunText.{exit_line, tape_lines}
+use Rattle.bn_reply_relations.specs.RunText.{exit_line, tape_lines}
 use Rattle.bn_view.specs.declared.layers.Layers.{Layers}
 use Rattle.bn_view.specs.declared.layers.ModuleAt.{ModuleAt}
 use Rattle.bn_view.specs.declared.layers.ModuleAt.TheVariants.{ControlLine, ControlInside}

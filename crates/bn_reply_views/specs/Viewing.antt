@@ -3,13 +3,13 @@ use Rattle.std.specs.Prelude.{◌≡◌, ℕ, List, [], ◌∷◌, codes, decima
 use Rattle.bn_circuits.specs.Circuits.{Goes}
 use Rattle.bn_lists.specs.Runs.{Reaches}
 use Rattle.bn_circuits.specs.declared.config.Config.{Config}
-use Rattle.bn_net.specs.RotaryNets.{rotary_circuit}
+use Rattle.bn_circuits.specs.RotaryNets.{rotary_circuit}
 use Rattle.bn_machine.specs.Outcome.{Limits}
 use Rattle.bn_table.specs.Rows.{Named}
 use Rattle.bn_bennett.specs.Translation.{Translation, IsTranslation}
-use Rattle.bn_board_spec.specs.declared.exit.Exit.{Exit}
-use Rattle.bn_board_spec.specs.Layouts.{IsExit}
-use Rattle.bn_board_spec.specs.Flats.{Flat}
+use Rattle.bn_boards.specs.declared.exit.Exit.{Exit}
+use Rattle.bn_boards.specs.Layouts.{IsExit}
+use Rattle.bn_boards.specs.Flats.{Flat}
 use Rattle.bn_board.specs.Flattened.{Flattened, origin}
 use Rattle.bn_reply.specs.Lines.{line}
 use Rattle.bn_reply.specs.declared.status.Status.{Status}

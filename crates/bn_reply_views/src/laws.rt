@@ -2,6 +2,6 @@
 ghost use Rattle.bn_reply_views.specs.Laws.{Laws};
 
 /// The laws of this crate, a named field each.
-pub fn view_reply_laws()
+pub fn reply_views_laws()
     ensures { Laws }
 {}

@@ -9,7 +9,7 @@ mod view;
 mod view_text;
 mod viewer;
 
-pub use laws::view_reply_laws;
+pub use laws::reply_views_laws;
 pub use script_text::{refuse_script, without_script};
 pub use session::reply_session;
 pub use view::reply_view;

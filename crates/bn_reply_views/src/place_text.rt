@@ -5,8 +5,8 @@ ghost use Rattle.bn_netlist_laws.specs.Sentences.{line_of_place, line_text, plac
 ghost use Rattle.bn_reply.specs.Fronts.{GrewInPart};
 
 use bn_base::push_u64;
+use bn_circuits::{Line, Place};
 use bn_element::{EAST, NORTH, SOUTH};
-use bn_net::{Line, Place};
 use bn_reply::{NoMemory, push};
 
 // Appends a place: the line that the signal is about to enter, or the one by which it has left.

@@ -2,20 +2,20 @@
 
 ghost use Rattle.std.specs.Prelude.{◌≡◌, ℕ, [], List, IfOk};
 ghost use Rattle.bn_network.specs.Limits.{AreSmall};
-ghost use Rattle.bn_assembly.specs.Assembled.{limits_of};
+ghost use Rattle.bn_network_assembly.specs.Assembled.{limits_of};
 ghost use Rattle.bn_machine.specs.Outcome.{Limits};
-ghost use Rattle.bn_board_spec.specs.Flats.{Flat, flat_start};
-ghost use Rattle.bn_reply_laws.specs.Windows.{WindowReplies};
+ghost use Rattle.bn_boards.specs.Flats.{Flat, flat_start};
+ghost use Rattle.bn_reply_relations.specs.Windows.{WindowReplies};
 ghost use Rattle.bn_view.specs.Viewed.{IsBoardFor};
 ghost use Rattle.bn_reply_views.specs.SessionReply.{IsAnswerTo, SessionReplies, TellsSession};
 ghost use Rattle.bn_reply_views.specs.Viewing.{MayShow};
 
 use crate::script_text::{refuse_script, without_script};
 use crate::viewer::Viewer;
-use bn_assembly::Windows;
 use bn_base::cut_input;
 use bn_bennett::{Translated, names};
 use bn_board::Board;
+use bn_network_assembly::Windows;
 use bn_reply::{NoMemory, Reply, Status};
 use bn_reply_boards::{OpenedInput, open_input};
 use bn_session::{Script, play, read_script};

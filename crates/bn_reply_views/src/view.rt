@@ -2,9 +2,9 @@
 
 ghost use Rattle.std.specs.Prelude.{ℕ, [], List, IfOk};
 ghost use Rattle.bn_network.specs.Limits.{AreSmall};
-ghost use Rattle.bn_assembly.specs.Assembled.{limits_of};
+ghost use Rattle.bn_network_assembly.specs.Assembled.{limits_of};
 ghost use Rattle.bn_machine.specs.Outcome.{Limits};
-ghost use Rattle.bn_board_spec.specs.Flats.{Flat};
+ghost use Rattle.bn_boards.specs.Flats.{Flat};
 ghost use Rattle.bn_board.specs.Flattened.{IsBoardKept};
 ghost use Rattle.bn_view.specs.Viewed.{IsBoardFor};
 ghost use Rattle.bn_reply_views.specs.ViewReply.{ViewReplies};
@@ -12,9 +12,9 @@ ghost use Rattle.bn_reply_views.specs.Showing.{TellsLayers};
 ghost use Rattle.bn_reply_views.specs.Viewing.{MayShow};
 
 use crate::view_text::view_text;
-use bn_assembly::Windows;
 use bn_bennett::Translated;
 use bn_board::Board;
+use bn_network_assembly::Windows;
 use bn_reply::{NoMemory, Reply, Status};
 use bn_reply_boards::{OpenedInput, open_input};
 use bn_table::Table;

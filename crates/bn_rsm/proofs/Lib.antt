@@ -3,3 +3,9 @@ pub mod NumberLemmas
 pub mod SoundLemmas
 pub mod RunCostLemmas
 pub mod CostLemmas
+mod Decimals
+mod Passing
+mod Drafting
+mod Coming
+pub mod ReadingLaws
+pub mod LawLemmas

@@ -1,35 +1,14 @@
--- Laws on machines and on what their moves cost.
-use Rattle.std.specs.Prelude.{◌≡◌, ◌≢◌, ℕ, ◌+◌, ◌*◌, ◌<◌, ◌≤◌, ◌⊎◌, List}
-use Rattle.bn_rsm.specs.Machines.{AreSound}
+-- The laws of this crate, a named field each. `Laws` is the contract of `rsm_laws`.
+use Rattle.bn_rsm.specs.Costs.{loose_cost, move_cost}
 use Rattle.bn_rsm.specs.Faults.{IsMoveRefusal}
-use Rattle.bn_rsm.specs.Costs.{move_cost, loose_cost}
-use Rattle.bn_rsm.specs.declared.rsm_move.RsmMove.{RsmMove}
+use Rattle.bn_rsm.specs.Machines.{AreSound}
 use Rattle.bn_rsm.specs.declared.refusal.RsmRefusal.{RsmRefusal}
 use Rattle.bn_rsm.specs.declared.refusal.RsmRefusal.TheVariants.{NoMemory}
-
-abbrev pub RefusalsAreOne : Type 0
-RefusalsAreOne =
-    (states lines : ℕ) (moves : List RsmMove) (a b : RsmRefusal) → IsMoveRefusal states lines moves a
-    → IsMoveRefusal states lines moves b → a ≢ NoMemory → b ≢ NoMemory → a ≡ b
-
-abbrev pub SoundMovesAreTaken : Type 0
-SoundMovesAreTaken =
-    (states lines : ℕ) (moves : List RsmMove) (a : RsmRefusal) → AreSound states lines moves
-    → IsMoveRefusal states lines moves a → a ≡ NoMemory
-
--- moves make a machine, or they have a first fault
-abbrev pub MovesAreSoundOrRefused : Type 0
-MovesAreSoundOrRefused =
-    (states lines : ℕ) (moves : List RsmMove)
-    → AreSound states lines moves ⊎ ((a : RsmRefusal) × (a ≢ NoMemory) × IsMoveRefusal states lines moves a)
-
--- n columns of k rows have n * (k + 1) elements
-abbrev pub CostsAreBounded : Type 0
-CostsAreBounded =
-    (n k q i r o : ℕ) → q < n → i < k → r < n → o < k
-    → (move_cost n k q i r o ≤ 4 * (n * (k + 1))) × (loose_cost k q i ≤ 4 * (n * (k + 1)))
-
--- ---- the laws
+use Rattle.bn_rsm.specs.declared.rsm_move.RsmMove.{RsmMove}
+use Rattle.bn_rsm.specs.Reading.{MachineOrRefusal, MachinesAreNotRefused, OneMachine, OneReading, OneRefusal}
+use Rattle.bn_rsm.specs.Reading.{ReadingOrFault}
+use Rattle.bn_rsm.specs.declared.entry.TheConstants.{MOST_ENTRIES}
+use Rattle.std.specs.Prelude.{List, ℕ, ◌*◌, ◌+◌, ◌<◌, ◌^◌, ◌≡◌, ◌≢◌, ◌≤◌, ◌⊎◌}
 
 pub record Laws : Type 0 where
   -- Moves have one refusal at most, beside want of memory.
@@ -40,3 +19,13 @@ pub record Laws : Type 0 where
   pub moves_are_sound_or_refused : MovesAreSoundOrRefused
   -- A move costs at most four times the elements of the bank, and so does the way to a loose line.
   pub costs_are_bounded : CostsAreBounded
+  -- The most entries are 2^16.
+  pub most_entries_are_stated : MOST_ENTRIES ≡ 2 ^ 16
+  -- Bytes are read as one list of moves at most.
+  pub bytes_have_one_reading : OneReading
+  -- Bytes are read as moves exactly where their entries have no fault.
+  pub bytes_have_a_reading_or_a_fault : ReadingOrFault
+  -- Bytes read as a machine, or they have a refusal beside want of memory; and not both.
+  pub bytes_are_read_or_refused : MachineOrRefusal × MachinesAreNotRefused
+  -- Bytes read as one machine at most, and have one refusal at most, beside want of memory.
+  pub bytes_have_one_answer : OneMachine × OneRefusal

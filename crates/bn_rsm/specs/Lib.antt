@@ -2,5 +2,11 @@ pub mod Machines
 pub mod Faults
 pub mod Costs
 pub mod Pairs
-pub mod Laws
 pub mod RunCosts
+pub mod Entry
+pub mod TableFaults
+pub mod Reading
+pub mod Draft
+pub mod Drafted
+pub mod Writing
+pub mod Laws

@@ -1,14 +1,22 @@
 //! Reversible sequential machines given by their moves, and what a move of one costs as a circuit.
 #![tactic(auto)]
 
+mod draft;
+mod entry;
 mod index;
 mod laws;
 mod refusal;
 mod rsm;
 mod rsm_move;
+mod table_refusal;
+mod text;
 
+pub use bn_csv::NoMemory;
 pub use bn_lists::NoMemory;
+pub use entry::MOST_ENTRIES;
 pub use laws::rsm_laws;
 pub use refusal::RsmRefusal;
 pub use rsm::Rsm;
 pub use rsm_move::RsmMove;
+pub use table_refusal::RsmTableRefusal;
+pub use text::{read_rsm, write_rsm};

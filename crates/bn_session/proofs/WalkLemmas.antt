@@ -7,8 +7,8 @@ use Rattle.bn_circuits.specs.Stepping.{run, back, advance, retreat}
 use Rattle.bn_circuits.proofs.RunLemmas.{run-zero, back-zero, run_composes, back_composes, next-stuck, previous-first}
 use Rattle.bn_circuits.proofs.StepLemmas.{Goes-next, Goes-previous}
 use Rattle.bn_circuits.specs.declared.config.Config.{Config}
-use Rattle.bn_net.specs.RotaryNets.{rotary_circuit}
-use Rattle.bn_board_spec.specs.Layouts.{moment_at}
+use Rattle.bn_circuits.specs.RotaryNets.{rotary_circuit}
+use Rattle.bn_boards.specs.Layouts.{moment_at}
 use Rattle.bn_board.specs.Flattened.{Flattened, IsBoardKept, IsSameBoard}
 use Rattle.bn_packed.specs.Running.{GoesTo, IsAtEnd, run_along}
 use Rattle.bn_packed.specs.declared.direction.Direction.{Direction}

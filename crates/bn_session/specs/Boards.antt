@@ -1,8 +1,8 @@
 -- How a script is played on a board, and what is left where memory runs out.
 use Rattle.std.specs.Prelude.{◌≡◌, ℕ, List, [], ◌++◌}
 use Rattle.bn_circuits.specs.declared.config.Config.{Config}
-use Rattle.bn_net.specs.RotaryNets.{rotary_circuit}
-use Rattle.bn_board_spec.specs.Layouts.{moment_at}
+use Rattle.bn_circuits.specs.RotaryNets.{rotary_circuit}
+use Rattle.bn_boards.specs.Layouts.{moment_at}
 use Rattle.bn_board.specs.Flattened.{Flattened}
 use Rattle.bn_session.specs.Breakpoints.{Breakpoint}
 use Rattle.bn_session.specs.Plays.{Session, session, PlaysOne, Plays, IsLeftWithin}

@@ -7,8 +7,8 @@ ghost use Rattle.bn_session.specs.Plays.{named_text, place_line, label_line};
 
 use bn_base::{NoMemory, push_u64};
 use bn_board::Board;
+use bn_circuits::Place;
 use bn_element::{EAST, NORTH, SOUTH};
-use bn_net::Place;
 use std::alloc::Global;
 
 // Appends the line that says where a board is, and the label that is named there. After `NoMemory` nothing was

@@ -1,8 +1,8 @@
 //! Watched ways on a board.
 
 ghost use Rattle.std.specs.Prelude.{◌≡◌, None, Some, MatchOption};
-ghost use Rattle.bn_net.specs.RotaryNets.{rotary_circuit};
-ghost use Rattle.bn_board_spec.specs.Layouts.{moment_at};
+ghost use Rattle.bn_circuits.specs.RotaryNets.{rotary_circuit};
+ghost use Rattle.bn_boards.specs.Layouts.{moment_at};
 ghost use Rattle.bn_board.specs.Flattened.{IsSameBoard};
 ghost use Rattle.bn_packed.specs.Running.{run_along};
 ghost use Rattle.bn_session.specs.Plays.{IsStop, stops, label_that_holds};

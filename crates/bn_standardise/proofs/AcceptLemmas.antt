@@ -5,7 +5,7 @@ use Rattle.bn_machine.specs.Machine.{final_of}
 use Rattle.bn_lists.specs.Lists.{nth}
 use Rattle.bn_lists.proofs.ListLemmas.{nth_within}
 use Rattle.bn_machine.specs.declared.quint.Quint.{Quint}
-use Rattle.bn_standard.specs.Search.{NoneBefore}
+use Rattle.bn_machine.specs.Search.{NoneBefore}
 use Rattle.bn_standardise.specs.Standardised.{HasNoHalting}
 use Rattle.bn_standardise.specs.Refusals.{IsLeastHalting}
 

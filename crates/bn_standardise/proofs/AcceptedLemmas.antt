@@ -3,9 +3,9 @@ use Rattle.std.specs.Prelude.{◌≡◌, ◌≢◌, ℕ, List}
 use Rattle.std.proofs.Common.{refl, sym, ◌∙◌, ap, arith}
 use Rattle.bn_machine.specs.Machine.{Program}
 use Rattle.bn_machine.specs.declared.quint.Quint.{Quint}
-use Rattle.bn_standard.specs.Verdict.{IsLeastRepeat}
-use Rattle.bn_standard.proofs.VerdictLemmas.{verdict_once}
-use Rattle.bn_standard.specs.declared.why.Why.TheVariants as whys
+use Rattle.bn_machine.specs.Verdict.{IsLeastRepeat}
+use Rattle.bn_machine.proofs.VerdictLemmas.{verdict_once}
+use Rattle.bn_machine.specs.declared.why.Why.TheVariants as whys
 use Rattle.bn_standardise.specs.Refusals.{IsAccepted, IsLeastHalting, IsLooseRefusal}
 use Rattle.bn_standardise.specs.Laws.{RefusalsAreOne}
 use Rattle.bn_standardise.specs.declared.refusal.LooseRefusal.{LooseRefusal}

@@ -4,7 +4,7 @@ use Rattle.std.proofs.Common.{refl, sym, subst, ◌∙◌, ap, arith, inl, inr}
 use Rattle.bn_machine.specs.Machine.{Program, start_of, final_of}
 use Rattle.bn_lists.specs.Lists.{nth, Has}
 use Rattle.bn_machine.specs.declared.quint.Quint.{Quint}
-use Rattle.bn_standard.specs.Standard.{IsStandard, NamesStart, NamesFinal}
+use Rattle.bn_machine.specs.Standard.{IsStandard, NamesStart, NamesFinal}
 use Rattle.bn_standardise.specs.Rules.{entering, leaving, middle_of}
 use Rattle.bn_standardise.specs.declared.name.Name.{Name}
 use Rattle.bn_standardise.specs.declared.name.Name.TheVariants.{First, Own, Last}

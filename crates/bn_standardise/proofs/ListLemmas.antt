@@ -6,7 +6,7 @@ use Rattle.bn_lists.specs.Lists.{nth, Has}
 use Rattle.bn_lists.proofs.MemberLemmas.{of_two}
 use Rattle.bn_machine.proofs.MachineStepLemmas.{first_match_or_none}
 use Rattle.bn_machine.specs.declared.quint.Quint.{Quint}
-use Rattle.bn_standard.specs.Standard.{Repeats, IsUnambiguous}
+use Rattle.bn_machine.specs.Standard.{Repeats, IsUnambiguous}
 
 -- every element has this relation to all that stand behind it
 abbrev pub Pairwise : {X : Type 0} → (X → X → Type 0) → List X → Type 0

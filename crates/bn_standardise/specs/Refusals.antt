@@ -2,8 +2,8 @@
 use Rattle.std.specs.Prelude.{◌≡◌, ℕ, ◌+◌, ◌<◌, ◌≤◌, List, length, ⊤}
 use Rattle.bn_machine.specs.Machine.{Program}
 use Rattle.bn_machine.specs.declared.quint.Quint.{Quint}
-use Rattle.bn_standard.specs.Standard.{IsUnambiguous}
-use Rattle.bn_standard.specs.Verdict.{IsLeastRepeat}
+use Rattle.bn_machine.specs.Standard.{IsUnambiguous}
+use Rattle.bn_machine.specs.Verdict.{IsLeastRepeat}
 use Rattle.bn_table.specs.declared.entry.TheConstants.{MOST_ENTRIES}
 use Rattle.bn_standardise.specs.Standardised.{IsLoose, LeavesHalting}
 use Rattle.bn_standardise.specs.declared.refusal.LooseRefusal.{LooseRefusal}

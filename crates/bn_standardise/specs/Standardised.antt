@@ -3,7 +3,7 @@ use Rattle.std.specs.Prelude.{◌≡◌, ◌≢◌, ℕ, List, map, Some, ◌⊎
 use Rattle.bn_machine.specs.Machine.{Program, IsMachine, final_of}
 use Rattle.bn_lists.specs.Lists.{nth, Has}
 use Rattle.bn_machine.specs.declared.quint.Quint.{Quint}
-use Rattle.bn_standard.specs.Standard.{IsUnambiguous}
+use Rattle.bn_machine.specs.Standard.{IsUnambiguous}
 use Rattle.bn_standardise.specs.Rules.{rules_of}
 use Rattle.bn_standardise.specs.Numbering.{number_of, states_of}
 use Rattle.bn_standardise.specs.declared.name.Name.{Name}

@@ -2,15 +2,14 @@
 
 ghost use Rattle.std.specs.Prelude.{◌≡◌, ◌↔◌, ◌<◌, ◌≤◌, ◌^◌, IsTrue, MatchOption, IfErr, OnOk, length};
 ghost use Rattle.bn_machine.specs.Machine.{final_of};
-ghost use Rattle.bn_standard.specs.Standard.{IsUnambiguous};
+ghost use Rattle.bn_machine.specs.Standard.{IsUnambiguous};
 ghost use Rattle.bn_standardise.specs.Limits.{most_symbols};
 ghost use Rattle.bn_standardise.specs.Standardised.{HasNoHalting};
 ghost use Rattle.bn_standardise.specs.Refusals.{IsAccepted, IsLeastHalting};
 ghost use Rattle.bn_standardise.specs.Refusals.{IsLooseRefusal, IsRepeatRefusal};
 
 use crate::refusal::LooseRefusal;
-use bn_machine::{Machine, Quint};
-use bn_standard::{Why, check};
+use bn_machine::{Machine, Quint, Why, check};
 use bn_table::MOST_ENTRIES;
 use std::alloc::Global;
 

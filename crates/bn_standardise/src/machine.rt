@@ -1,7 +1,7 @@
 //! The machine in standard form.
 
 ghost use Rattle.std.specs.Prelude.{◌≡◌, ◌≤◌, IfOk, IfErr, OnOk, length};
-ghost use Rattle.bn_standard.specs.Standard.{IsStandard};
+ghost use Rattle.bn_machine.specs.Standard.{IsStandard};
 ghost use Rattle.bn_standardise.specs.Limits.{most_symbols};
 ghost use Rattle.bn_standardise.specs.Standardised.{standardised};
 ghost use Rattle.bn_standardise.specs.Refusals.{IsAccepted, IsLooseRefusal};

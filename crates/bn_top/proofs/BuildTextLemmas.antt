@@ -9,9 +9,9 @@ use Rattle.bn_qtable.specs.TapeWords.{TapeWords}
 use Rattle.bn_network.specs.Starts.{words_on}
 use Rattle.bn_reply.specs.declared.status.Status.TheVariants.{Done}
 use Rattle.bn_reply_builds.specs.BuildReply.{BuildReplies, SizedReplies, TellsBuild, built, large, long, many}
-use Rattle.bn_reply_tables.specs.QuadReply.{domain, faulty, passes, range}
-use Rattle.bn_reply_tables.specs.UniformReply.{not_uniform, uniform}
-use Rattle.bn_reply_tables.specs.WordsReply.{named, unnamed}
+use Rattle.bn_reply_machines.specs.QuadReply.{domain, faulty, passes, range}
+use Rattle.bn_reply_machines.specs.UniformReply.{not_uniform, uniform}
+use Rattle.bn_reply_machines.specs.WordsReply.{named, unnamed}
 use Rattle.bn_words.specs.Requests.{Build, words_of}
 use Rattle.bn_top.specs.TextLaws.{BuiltTextsReturn, StepsAndBack}
 use Rattle.bn_top.proofs.TextLemmas.{done_reply, steps_and_back}

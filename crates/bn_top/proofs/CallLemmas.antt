@@ -4,7 +4,7 @@ use Rattle.std.proofs.Common.{inl, inr, sym, subst, ◌∙◌}
 use Rattle.std.proofs.lemmas.Bool.{cases_Bool}
 use Rattle.bn_circuits.specs.declared.place.Place.{Place}
 use Rattle.bn_io.specs.Faults.{Rose, CountsUnless}
-use Rattle.bn_net.proofs.WalkLemmas.{hears-nothing}
+use Rattle.bn_circuits.proofs.WalkLemmas.{hears-nothing}
 use Rattle.bn_words.specs.Requests.{Request, HasForm, HasNoForm, reads_input}
 use Rattle.bn_words.proofs.DecideLemmas.{words_have_form_or_none}
 use Rattle.bn_reply.specs.Codes.{IsAnswer}
@@ -15,7 +15,7 @@ use Rattle.bn_reply.specs.declared.status.Status.{Status}
 use Rattle.bn_reply.specs.declared.status.Status.TheVariants.{Usage, Size, ReadFault, WriteFault, NoMemory}
 use Rattle.bn_reply.proofs.CountLemmas.{counts_nothing}
 use Rattle.bn_reply_boards.proofs.ClosedLemmas.{tells}
-use Rattle.bn_reply_laws.specs.ToldRuns.{TellsHeadline}
+use Rattle.bn_reply_relations.specs.ToldRuns.{TellsHeadline}
 use Rattle.bn_headline.specs.CircuitHeadline.{CircuitHeadline}
 use Rattle.bn_headline.specs.Generated.{GeneratedHeadline}
 use Rattle.bn_headline.specs.MachineHeadline.{MachineHeadline, MachineHeadlineWithin}

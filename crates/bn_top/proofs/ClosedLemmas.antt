@@ -1,6 +1,6 @@
 -- The laws of this crate with those below put in.
 use Rattle.bn_headline.proofs.ClosedLemmas.{generated_tell, replies_tell}
-use Rattle.bn_reply_windows.proofs.ClosedLemmas.{found_told}
+use Rattle.bn_headline.proofs.WindowClosedLemmas.{found_told}
 use Rattle.bn_words.proofs.DecideLemmas.{words_have_form_or_none}
 use Rattle.bn_top.specs.Clauses.{ClausesGiveEnds}
 use Rattle.bn_top.specs.FoundLaws.{AnswersTellFound}

@@ -7,12 +7,12 @@ use Rattle.bn_reply.specs.declared.limits.TheConstants.{MOST_INPUT_BYTES}
 use Rattle.bn_reply.specs.declared.status.Status.{Status}
 use Rattle.bn_reply.specs.declared.status.Status.TheVariants.{Done}
 use Rattle.bn_quad.specs.Quadruples.{Quadruples, inverse_of}
-use Rattle.bn_reply_drives.proofs.CircuitLemmas.{builds-tell_boards, drives-tell_boards}
-use Rattle.bn_reply_drives.proofs.HeadlineLemmas.{drives-tell_machine}
+use Rattle.bn_reply_builds.proofs.CircuitLemmas.{builds-tell_boards, drives-tell_boards}
+use Rattle.bn_reply_builds.proofs.HeadlineLemmas.{drives-tell_machine}
 use Rattle.bn_erase_laws.proofs.InverseLemmas.{inverses-follow, inverses-uniform, tests_passed}
-use Rattle.bn_named_laws.proofs.TableLemmas.{inverses-tables}
-use Rattle.bn_reply_tables.proofs.InverseLemmas.{inverse_settled}
-use Rattle.bn_reply_tables.specs.InverseReply.{InverseReplies, inverse_text, inverted}
+use Rattle.bn_renumbering.proofs.TableLemmas.{inverses-tables}
+use Rattle.bn_reply_machines.proofs.InverseLemmas.{inverse_settled}
+use Rattle.bn_reply_machines.specs.InverseReply.{InverseReplies, inverse_text, inverted}
 use Rattle.bn_words.specs.Requests.{Back, Bennett, Build, Drive, HasForm, Inverse, Machine, Request, Step, reads_input}
 use Rattle.bn_words.proofs.FormLemmas.{one_form}
 use Rattle.bn_headline.proofs.CommandLemmas.{back-tells, bennett-tells, machine-tells, step-tells}

@@ -11,7 +11,7 @@ use Rattle.bn_words.specs.declared.request.ConfigurationRequest as configuration
 use Rattle.bn_words.specs.declared.request.ConfigurationRequest.TheVariants as configuration_variants
 use Rattle.bn_words.specs.declared.request.WholeRequest as whole
 use Rattle.bn_words.specs.declared.request.WholeRequest.TheVariants as whole_variants
-use Rattle.bn_reply_windows.proofs.ClosedLemmas.{auto_settled}
+use Rattle.bn_headline.proofs.WindowClosedLemmas.{auto_settled}
 use Rattle.bn_reply.specs.Answering.{IsSettled}
 use Rattle.bn_reply.specs.Replying.{IsReplied, IsUnfinished}
 use Rattle.bn_reply.specs.declared.reply.Reply.{Reply}
@@ -23,22 +23,22 @@ use Rattle.bn_reply.specs.Streams.{AnswerEnds, StreamEnds}
 use Rattle.bn_reply.proofs.ReplyLemmas.{given_ends, silent_ends}
 use Rattle.bn_reply_erase.proofs.SettledLemmas.{erase_settled, erase_run_settled}
 use Rattle.bn_reply_boards.proofs.GenerateLemmas.{generate_settled}
-use Rattle.bn_reply_laws.proofs.SettledLemmas.{back_settled, migrate_settled, step_settled}
+use Rattle.bn_reply_relations.proofs.SettledLemmas.{back_settled, migrate_settled, step_settled}
 use Rattle.bn_reply_circuits.proofs.MirrorLemmas.{mirror_settled}
 use Rattle.bn_reply_circuits.proofs.FarmReplyLemmas.{farm-settled}
 use Rattle.bn_reply_circuits.proofs.RealiseLemmas.{realise_settled}
-use Rattle.bn_reply_tables.proofs.StandardLemmas.{standard_settled}
+use Rattle.bn_reply_machines.proofs.StandardLemmas.{standard_settled}
 use Rattle.bn_reply_circuits.proofs.PlanReplyLemmas.{plan_settled}
-use Rattle.bn_reply_tables.proofs.BennettLemmas.{bennett_settled}
-use Rattle.bn_reply_tables.proofs.CheckLemmas.{check_settled}
-use Rattle.bn_reply_tables.proofs.InverseLemmas.{inverse_settled}
-use Rattle.bn_reply_tables.proofs.MachineLemmas.{machine_settled}
-use Rattle.bn_reply_tables.proofs.ReversibleLemmas.{reversible_settled}
-use Rattle.bn_reply_laws.proofs.ClosedLemmas.{compile_settled, run_settled}
+use Rattle.bn_reply_machines.proofs.BennettLemmas.{bennett_settled}
+use Rattle.bn_reply_machines.proofs.CheckLemmas.{check_settled}
+use Rattle.bn_reply_machines.proofs.InverseLemmas.{inverse_settled}
+use Rattle.bn_reply_machines.proofs.MachineLemmas.{machine_settled}
+use Rattle.bn_reply_machines.proofs.ReversibleLemmas.{reversible_settled}
+use Rattle.bn_reply_relations.proofs.ClosedLemmas.{compile_settled, run_settled}
 use Rattle.bn_reply_traces.proofs.MomentsSettled.{moments_are_settled}
 use Rattle.bn_reply_traces.proofs.TraceLemmas.{all_settled}
 use Rattle.bn_reply_builds.proofs.SettledLemmas.{build_is_settled}
-use Rattle.bn_reply_drives.proofs.SettledLemmas.{drive_is_settled}
+use Rattle.bn_reply_builds.proofs.DriveSettledLemmas.{drive_is_settled}
 use Rattle.bn_reply_layout.proofs.ClosedLemmas.{layout_is_settled}
 use Rattle.bn_reply_looks.proofs.SettledLemmas.{look_settled, play_settled}
 use Rattle.bn_reply_views.proofs.SessionClosedLemmas.{session_settled}

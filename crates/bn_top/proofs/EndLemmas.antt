@@ -12,7 +12,7 @@ use Rattle.bn_reply.specs.Streams.{AnswerEnds}
 use Rattle.bn_reply.proofs.ReplyLemmas.{begun_as, broken_as}
 use Rattle.bn_reply.specs.declared.status.Status.{Status}
 use Rattle.bn_reply.specs.declared.status.Status.TheVariants.{Usage, ReadFault, WriteFault, NoMemory}
-use Rattle.bn_net.proofs.WalkLemmas.{hears-nothing}
+use Rattle.bn_circuits.proofs.WalkLemmas.{hears-nothing}
 use Rattle.bn_top.specs.Answers.{Answers, no_form, unread, too_long, replied, Replies, usage_text}
 use Rattle.bn_top.specs.Told.{EndsWithoutInput, IsAnswered, IsBegun, IsBroken, NeedsNoInput}
 use Rattle.bn_top.proofs.AnswerLemmas.{not_both}

@@ -11,11 +11,11 @@ use Rattle.bn_reply_boards.specs.GenerateReply.{GenerateReplies}
 use Rattle.bn_reply_boards.specs.GenerateLaws.{GeneratedRunsTellOutcomes}
 use Rattle.bn_reply.specs.Codes.{IsAnswer}
 use Rattle.bn_reply.specs.declared.status.Status.{Status}
-use Rattle.bn_reply_laws.specs.ToldRuns.{AsksRun, TellsHeadline}
+use Rattle.bn_reply_relations.specs.ToldRuns.{AsksRun, TellsHeadline}
 use Rattle.bn_reply.specs.declared.limits.TheConstants.{MOST_INPUT_BYTES}
-use Rattle.bn_reply_laws.specs.RunReply.{RunReplies}
+use Rattle.bn_reply_relations.specs.RunReply.{RunReplies}
 use Rattle.bn_network.specs.Limits.{AreSmall}
-use Rattle.bn_reply_laws.proofs.ClosedLemmas.{headline_told}
+use Rattle.bn_reply_relations.proofs.ClosedLemmas.{headline_told}
 use Rattle.bn_top.specs.Answers.{Answers, no_form, unread, too_long, replied, Replies}
 use Rattle.bn_top.specs.Told.{IsAnswered, TellsGenerate}
 use Rattle.bn_top.proofs.AnswerLemmas.{not_both}

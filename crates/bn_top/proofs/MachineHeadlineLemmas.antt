@@ -2,7 +2,7 @@
 use Rattle.std.specs.Prelude.{ℕ, List, Option}
 use Rattle.bn_circuits.specs.declared.place.Place.{Place}
 use Rattle.bn_reply.specs.declared.status.Status.{Status}
-use Rattle.bn_reply_laws.specs.Laws.{TookReplies}
+use Rattle.bn_reply_relations.specs.Laws.{TookReplies}
 use Rattle.bn_top.specs.Told.{IsAnswered}
 use Rattle.bn_top.proofs.EndLemmas.{by_told}
 use Rattle.bn_top.proofs.HeadlineLemmas.{asked_reply}

@@ -10,14 +10,14 @@ use Rattle.bn_netlist_laws.specs.declared.version.Version.TheVariants.{Two}
 use Rattle.bn_netlist_laws.proofs.VersionLemmas.{spellings-move}
 use Rattle.bn_headline.proofs.CommandLemmas.{back-tells, step-tells}
 use Rattle.bn_reply.specs.declared.status.Status.TheVariants.{Done}
-use Rattle.bn_reply_laws.proofs.CompileLemmas.{compiled, steps_back}
+use Rattle.bn_reply_relations.proofs.CompileLemmas.{compiled, steps_back}
 use Rattle.bn_reply_circuits.specs.MirrorLaws.{IsUncounted}
 use Rattle.bn_reply_circuits.specs.MirrorReply.{MirrorReplies, mirrored, misspelled}
 use Rattle.bn_reply_circuits.specs.RealiseReply.{RealiseReplies, bank, clashing, faulty, lacking, large, reading}
 use Rattle.bn_reply_circuits.proofs.ComeBackLemmas.{farms-come_back}
 use Rattle.bn_reply_circuits.proofs.MirrorLemmas.{image_spelled, mirrored_texts-come_back}
-use Rattle.bn_reply_laws.proofs.SettledLemmas.{circuits_settled}
-use Rattle.bn_reply_laws.proofs.SizeLemmas.{texts-read}
+use Rattle.bn_reply_relations.proofs.SettledLemmas.{circuits_settled}
+use Rattle.bn_reply_relations.proofs.SizeLemmas.{texts-read}
 use Rattle.bn_words.specs.Requests.{Back, Compile, Farm, HasForm, Mirror, Realise, Request, Step, reads_input, words_of}
 use Rattle.bn_words.proofs.FormLemmas.{one_form}
 use Rattle.bn_top.specs.Answers.{Answers, no_form, unread, too_long, replied, Replies}

@@ -6,26 +6,26 @@ use Rattle.bn_words.specs.Requests.{Request, HasForm, HasNoForm, reads_input, St
 use Rattle.bn_words.specs.Requests.{Moments, ThreeMoments, Reversible, Inverse, Bennett, Realise, Standard, Build}
 use Rattle.bn_words.specs.Requests.{Compile, Drive, Layout, Run, RunAuto, View, Session, Look, Play, Plan, Migrate}
 use Rattle.bn_words.specs.Requests.{Mirror, Farm, Generate, Erase, EraseRun}
-use Rattle.bn_reply_laws.specs.CompileReply.{CompileReplies}
+use Rattle.bn_reply_relations.specs.CompileReply.{CompileReplies}
 use Rattle.bn_reply.specs.declared.limits.TheConstants.{MOST_INPUT_BYTES}
-use Rattle.bn_reply_laws.specs.RunReply.{RunReplies}
+use Rattle.bn_reply_relations.specs.RunReply.{RunReplies}
 use Rattle.bn_headline.specs.AutoReply.{AutoReplies}
 use Rattle.bn_reply_erase.specs.EraseReply.{EraseReplies, EraseRunReplies}
 use Rattle.bn_reply_boards.specs.GenerateReply.{GenerateReplies}
-use Rattle.bn_reply_laws.specs.CircuitReply.{BackReplies, StepReplies}
+use Rattle.bn_reply_relations.specs.CircuitReply.{BackReplies, StepReplies}
 use Rattle.bn_reply_circuits.specs.RealiseReply.{RealiseReplies}
 use Rattle.bn_reply_circuits.specs.PlanReply.{PlanReplies}
-use Rattle.bn_reply_laws.specs.MigrateReply.{MigrateReplies}
+use Rattle.bn_reply_relations.specs.MigrateReply.{MigrateReplies}
 use Rattle.bn_reply_circuits.specs.MirrorReply.{MirrorReplies}
 use Rattle.bn_reply_circuits.specs.FarmReply.{FarmReplies}
-use Rattle.bn_reply_tables.specs.StandardReply.{StandardTableReplies}
-use Rattle.bn_reply_tables.specs.BennettReply.{BennettReplies}
-use Rattle.bn_reply_tables.specs.CheckReply.{CheckReplies}
-use Rattle.bn_reply_tables.specs.InverseReply.{InverseReplies}
-use Rattle.bn_reply_tables.specs.MachineReply.{MachineReplies}
-use Rattle.bn_reply_tables.specs.ReversibleReply.{ReversibleReplies}
+use Rattle.bn_reply_machines.specs.StandardReply.{StandardTableReplies}
+use Rattle.bn_reply_machines.specs.BennettReply.{BennettReplies}
+use Rattle.bn_reply_machines.specs.CheckReply.{CheckReplies}
+use Rattle.bn_reply_machines.specs.InverseReply.{InverseReplies}
+use Rattle.bn_reply_machines.specs.MachineReply.{MachineReplies}
+use Rattle.bn_reply_machines.specs.ReversibleReply.{ReversibleReplies}
 use Rattle.bn_reply_builds.specs.BuildReply.{BuildReplies}
-use Rattle.bn_reply_drives.specs.DriveReply.{DriveReplies}
+use Rattle.bn_reply_builds.specs.DriveReply.{DriveReplies}
 use Rattle.bn_reply_layout.specs.LayoutReply.{LayoutReplies}
 use Rattle.bn_reply_looks.specs.LookReply.{LookReplies}
 use Rattle.bn_reply_looks.specs.PlayReply.{PlayReplies}

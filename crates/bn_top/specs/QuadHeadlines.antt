@@ -5,23 +5,23 @@ use Rattle.bn_lists.specs.Runs.{Reaches}
 use Rattle.bn_circuits.specs.declared.place.Place.{Place}
 use Rattle.bn_io.specs.Told.{Grows}
 use Rattle.bn_machine.specs.Outcome.{Limits}
-use Rattle.bn_net.specs.declared.net.TheConstants.{MOST_ELEMENTS}
+use Rattle.bn_circuits.specs.declared.net.TheConstants.{MOST_ELEMENTS}
 use Rattle.bn_quad.specs.Calls.{IsUniformMachine}
 use Rattle.bn_quad.specs.Overlap.{IsDeterministic, IsReversible}
 use Rattle.bn_quad.specs.Quadruples.{Configuration, Quadruples, Follows, inverse_of}
 use Rattle.bn_qtable.specs.Reading.{ReadsQuadruples}
 use Rattle.bn_qtable.specs.Rows.{QuadTable}
 use Rattle.bn_qtable.specs.TapeWords.{TapeWords}
-use Rattle.bn_named_laws.specs.Renumbering.{ReadsBack}
+use Rattle.bn_renumbering.specs.Renumbering.{ReadsBack}
 use Rattle.bn_bennett_laws.specs.Steps.{Exit}
 use Rattle.bn_network.specs.Starts.{words_on}
-use Rattle.bn_assembly.specs.Assembled.{CountsElements}
+use Rattle.bn_network_assembly.specs.Assembled.{CountsElements}
 use Rattle.bn_reply.specs.declared.limits.TheConstants.{MOST_INPUT_BYTES}
 use Rattle.bn_reply.specs.declared.status.Status.{Status}
 use Rattle.bn_reply.specs.declared.status.Status.TheVariants.{Done}
-use Rattle.bn_reply_tables.specs.InverseReply.{inverse_text}
-use Rattle.bn_reply_drives.specs.DriveCircuits.{TellsBoards, TellsRuns}
-use Rattle.bn_reply_drives.specs.DriveHeadline.{IsGiven, IsOwnRun, TellsDriven}
+use Rattle.bn_reply_machines.specs.InverseReply.{inverse_text}
+use Rattle.bn_reply_builds.specs.DriveCircuits.{TellsBoards, TellsRuns}
+use Rattle.bn_reply_builds.specs.DriveHeadline.{IsGiven, IsOwnRun, TellsDriven}
 use Rattle.bn_words.specs.Requests.{Build, Drive, HasForm}
 
 -- Each step of m is a step back of w, so n steps are n steps back; where the one is deterministic the other is

@@ -3,7 +3,7 @@ use Rattle.std.specs.Prelude.{◌≡◌, ◌≢◌, ℕ, List, [], ◌∷◌, fa
 use Rattle.bn_circuits.specs.declared.place.Place.{Place}
 use Rattle.bn_io.specs.Faults.{Rose}
 use Rattle.bn_io.specs.Told.{Grows, GrowsByFront}
-use Rattle.bn_net.specs.Watching.{Hears}
+use Rattle.bn_circuits.specs.Watching.{Hears}
 use Rattle.bn_words.specs.Requests.{HasForm, Request, reads_input}
 use Rattle.bn_gen.specs.Increments.{IsRoundCount}
 use Rattle.bn_reply_boards.specs.GenerateLaws.{TellsGenerated}

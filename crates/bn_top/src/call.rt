@@ -16,8 +16,8 @@ ghost use Rattle.bn_top.specs.QuadHeadlines.{BuildHeadline, DriveCircuitHeadline
 ghost use Rattle.bn_top.specs.Clauses.{CallEnds};
 
 use crate::answering::answer_words;
+use bn_circuits::Watch;
 use bn_io::{Sink, Source};
-use bn_net::Watch;
 use bn_reply::Status;
 use std::alloc::Global;
 

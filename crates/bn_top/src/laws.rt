@@ -2,6 +2,6 @@
 ghost use Rattle.bn_top.specs.Laws.{Laws};
 
 /// Laws over the definitions alone, a named field each.
-pub fn workbench_laws()
+pub fn top_laws()
     ensures { Laws }
 {}

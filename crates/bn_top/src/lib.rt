@@ -8,5 +8,5 @@ mod memory;
 
 pub use bn_reply::{NoMemory, Reply, Status};
 pub use call::workbench;
-pub use laws::workbench_laws;
+pub use laws::top_laws;
 pub use memory::reply_in_memory;

@@ -7,8 +7,8 @@ ghost use Rattle.bn_top.specs.Answers.{Answers};
 ghost use Rattle.bn_top.specs.Headlines.{IsReplyTo};
 
 use crate::answering::answer_words;
+use bn_circuits::Watch;
 use bn_io::{SliceInput, VecSink};
-use bn_net::Watch;
 use bn_reply::{NoMemory, Reply, Status};
 use std::alloc::Global;
 

@@ -9,8 +9,8 @@ use Rattle.bn_circuits.specs.Stepping.{run}
 use Rattle.bn_circuits.proofs.RunLemmas.{Reaches-run}
 use Rattle.bn_circuits.specs.declared.config.Config.{Config}
 use Rattle.bn_circuits.proofs.RunPartLemmas.{runs_split}
-use Rattle.bn_net.specs.RotaryNets.{rotary_circuit}
-use Rattle.bn_board_spec.specs.Layouts.{moment_at}
+use Rattle.bn_circuits.specs.RotaryNets.{rotary_circuit}
+use Rattle.bn_boards.specs.Layouts.{moment_at}
 use Rattle.bn_board.specs.Flattened.{Flattened, IsBoardKept, IsSameBoard, origin}
 use Rattle.bn_view.specs.Shown.{IsQuiet, IsShown, moment, start}
 use Rattle.bn_view.specs.Viewed.{Finds}

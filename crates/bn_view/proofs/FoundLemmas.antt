@@ -17,9 +17,9 @@ use Rattle.bn_circuits.specs.declared.config.Config.{Config}
 use Rattle.bn_element.specs.Rotary.{west}
 use Rattle.bn_network.specs.Cells.{cell_line_count}
 use Rattle.bn_network.specs.Networks.{IsTape, cells_in, cell_size, left_of}
-use Rattle.bn_board_spec.specs.Boards.{base, size, size_of}
-use Rattle.bn_board_spec.specs.Layouts.{Layout, cell_element, elements_of, first_element, symbol_count_at, lines_at}
-use Rattle.bn_board_spec.specs.Layouts.{spelled_by}
+use Rattle.bn_boards.specs.Boards.{base, size, size_of}
+use Rattle.bn_boards.specs.Layouts.{Layout, cell_element, elements_of, first_element, symbol_count_at, lines_at}
+use Rattle.bn_boards.specs.Layouts.{spelled_by}
 use Rattle.bn_board.specs.Locations.{IsInputLine, IsLocated, in_cell, in_control, left}
 use Rattle.bn_board.specs.declared.located.Located.{Located}
 use Rattle.bn_board.specs.declared.located.Located.TheVariants as located

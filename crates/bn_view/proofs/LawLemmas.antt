@@ -1,6 +1,6 @@
 -- The laws of this crate that follow from those of the crates below it, each proved.
-use Rattle.bn_board_laws.proofs.ClosedLemmas.{run_to_exit, have_moments, uniform, stand, read_off}
-use Rattle.bn_board_spec.proofs.ExitLemmas.{exits-one}
+use Rattle.bn_boards.proofs.ClosedLemmas.{run_to_exit, have_moments, uniform, stand, read_off}
+use Rattle.bn_boards.proofs.ExitLemmas.{exits-one}
 use Rattle.bn_network.proofs.ExistingLemmas.{have-entries}
 use Rattle.bn_network_laws.proofs.FirstLemmas.{first-moment}
 use Rattle.bn_rsm.proofs.CostLemmas.{costs-bounded}

@@ -6,7 +6,7 @@ use Rattle.bn_circuits.specs.declared.place.Place.{Place}
 use Rattle.bn_circuits.specs.declared.place.Place.TheVariants.{Enter, Left}
 use Rattle.bn_network.specs.Cells.{cell_line, cell_line_count}
 use Rattle.bn_network.specs.Networks.{IsTape, cells_in, left_of, cell_size}
-use Rattle.bn_board_spec.specs.Layouts.{Layout, symbol_count_at, lines_at, first_element, cell_element}
+use Rattle.bn_boards.specs.Layouts.{Layout, symbol_count_at, lines_at, first_element, cell_element}
 use Rattle.bn_board.specs.Locations.{IsLocated, IsInputLine, in_control, in_cell, left}
 use Rattle.bn_board.specs.declared.located.Located.{Located}
 use Rattle.bn_board.specs.declared.located.Located.TheVariants.{Control, Cell, Outside}

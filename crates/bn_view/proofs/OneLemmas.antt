@@ -16,17 +16,17 @@ use Rattle.bn_machine.proofs.OutcomeLemmas.{outcome_exists}
 use Rattle.bn_quad.specs.Quadruples.{initial_of}
 use Rattle.bn_bennett.specs.Translation.{name_of}
 use Rattle.bn_bennett.specs.Meaning.{machine_state_by, stage_by}
-use Rattle.bn_board_spec.specs.Boards.{size}
-use Rattle.bn_board_spec.specs.declared.exit.Exit.{Exit}
-use Rattle.bn_board_spec.specs.declared.exit.Exit.TheVariants as exit
-use Rattle.bn_board_spec.specs.declared.spelled.Spelled.{Spelled}
-use Rattle.bn_board_spec.specs.Layouts.{IsExit, IsNamedExit, Layout, elements_of, inside, named, unnamed}
-use Rattle.bn_board_spec.specs.Flats.{Flat, IsAccepted, IsFlatOf, flat_start, machine_of}
+use Rattle.bn_boards.specs.Boards.{size}
+use Rattle.bn_boards.specs.declared.exit.Exit.{Exit}
+use Rattle.bn_boards.specs.declared.exit.Exit.TheVariants as exit
+use Rattle.bn_boards.specs.declared.spelled.Spelled.{Spelled}
+use Rattle.bn_boards.specs.Layouts.{IsExit, IsNamedExit, Layout, elements_of, inside, named, unnamed}
+use Rattle.bn_boards.specs.Flats.{Flat, IsAccepted, IsFlatOf, flat_start, machine_of}
 use Rattle.bn_machine.specs.Machine.{Program}
-use Rattle.bn_board_spec.specs.LayoutLaws.{BoardsRead, ExitsAreOne}
-use Rattle.bn_board_laws.specs.Runs.{RunsToExit}
-use Rattle.bn_board_laws.specs.RunLaws.{BoardsRunToTheirExit}
-use Rattle.bn_board_laws.proofs.CountLemmas.{before_end}
+use Rattle.bn_boards.specs.LayoutLaws.{BoardsRead, ExitsAreOne}
+use Rattle.bn_boards.specs.BoardRuns.{RunsToExit}
+use Rattle.bn_boards.specs.RunLaws.{BoardsRunToTheirExit}
+use Rattle.bn_boards.proofs.CountLemmas.{before_end}
 use Rattle.bn_view.specs.Shown.{IsShown}
 use Rattle.bn_view.specs.Viewed.{Comes, Finds, IsFoundView, IsViewOf, board_layers}
 use Rattle.bn_view.specs.declared.layers.BoardLayers.{BoardLayers}

@@ -5,7 +5,7 @@ use Rattle.std.proofs.lemmas.Bool.{cases_lt}
 use Rattle.bn_circuits.specs.Circuits.{Circuit}
 use Rattle.bn_circuits.specs.Stepping.{run}
 use Rattle.bn_circuits.specs.declared.config.Config.{Config}
-use Rattle.bn_board_spec.specs.Layouts.{Layout, moment_at}
+use Rattle.bn_boards.specs.Layouts.{Layout, moment_at}
 use Rattle.bn_view.specs.Viewed.{Finds}
 use Rattle.bn_view.specs.Shown.{IsQuiet, IsShown, moment, start}
 use Rattle.bn_view.specs.Laws.{ShownIsOne, ShownIsThere}

@@ -28,15 +28,15 @@ use Rattle.bn_network.specs.Moments.{HasLetters}
 use Rattle.bn_network.specs.Networks.{ShowsTapes}
 use Rattle.bn_network_laws.proofs.ShownLemmas.{all_cells, shown_beside}
 use Rattle.bn_network_laws.specs.NetworkLaws.{FirstMoment}
-use Rattle.bn_board_spec.proofs.LetterLemmas.{letters_are, some_letters}
-use Rattle.bn_board_spec.proofs.ReadingLemmas.{own_accepted, own_flat}
-use Rattle.bn_board_spec.specs.Flats.{Flat, IsAccepted, IsFlatOf, flat_start, machine_of, situation_at_start}
-use Rattle.bn_board_spec.specs.LayoutLaws.{BoardsRead}
-use Rattle.bn_board_spec.specs.Layouts.{spelled_config}
-use Rattle.bn_board_spec.proofs.ShownHeadLemmas.{shown_inside}
-use Rattle.bn_board_laws.specs.Runs.{RunsToExit, BoardSpells}
-use Rattle.bn_board_laws.specs.RunLaws.{BoardsRunToTheirExit}
-use Rattle.bn_board_laws.specs.Moments.{BoardsHaveMoments, HasMoments}
+use Rattle.bn_boards.proofs.LetterLemmas.{letters_are, some_letters}
+use Rattle.bn_boards.proofs.ReadingLemmas.{own_accepted, own_flat}
+use Rattle.bn_boards.specs.Flats.{Flat, IsAccepted, IsFlatOf, flat_start, machine_of, situation_at_start}
+use Rattle.bn_boards.specs.LayoutLaws.{BoardsRead}
+use Rattle.bn_boards.specs.Layouts.{spelled_config}
+use Rattle.bn_boards.proofs.ShownHeadLemmas.{shown_inside}
+use Rattle.bn_boards.specs.BoardRuns.{RunsToExit, BoardSpells}
+use Rattle.bn_boards.specs.RunLaws.{BoardsRunToTheirExit}
+use Rattle.bn_boards.specs.Moments.{BoardsHaveMoments, HasMoments}
 use Rattle.bn_view.specs.Shown.{moment, start}
 use Rattle.bn_view.specs.Viewed.{Comes, Finds, MachineIsAt}
 use Rattle.bn_view.specs.Laws.{ShownIsFound, StandsForMachine, ViewsStand}

@@ -6,7 +6,7 @@ use Rattle.bn_lists.specs.Runs.{Reaches}
 use Rattle.bn_circuits.specs.Circuits.{Goes}
 use Rattle.bn_circuits.specs.Stepping.{run}
 use Rattle.bn_circuits.specs.declared.config.Config.{Config}
-use Rattle.bn_net.specs.RotaryNets.{rotary_circuit}
+use Rattle.bn_circuits.specs.RotaryNets.{rotary_circuit}
 use Rattle.bn_machine.specs.Machine.{Program}
 use Rattle.bn_lists.specs.Lists.{nth}
 use Rattle.bn_machine.specs.Outcome.{Limits}
@@ -16,10 +16,10 @@ use Rattle.bn_bennett_laws.specs.Stages.{Stands}
 use Rattle.bn_bennett.specs.Translation.{Translation, name_of}
 use Rattle.bn_bennett.specs.Meaning.{machine_state_by, stage_by}
 use Rattle.bn_network_laws.proofs.RangeLemmas.{rule_range}
-use Rattle.bn_board_spec.specs.Layouts.{IsExit, IsLayout, is_sent, spelled_by, spelled_config}
-use Rattle.bn_board_spec.specs.Flats.{Flat, flat_start, machine_of}
-use Rattle.bn_board_spec.specs.declared.spelled.Spelled.{Spelled}
-use Rattle.bn_board_spec.proofs.FirstLemmas.{position_holds}
+use Rattle.bn_boards.specs.Layouts.{IsExit, IsLayout, is_sent, spelled_by, spelled_config}
+use Rattle.bn_boards.specs.Flats.{Flat, flat_start, machine_of}
+use Rattle.bn_boards.specs.declared.spelled.Spelled.{Spelled}
+use Rattle.bn_boards.proofs.FirstLemmas.{position_holds}
 use Rattle.bn_board.specs.Flattened.{Flattened, IsBoardKept, IsSameBoard, origin}
 use Rattle.bn_view.specs.Shown.{IsShown, moment, start}
 use Rattle.bn_view.specs.Modules.{IsModuleAt}

@@ -12,9 +12,9 @@ use Rattle.bn_bennett_laws.specs.Renamed.{in_state}
 use Rattle.bn_bennett_laws.specs.Stages.{Stands}
 use Rattle.bn_bennett.specs.Translation.{name_of}
 use Rattle.bn_bennett.specs.Meaning.{machine_state_by}
-use Rattle.bn_board_spec.specs.Layouts.{Layout}
-use Rattle.bn_board_spec.specs.Flats.{Flat, IsAccepted, IsFlatOf, flat_start, machine_of}
-use Rattle.bn_board_laws.specs.Runs.{BoardSpells}
+use Rattle.bn_boards.specs.Layouts.{Layout}
+use Rattle.bn_boards.specs.Flats.{Flat, IsAccepted, IsFlatOf, flat_start, machine_of}
+use Rattle.bn_boards.specs.BoardRuns.{BoardSpells}
 use Rattle.bn_view.specs.declared.layers.Layers.{Layers}
 use Rattle.bn_view.specs.declared.layers.ModuleAt.{ModuleAt}
 use Rattle.bn_view.specs.Shown.{IsShown}

@@ -2,7 +2,7 @@
 use Rattle.std.specs.Prelude.{◌≡◌, ℕ, ℤ, Option, Some, None}
 use Rattle.bn_circuits.specs.declared.place.Place.{Place}
 use Rattle.bn_network.specs.Cells.{cell_line}
-use Rattle.bn_board_spec.specs.Layouts.{Layout, symbol_count_at}
+use Rattle.bn_boards.specs.Layouts.{Layout, symbol_count_at}
 use Rattle.bn_board.specs.Locations.{IsLocated}
 use Rattle.bn_board.specs.declared.located.Located.{Located}
 use Rattle.bn_board.specs.declared.located.Located.TheVariants as located

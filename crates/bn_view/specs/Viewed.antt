@@ -4,7 +4,7 @@ use Rattle.std.specs.Prelude.{◌≡◌, ℕ, suc, pos, List, Some}
 use Rattle.bn_circuits.specs.Circuits.{Circuit}
 use Rattle.bn_circuits.specs.Stepping.{run}
 use Rattle.bn_circuits.specs.declared.config.Config.{Config}
-use Rattle.bn_net.specs.RotaryNets.{rotary_circuit}
+use Rattle.bn_circuits.specs.RotaryNets.{rotary_circuit}
 use Rattle.bn_machine.specs.Machine.{Program, Moment, GoesBy}
 use Rattle.bn_machine.specs.Outcome.{Limits}
 use Rattle.bn_machine.specs.Run.{After}
@@ -17,9 +17,9 @@ use Rattle.bn_bennett.specs.Meaning.{stage_by, machine_state_by}
 use Rattle.bn_bennett.specs.declared.translated.MachineState.{MachineState}
 use Rattle.bn_bennett.specs.declared.translated.MachineState.TheVariants.{AtState, Within}
 use Rattle.bn_network.specs.Controls.{ControlState}
-use Rattle.bn_board_spec.specs.Layouts.{IsExit, IsLayout, Layout, moment_at, spelled_by, spelled_config}
-use Rattle.bn_board_spec.specs.BoardMoments.{IsBoardMoment}
-use Rattle.bn_board_spec.specs.Flats.{Flat, IsAccepted, IsFlatOf, flat_start, machine_of}
+use Rattle.bn_boards.specs.Layouts.{IsExit, IsLayout, Layout, moment_at, spelled_by, spelled_config}
+use Rattle.bn_boards.specs.BoardMoments.{IsBoardMoment}
+use Rattle.bn_boards.specs.Flats.{Flat, IsAccepted, IsFlatOf, flat_start, machine_of}
 use Rattle.bn_board.specs.Flattened.{Flattened, origin}
 use Rattle.bn_view.specs.declared.layers.BoardLayers.{BoardLayers}
 use Rattle.bn_view.specs.declared.layers.Layers.{Layers}

@@ -3,7 +3,7 @@
 use bn_bennett::{MachineState, Stage};
 use bn_board::{Exit, Spelled};
 use bn_cell::CellLine;
-use bn_net::Place;
+use bn_circuits::Place;
 
 /// The module in which the signal of a board is (this project's own profile). It enters a module where it comes to an
 /// input line of it: the west of a row of the first column of its bank.

@@ -3,7 +3,7 @@
 ghost use Rattle.std.specs.Prelude.{◌≡◌, ℕ};
 ghost use Rattle.bn_network.specs.Controls.{symbol_count};
 ghost use Rattle.bn_network.specs.Networks.{IsTape};
-ghost use Rattle.bn_board_spec.specs.Layouts.{symbol_count_at};
+ghost use Rattle.bn_boards.specs.Layouts.{symbol_count_at};
 ghost use Rattle.bn_view.specs.Modules.{IsModuleAt};
 
 use crate::layers::ModuleAt;

@@ -2,11 +2,11 @@
 
 ghost use Rattle.std.specs.Prelude.{◌≡◌, ℕ, ◌<◌, pos, List, Some, IfOk};
 ghost use Rattle.bn_circuits.specs.Stepping.{run};
-ghost use Rattle.bn_net.specs.RotaryNets.{rotary_circuit};
+ghost use Rattle.bn_circuits.specs.RotaryNets.{rotary_circuit};
 ghost use Rattle.bn_machine.specs.Machine.{Program};
 ghost use Rattle.bn_machine.specs.Outcome.{Limits};
 ghost use Rattle.bn_quad.specs.Quadruples.{initial_of};
-ghost use Rattle.bn_board_spec.specs.Flats.{Flat};
+ghost use Rattle.bn_boards.specs.Flats.{Flat};
 ghost use Rattle.bn_board.specs.Flattened.{IsBoardKept, IsSameBoard, origin};
 ghost use Rattle.bn_view.specs.Shown.{IsShown};
 ghost use Rattle.bn_view.specs.Viewed.{Finds, IsBoardFor, IsBoardOf, IsBoardView, IsLaidOut, IsLastMoment, IsView};

@@ -5,7 +5,7 @@ use Rattle.bn_base.specs.declared.limits.TheConstants.{MOST_COUNT}
 use Rattle.bn_machine.specs.Outcome.{Limits}
 use Rattle.bn_gen.specs.Increments.{IsRoundCount}
 use Rattle.bn_network.specs.Limits.{AreSmall}
-use Rattle.bn_assembly.specs.Assembled.{limits_of}
+use Rattle.bn_network_assembly.specs.Assembled.{limits_of}
 use Rattle.bn_qtable.specs.TapeWords.{TapeWord, Letters, Names, TapeWords, One, Three, tape_words_of}
 use Rattle.bn_words.specs.declared.request.TheConstants.{MOST_DRIVE_STEPS}
 use Rattle.bn_words.specs.declared.request.Request as declared

@@ -2,6 +2,6 @@
 ghost use Rattle.bn_words.specs.Laws.{Laws};
 
 /// Laws over the definitions alone, a named field each.
-pub fn word_laws()
+pub fn words_laws()
     ensures { Laws }
 {}

@@ -6,6 +6,6 @@ mod read;
 mod request;
 mod word;
 
-pub use laws::word_laws;
+pub use laws::words_laws;
 pub use read::read_words;
 pub use request::{ConfigurationRequest, MOST_DRIVE_STEPS, Request, WholeRequest};

@@ -3,7 +3,7 @@
 ghost use Rattle.std.specs.Prelude.{◌≡◌};
 ghost use Rattle.bn_words.specs.Requests.{reads_input, request_of};
 
-use bn_assembly::Windows;
+use bn_network_assembly::Windows;
 use bn_qtable::TapeWords;
 
 /// The greatest number of element steps of a drive.

@@ -1,14 +1,14 @@
 //! What one word behind a command's name says.
 
 ghost use Rattle.std.specs.Prelude.{◌∷◌, [], MatchOption};
-ghost use Rattle.bn_assembly.specs.Assembled.{limits_of};
+ghost use Rattle.bn_network_assembly.specs.Assembled.{limits_of};
 ghost use Rattle.bn_qtable.specs.TapeWords.{tape_word_of};
 ghost use Rattle.bn_words.specs.Words.{AreDriveSteps, AreLimits, AreNoDriveSteps, AreNoLimits, IsCount, IsNoCount};
 ghost use Rattle.bn_words.specs.Words.{IsNoNumber, IsNoTapeWord, IsNoWord, IsNumber, IsTapeWord, IsWord};
 
 use crate::request::MOST_DRIVE_STEPS;
-use bn_assembly::Windows;
 use bn_base::{MOST_COUNT, read_u64};
+use bn_network_assembly::Windows;
 use bn_qtable::TapeWord;
 
 // The number that fills a word, `None` exactly where none of at most 2^62 does.

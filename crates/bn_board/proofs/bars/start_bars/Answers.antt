@@ -4,9 +4,9 @@ use Rattle.std.proofs.lemmas.Option.{slice_get-get_or}
 use Rattle.std.proofs.lemmas.List.{length-replicate}
 use Rattle.bn_element.specs.Rotary.{horizontal, vertical}
 use Rattle.bn_realise.specs.Banks.{bottom_at}
-use Rattle.bn_board_spec.specs.Boards.{size_of}
-use Rattle.bn_assembly.specs.Modules.{module_table}
-use Rattle.bn_net.specs.declared.net.TheConstants.{MOST_ELEMENTS}
+use Rattle.bn_boards.specs.Boards.{size_of}
+use Rattle.bn_network_assembly.specs.Modules.{module_table}
+use Rattle.bn_circuits.specs.declared.net.TheConstants.{MOST_ELEMENTS}
 use Rattle.bn_board.specs.BoardWires.{module_circuit}
 use Rattle.bn_board.proofs.WireLemmas.{module_at}
 use Rattle.bn_board.proofs.CopyLemmas.{bank_bars, bars_more}

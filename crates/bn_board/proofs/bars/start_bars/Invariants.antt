@@ -1,5 +1,5 @@
 use Rattle.std.proofs.Common.{◌≡◌, length, take}
-use Rattle.bn_board_spec.specs.Boards.{bars_of, base}
+use Rattle.bn_boards.specs.Boards.{bars_of, base}
 use Rattle.bn_board.specs.BoardWires.{module_circuit}
 use Rattle.bn_board.proofs.bars.start_bars.Given as goal
 

@@ -1,9 +1,9 @@
 use Rattle.std.proofs.Common.{◌∙◌, sym, subst}
-use Rattle.bn_net.specs.RotaryNets.{IsNetOf}
-use Rattle.bn_board_spec.specs.Boards.{IsBoardWire, size}
+use Rattle.bn_circuits.specs.RotaryNets.{IsNetOf}
+use Rattle.bn_boards.specs.Boards.{IsBoardWire, size}
 use Rattle.bn_packed.specs.Drafts.{AreDrawn}
-use Rattle.bn_board_spec.proofs.GrownLemmas.{net-IsBoard}
-use Rattle.bn_assembly.specs.Assembled.{network_of}
+use Rattle.bn_boards.proofs.GrownLemmas.{net-IsBoard}
+use Rattle.bn_network_assembly.specs.Assembled.{network_of}
 use Rattle.bn_board.specs.BoardWires.{IsDrawn, module_circuit}
 use Rattle.bn_board.proofs.StartLemmas.{kept-modules, kept-few, kept-some, states-counted, states-within}
 use Rattle.bn_board.proofs.StartLemmas.{start-IsConfig}

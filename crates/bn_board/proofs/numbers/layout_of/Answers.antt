@@ -1,5 +1,5 @@
 use Rattle.std.proofs.Common.{rules, sym, subst}
-use Rattle.bn_assembly.specs.Assembled.{limits_of}
+use Rattle.bn_network_assembly.specs.Assembled.{limits_of}
 use Rattle.bn_board.specs.Starts.{IsLayoutOf}
 use Rattle.bn_board.proofs.KeptLemmas.{kept-layout, layout-read}
 use Rattle.bn_board.proofs.numbers.layout_of.Goals as goal

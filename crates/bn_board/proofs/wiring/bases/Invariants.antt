@@ -1,5 +1,5 @@
 use Rattle.std.proofs.Common.{◌≡◌}
-use Rattle.bn_board_spec.specs.Boards.{base}
+use Rattle.bn_boards.specs.Boards.{base}
 use Rattle.bn_board.specs.BoardWires.{module_circuit}
 use Rattle.bn_board.proofs.WireLemmas.{AreBasesUpTo}
 use Rattle.bn_board.proofs.wiring.bases.Given as goal

@@ -1,4 +1,4 @@
-use Rattle.bn_net.specs.declared.net.TheConstants.{MOST_ELEMENTS}
+use Rattle.bn_circuits.specs.declared.net.TheConstants.{MOST_ELEMENTS}
 use Rattle.bn_board.proofs.WireLemmas.{output_fits, entered_within, entered_fits, between_is}
 use Rattle.bn_board.proofs.wiring.between.Goals as goal
 

@@ -1,5 +1,5 @@
 use Rattle.std.proofs.Common.{rules, refl}
-use Rattle.bn_net.specs.declared.net.TheConstants.{MOST_ELEMENTS}
+use Rattle.bn_circuits.specs.declared.net.TheConstants.{MOST_ELEMENTS}
 use Rattle.bn_board.proofs.DrawnLemmas.{all_banks_drawn, board_drawn}
 use Rattle.bn_board.proofs.wiring.board_draft.Goals as goal
 

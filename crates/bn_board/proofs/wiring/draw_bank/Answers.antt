@@ -1,5 +1,5 @@
 use Rattle.std.proofs.Common.{arith}
-use Rattle.bn_net.specs.declared.net.TheConstants.{MOST_ELEMENTS}
+use Rattle.bn_circuits.specs.declared.net.TheConstants.{MOST_ELEMENTS}
 use Rattle.bn_board.proofs.WireLemmas.{own_room}
 use Rattle.bn_board.proofs.DrawnLemmas.{bank-AreFitting, bank_drawn}
 use Rattle.bn_board.proofs.wiring.draw_bank.Goals as goal

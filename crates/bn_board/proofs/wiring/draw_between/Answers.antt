@@ -1,6 +1,6 @@
 use Rattle.std.proofs.Common.{rules}
-use Rattle.bn_net.specs.declared.net.TheConstants.{MOST_ELEMENTS}
-use Rattle.bn_board_spec.proofs.ModuleLemmas.{found}
+use Rattle.bn_circuits.specs.declared.net.TheConstants.{MOST_ELEMENTS}
+use Rattle.bn_boards.proofs.ModuleLemmas.{found}
 use Rattle.bn_board.proofs.DrawnLemmas.{skip_drawn, between-AreFitting, between_drawn}
 use Rattle.bn_board.proofs.wiring.draw_between.Goals as goal
 

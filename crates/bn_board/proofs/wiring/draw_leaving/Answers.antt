@@ -1,5 +1,5 @@
 use Rattle.std.proofs.Common.{rules}
-use Rattle.bn_net.specs.declared.net.TheConstants.{MOST_ELEMENTS}
+use Rattle.bn_circuits.specs.declared.net.TheConstants.{MOST_ELEMENTS}
 use Rattle.bn_board.proofs.DrawnLemmas.{module_drawn}
 use Rattle.bn_board.proofs.wiring.draw_leaving.Goals as goal
 

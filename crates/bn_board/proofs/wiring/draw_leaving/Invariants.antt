@@ -1,4 +1,4 @@
-use Rattle.bn_board_spec.specs.Boards.{size}
+use Rattle.bn_boards.specs.Boards.{size}
 use Rattle.bn_board.specs.BoardWires.{IsDrawn, IsWireBefore, module_circuit}
 use Rattle.bn_board.proofs.wiring.draw_leaving.Given as goal
 

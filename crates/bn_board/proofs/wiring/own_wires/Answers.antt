@@ -1,4 +1,4 @@
-use Rattle.bn_net.specs.declared.net.TheConstants.{MOST_ELEMENTS}
+use Rattle.bn_circuits.specs.declared.net.TheConstants.{MOST_ELEMENTS}
 use Rattle.bn_board.proofs.DrawnLemmas.{none_drawn}
 use Rattle.bn_board.proofs.wiring.own_wires.Goals as goal
 

@@ -1,7 +1,7 @@
 use Rattle.std.proofs.Common.{ap, ◌∙◌}
 use Rattle.bn_circuits.specs.Stepping.{run}
 use Rattle.bn_column.proofs.CrossLemmas.{crossing_ran}
-use Rattle.bn_net.specs.RotaryNets.{rotary_circuit}
+use Rattle.bn_circuits.specs.RotaryNets.{rotary_circuit}
 use Rattle.bn_column.proofs.cross.cross_in.Goals as goal
 
 pub returns-clause-crossed : goal.returns-clause-crossed

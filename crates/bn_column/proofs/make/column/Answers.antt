@@ -1,6 +1,6 @@
 use Rattle.std.proofs.Common.{◌+◌, sym, subst}
-use Rattle.bn_net.specs.Wirings.{AreFitting}
-use Rattle.bn_net.specs.RotaryNets.{IsNetOf}
+use Rattle.bn_circuits.specs.Wirings.{AreFitting}
+use Rattle.bn_circuits.specs.RotaryNets.{IsNetOf}
 use Rattle.bn_column.proofs.LadderLemmas.{column-AreFitting, net-IsColumnNet}
 use Rattle.bn_column.proofs.make.column.Goals as goal
 

@@ -1,4 +1,4 @@
-use Rattle.bn_net.specs.RotaryNets.{rotary_circuit}
+use Rattle.bn_circuits.specs.RotaryNets.{rotary_circuit}
 use Rattle.bn_farm.proofs.PlayLemmas.{board_config, counted_back, counted_on, played_back, played_on}
 use Rattle.bn_farm.proofs.farm.play_board.Goals as goal
 

@@ -1,21 +1,23 @@
 use Rattle.bn_headline.proofs.AgreeLemmas.{headlines-agree}
-use Rattle.bn_headline.proofs.ClosedLemmas.{elements_counted, replies_tell, generated_tell, boards_return, circuit_told}
-use Rattle.bn_headline.proofs.CommandLemmas.{machine-tells, bennett-tells, step-tells, back-tells}
+use Rattle.bn_headline.proofs.ClosedLemmas.{boards_return, circuit_told, elements_counted, generated_tell}
+use Rattle.bn_headline.proofs.ClosedLemmas.{replies_tell}
+use Rattle.bn_headline.proofs.CommandLemmas.{back-tells, bennett-tells, machine-tells, step-tells}
 use Rattle.bn_headline.proofs.ControlLemmas.{translations-controls}
-use Rattle.bn_headline.proofs.EndLemmas.{ends-four, cells-grow}
+use Rattle.bn_headline.proofs.EndLemmas.{cells-grow, ends-four}
 use Rattle.bn_headline.proofs.FlattenLemmas.{flattened-flats, flattened-run}
 use Rattle.bn_headline.proofs.FoundMachineLemmas.{found-tells_machine, own-search-ends}
 use Rattle.bn_headline.proofs.GeneratedBoardLemmas.{generated-controls, generated-counted, generated-there}
 use Rattle.bn_headline.proofs.GeneratedLemmas.{increments-counted}
 use Rattle.bn_headline.proofs.GeneratedRunLemmas.{generated-halt}
-use Rattle.bn_headline.proofs.LawLemmas.{increments_run, own_runs_are_one, elements_grow, search_ends, search_is_short}
-use Rattle.bn_headline.proofs.LawLemmas.{search_is_one, rounds_are_the_searchs, auto_has_one_reply, autos_tell_findings}
-use Rattle.bn_headline.proofs.LawLemmas.{autos_tell_places, autos_end_inside, answers_tell_found_window}
-use Rattle.bn_headline.proofs.LawLemmas.{rounds_begin_answers}
-use Rattle.bn_headline.proofs.SearchLemmas.{windows-whole, found-out, large-large}
+use Rattle.bn_headline.proofs.LawLemmas.{answers_tell_found_window, auto_has_one_reply, autos_end_inside}
+use Rattle.bn_headline.proofs.LawLemmas.{autos_tell_findings, autos_tell_places, elements_grow, increments_run}
+use Rattle.bn_headline.proofs.LawLemmas.{own_runs_are_one, rounds_are_the_searchs, rounds_begin_answers, search_ends}
+use Rattle.bn_headline.proofs.LawLemmas.{search_is_one, search_is_short}
+use Rattle.bn_headline.proofs.SearchLemmas.{found-out, large-large, windows-whole}
 use Rattle.bn_headline.proofs.SizeLemmas.{numbers-stay_low}
-use Rattle.bn_headline.proofs.StuckLemmas.{stops-named, named-ends, stuck-runs}
+use Rattle.bn_headline.proofs.StuckLemmas.{named-ends, stops-named, stuck-runs}
 use Rattle.bn_headline.proofs.TotalLemmas.{controls_are_counted}
+use Rattle.bn_headline.proofs.WindowClosedLemmas.{begin_searches, go_on}
 use Rattle.bn_headline.proofs.laws.headline_laws.Goals as goal
 
 pub returns : goal.returns
@@ -55,4 +57,6 @@ returns _ = record {
   autos_end_inside = autos_end_inside;
   answers_tell_found_window = answers_tell_found_window;
   rounds_begin_answers = rounds_begin_answers;
+  rounds_go_on = go_on;
+  rounds_begin_searches = begin_searches;
 }

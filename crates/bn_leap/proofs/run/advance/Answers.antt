@@ -1,5 +1,5 @@
 use Rattle.std.proofs.Common.{arith}
-use Rattle.bn_net.specs.RotaryNets.{rotary_circuit}
+use Rattle.bn_circuits.specs.RotaryNets.{rotary_circuit}
 use Rattle.bn_leap.proofs.EntryLemmas.{run-IsAdvance}
 use Rattle.bn_leap.proofs.run.advance.Goals as goal
 

@@ -1,5 +1,5 @@
 use Rattle.std.proofs.Common.{rules, arith, ap, sym, ◌≡◌, ◌<◌, ◌∙◌, ◌+◌, ◌-◌, true, false, inl}
-use Rattle.bn_net.specs.RotaryNets.{rotary_circuit}
+use Rattle.bn_circuits.specs.RotaryNets.{rotary_circuit}
 use Rattle.bn_leap.proofs.EntryLemmas.{leapable_on, advance-joins, stopped-run, still-run, held_up}
 use Rattle.bn_leap.proofs.run.leap_until.Goals as goal
 

@@ -1,4 +1,4 @@
-use Rattle.bn_net.specs.RotaryNets.{rotary_circuit}
+use Rattle.bn_circuits.specs.RotaryNets.{rotary_circuit}
 use Rattle.bn_leap.proofs.EntryLemmas.{stopped-longest}
 use Rattle.bn_leap.proofs.run.run_leaping.Goals as goal
 

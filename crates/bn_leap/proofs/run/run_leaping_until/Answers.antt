@@ -1,5 +1,5 @@
 use Rattle.bn_circuits.specs.Stepping.{places}
-use Rattle.bn_net.specs.RotaryNets.{rotary_circuit}
+use Rattle.bn_circuits.specs.RotaryNets.{rotary_circuit}
 use Rattle.bn_leap.proofs.EntryLemmas.{silent}
 use Rattle.bn_leap.proofs.run.run_leaping_until.Goals as goal
 

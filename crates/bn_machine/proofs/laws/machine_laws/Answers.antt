@@ -1,9 +1,10 @@
-use Rattle.bn_machine.proofs.LawLemmas.{output_is_one, rooms_change_nothing, alike_moments_end_alike}
-use Rattle.bn_machine.proofs.LawLemmas.{runs_have_histories, ending_is_one, outcome_is_one}
-use Rattle.bn_machine.proofs.MachineStepLemmas.{steps_are_functions, head_after, word_beyond, cut_run}
+use Rattle.bn_machine.proofs.LawLemmas.{alike_moments_end_alike, ending_is_one, outcome_is_one, output_is_one}
+use Rattle.bn_machine.proofs.LawLemmas.{rooms_change_nothing, runs_have_histories}
+use Rattle.bn_machine.proofs.MachineStepLemmas.{cut_run, head_after, steps_are_functions, word_beyond}
 use Rattle.bn_machine.proofs.TapeLemmas.{same_tape}
 use Rattle.bn_machine.proofs.TurnsLemmas.{turn_once}
 use Rattle.bn_machine.proofs.WindowLemmas.{windows-one}
+use Rattle.bn_machine.proofs.VerdictLemmas.{standard_accepted, verdict_once}
 use Rattle.std.proofs.Common.{refl}
 use Rattle.bn_machine.proofs.laws.machine_laws.Goals as goal
 
@@ -23,4 +24,6 @@ returns _ = record {
   outcome_is_one = outcome_is_one;
   windows_have_one_list = windows-one;
   greatest_side_is_stated = refl;
+  verdicts_are_one = verdict_once;
+  standard_is_accepted = standard_accepted;
 }

@@ -1,6 +1,6 @@
 use Rattle.std.proofs.Common.{refl, sym, subst, ◌∙◌, List}
 use Rattle.bn_circuits.specs.declared.line.Wire.{Wire}
-use Rattle.bn_net.specs.Wirings.{AreFitting, AreWiresOf}
+use Rattle.bn_circuits.specs.Wirings.{AreFitting, AreWiresOf}
 use Rattle.bn_mirror.specs.Listing.{IsMirroredWire}
 use Rattle.bn_mirror.proofs.ListingLemmas.{listed_fitting}
 use Rattle.bn_mirror.proofs.MadeLemmas.{is_admitted, is_mirror, spelled_place}

@@ -1,5 +1,5 @@
 use Rattle.std.proofs.Common.{◌≤◌, ◌+◌, length}
-use Rattle.bn_net.specs.Wirings.{AreWiresOf}
+use Rattle.bn_circuits.specs.Wirings.{AreWiresOf}
 use Rattle.bn_packed.specs.CopiedWires.{IsTargetBefore}
 use Rattle.bn_packed.proofs.to_net.push_element.Given as goal
 

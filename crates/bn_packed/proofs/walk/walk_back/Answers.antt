@@ -1,6 +1,6 @@
 use Rattle.std.proofs.Common.{◌<◌, ◌+◌, ◌-◌, refl, arith}
 use Rattle.std.proofs.lemmas.Bool.Decides.{nat_tests}
-use Rattle.bn_net.specs.RotaryNets.{rotary_circuit}
+use Rattle.bn_circuits.specs.RotaryNets.{rotary_circuit}
 use Rattle.bn_packed.specs.PackedNets.{config_at}
 use Rattle.bn_packed.proofs.StepLemmas.{walked_back_none, left_below, left-IsConfig, left_walked_back}
 use Rattle.bn_packed.proofs.walk.walk_back.Goals as goal

@@ -2,10 +2,10 @@ use Rattle.std.proofs.Common.{length, map, Some, ◌≡◌, ◌-◌, ◌∷◌, 
 use Rattle.bn_circuits.specs.Circuits.{source}
 use Rattle.bn_circuits.specs.Stepping.{line_before}
 use Rattle.bn_circuits.specs.declared.place.Place.TheVariants.{Enter}
-use Rattle.bn_net.specs.Watching.{Hears}
-use Rattle.bn_net.specs.Walking.{HasWalkedBack}
-use Rattle.bn_net.proofs.NetSteps.{first_by_line}
-use Rattle.bn_net.specs.RotaryNets.{rotary_circuit}
+use Rattle.bn_circuits.specs.Watching.{Hears}
+use Rattle.bn_circuits.specs.Walking.{HasWalkedBack}
+use Rattle.bn_circuits.proofs.NetSteps.{first_by_line}
+use Rattle.bn_circuits.specs.RotaryNets.{rotary_circuit}
 use Rattle.bn_packed.specs.Numbers.{line_of}
 use Rattle.bn_packed.specs.Ends.{behind}
 use Rattle.bn_packed.specs.PackedNets.{config_at}

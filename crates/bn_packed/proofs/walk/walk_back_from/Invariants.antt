@@ -1,7 +1,7 @@
 use Rattle.std.proofs.Common.{◌-◌}
 use Rattle.bn_circuits.specs.declared.place.Place.TheVariants.{Enter}
-use Rattle.bn_net.specs.Walking.{HasWalkedBack}
-use Rattle.bn_net.specs.RotaryNets.{rotary_circuit}
+use Rattle.bn_circuits.specs.Walking.{HasWalkedBack}
+use Rattle.bn_circuits.specs.RotaryNets.{rotary_circuit}
 use Rattle.bn_packed.specs.PackedNets.{config_at}
 use Rattle.bn_packed.proofs.NumberLemmas.{entered}
 use Rattle.bn_packed.proofs.walk.walk_back_from.Given as goal

@@ -2,8 +2,8 @@ use Rattle.std.proofs.Common.{length, map, Some, None, ◌≡◌, ◌+◌, ◌-�
 use Rattle.bn_circuits.specs.Circuits.{place_at}
 use Rattle.bn_circuits.specs.declared.line.Line.{Line}
 use Rattle.bn_circuits.specs.declared.place.Place.TheVariants.{Left}
-use Rattle.bn_net.specs.Watching.{Hears}
-use Rattle.bn_net.specs.RotaryNets.{rotary_circuit}
+use Rattle.bn_circuits.specs.Watching.{Hears}
+use Rattle.bn_circuits.specs.RotaryNets.{rotary_circuit}
 use Rattle.bn_packed.specs.PackedNets.{config_at}
 use Rattle.bn_packed.specs.Numbers.{line_of}
 use Rattle.bn_packed.specs.Ends.{IsLineBelow, opposite, ahead}

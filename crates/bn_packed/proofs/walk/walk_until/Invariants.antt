@@ -1,6 +1,6 @@
 use Rattle.std.proofs.Common.{◌≡◌, ◌<◌, ◌+◌, true}
 use Rattle.bn_packed.proofs.NumberLemmas.{entered}
-use Rattle.bn_net.specs.RotaryNets.{rotary_circuit}
+use Rattle.bn_circuits.specs.RotaryNets.{rotary_circuit}
 use Rattle.bn_packed.specs.PackedNets.{config_at}
 use Rattle.bn_packed.specs.Stopping.{passes_by}
 use Rattle.bn_packed.proofs.StepLemmas.{IsOnWay}

@@ -1,5 +1,5 @@
 use Rattle.std.proofs.Common.{Some, sym, subst}
-use Rattle.bn_net.specs.RotaryNets.{rotary_circuit}
+use Rattle.bn_circuits.specs.RotaryNets.{rotary_circuit}
 use Rattle.bn_realise.specs.Banks.{IsResting}
 use Rattle.bn_realise.proofs.StartLemmas.{move_ran}
 use Rattle.bn_realise.proofs.cross.cross_bank_in.Goals as goal

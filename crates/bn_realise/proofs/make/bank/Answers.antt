@@ -1,7 +1,7 @@
 use Rattle.std.proofs.Common.{◌+◌, ◌*◌, ◌∙◌, refl, sym, subst}
 use Rattle.bn_rsm.specs.Machines.{machine_table, machine_table-IsReversible}
-use Rattle.bn_net.specs.Wirings.{AreFitting}
-use Rattle.bn_net.specs.RotaryNets.{IsNetOf}
+use Rattle.bn_circuits.specs.Wirings.{AreFitting}
+use Rattle.bn_circuits.specs.RotaryNets.{IsNetOf}
 use Rattle.bn_realise.specs.BankNets.{IsBankOf}
 use Rattle.bn_realise.proofs.WireLemmas.{bank-AreFitting, net-IsBankNet}
 use Rattle.bn_realise.proofs.make.bank.Goals as goal

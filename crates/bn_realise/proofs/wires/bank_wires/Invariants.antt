@@ -1,5 +1,5 @@
 use Rattle.std.proofs.Common.{◌≤◌, ◌+◌, ◌*◌, length}
-use Rattle.bn_net.specs.Wirings.{AreWiresOf}
+use Rattle.bn_circuits.specs.Wirings.{AreWiresOf}
 use Rattle.bn_realise.specs.BankWires.{IsEarlier}
 use Rattle.bn_realise.proofs.wires.bank_wires.Given as goal
 

@@ -1,5 +1,5 @@
 use Rattle.std.proofs.Common.{refl, subst}
-use Rattle.bn_standard.specs.Verdict.{IsStandardRefusal}
+use Rattle.bn_machine.specs.Verdict.{IsStandardRefusal}
 use Rattle.bn_reply.proofs.TableLemmas.{why_told}
 use Rattle.bn_reply.proofs.opening.judge_table.Goals as goal
 

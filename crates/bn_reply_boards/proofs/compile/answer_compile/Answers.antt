@@ -1,5 +1,5 @@
-use Rattle.bn_assembly.specs.Assembled.{limits_of}
-use Rattle.bn_reply_laws.specs.CompileReply.{CompileReplies}
+use Rattle.bn_network_assembly.specs.Assembled.{limits_of}
+use Rattle.bn_reply_relations.specs.CompileReply.{CompileReplies}
 use Rattle.bn_reply_circuits.proofs.UnwrittenLemmas.{none_ends, will_ends}
 use Rattle.bn_reply_boards.proofs.compile.answer_compile.Goals as goal
 

@@ -1,8 +1,8 @@
 use Rattle.std.proofs.Common.{[], subst}
-use Rattle.bn_assembly.specs.Assembled.{limits_of}
-use Rattle.bn_reply_laws.specs.CompileReply.{CompileReplies, TellsStart}
-use Rattle.bn_reply_laws.proofs.SpelledLemmas.{boards-spelled}
-use Rattle.bn_board_laws.proofs.ClosedLemmas.{read_off}
+use Rattle.bn_network_assembly.specs.Assembled.{limits_of}
+use Rattle.bn_reply_relations.specs.CompileReply.{CompileReplies, TellsStart}
+use Rattle.bn_reply_relations.proofs.SpelledLemmas.{boards-spelled}
+use Rattle.bn_boards.proofs.ClosedLemmas.{read_off}
 use Rattle.bn_reply_boards.specs.Opened.{IsOpenedInput}
 use Rattle.bn_reply_boards.proofs.AskedLemmas.{input_refused}
 use Rattle.bn_reply_boards.proofs.MadeLemmas.{will_compile}

@@ -1,6 +1,6 @@
 -- Want of memory within the run, and behind it.
 use Rattle.std.proofs.lemmas.Result.{err_from_is_err_and}
-use Rattle.bn_assembly.specs.Assembled.{limits_of}
+use Rattle.bn_network_assembly.specs.Assembled.{limits_of}
 use Rattle.bn_reply_boards.proofs.GenerateLemmas.{none_behind, none_within}
 use Rattle.bn_reply_boards.proofs.generate.run_behind.Goals as goal
 

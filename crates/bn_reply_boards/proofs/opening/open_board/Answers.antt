@@ -1,5 +1,5 @@
 use Rattle.bn_network.specs.Starts.{words_on}
-use Rattle.bn_assembly.specs.Assembled.{limits_of, network_of}
+use Rattle.bn_network_assembly.specs.Assembled.{limits_of, network_of}
 use Rattle.bn_reply_boards.proofs.OpeningLemmas.{board_for}
 use Rattle.bn_reply_boards.proofs.opening.open_board.Goals as goal
 

@@ -1,10 +1,10 @@
 use Rattle.std.proofs.Common.{◌≤◌, [], ℕ, List, length, rules, subst}
 use Rattle.bn_circuits.specs.declared.place.Place.{Place}
 use Rattle.bn_table.specs.Rows.{Named}
-use Rattle.bn_board_spec.specs.Flats.{Flat}
-use Rattle.bn_assembly.specs.Assembled.{limits_of}
+use Rattle.bn_boards.specs.Flats.{Flat}
+use Rattle.bn_network_assembly.specs.Assembled.{limits_of}
 use Rattle.bn_reply.specs.declared.status.Status.{Status}
-use Rattle.bn_reply_laws.specs.Windows.{BoardReplies}
+use Rattle.bn_reply_relations.specs.Windows.{BoardReplies}
 use Rattle.bn_reply_boards.specs.Opened.{IsOpenedMachine, IsOpenedWindow}
 use Rattle.bn_reply_boards.proofs.AskedLemmas.{large_replies, long_replies, machine_refused}
 use Rattle.bn_reply_boards.proofs.opening.open_input.Goals as goal

@@ -2,8 +2,8 @@ use Rattle.std.proofs.Common.{subst}
 use Rattle.std.specs.Prelude.{[], IfOk}
 use Rattle.bn_quad.specs.Quadruples.{Quadruples}
 use Rattle.bn_network.specs.Starts.{words_on}
-use Rattle.bn_assembly.specs.Assembled.{limits_of}
-use Rattle.bn_assembly.proofs.WordLemmas.{word-inputs}
+use Rattle.bn_network_assembly.specs.Assembled.{limits_of}
+use Rattle.bn_network_assembly.proofs.WordLemmas.{word-inputs}
 use Rattle.bn_reply_boards.specs.Opened.{IsOpenedBoard}
 use Rattle.bn_reply_boards.proofs.OpeningLemmas.{window_opened}
 use Rattle.bn_reply_boards.proofs.opening.open_window.Goals as goal

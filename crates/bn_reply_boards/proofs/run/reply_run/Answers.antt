@@ -1,10 +1,10 @@
 use Rattle.std.proofs.Common.{[], subst}
-use Rattle.bn_assembly.specs.Assembled.{limits_of}
-use Rattle.bn_board_spec.proofs.ExitLemmas.{exits-one}
-use Rattle.bn_board_laws.proofs.ClosedLemmas.{run_to_exit}
-use Rattle.bn_reply_laws.specs.RunReply.{RunReplies, TellsRun}
-use Rattle.bn_reply_laws.proofs.ClosedLemmas.{moments}
-use Rattle.bn_reply_laws.proofs.RunLemmas.{exits-named}
+use Rattle.bn_network_assembly.specs.Assembled.{limits_of}
+use Rattle.bn_boards.proofs.ExitLemmas.{exits-one}
+use Rattle.bn_boards.proofs.ClosedLemmas.{run_to_exit}
+use Rattle.bn_reply_relations.specs.RunReply.{RunReplies, TellsRun}
+use Rattle.bn_reply_relations.proofs.ClosedLemmas.{moments}
+use Rattle.bn_reply_relations.proofs.RunLemmas.{exits-named}
 use Rattle.bn_reply_boards.specs.Opened.{IsBoardAsked, IsOpenedInput}
 use Rattle.bn_reply_boards.specs.Running.{TellsFound}
 use Rattle.bn_reply_boards.proofs.AnsweredLemmas.{answered_as, answered_reply}

@@ -1,10 +1,10 @@
 use Rattle.std.proofs.Common.{ap, ◌∙◌}
 use Rattle.std.proofs.lemmas.Result.{err_from_is_err_and}
 use Rattle.bn_circuits.specs.Stepping.{places}
-use Rattle.bn_board_spec.specs.Layouts.{Layout, symbol_count_at}
-use Rattle.bn_board_spec.specs.Flats.{flat_start}
-use Rattle.bn_reply_laws.specs.RunReply.{budget, exit_status}
-use Rattle.bn_reply_laws.specs.Laws.{found_text}
+use Rattle.bn_boards.specs.Layouts.{Layout, symbol_count_at}
+use Rattle.bn_boards.specs.Flats.{flat_start}
+use Rattle.bn_reply_relations.specs.RunReply.{budget, exit_status}
+use Rattle.bn_reply_relations.specs.Laws.{found_text}
 use Rattle.bn_reply_boards.specs.Running.{TellsFound}
 use Rattle.bn_reply_boards.proofs.AnsweredLemmas.{answered_told, answered_late}
 use Rattle.bn_reply_boards.proofs.RunLemmas.{ran_tells, ran_told}

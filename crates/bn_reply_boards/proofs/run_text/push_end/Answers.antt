@@ -1,6 +1,6 @@
 use Rattle.std.proofs.Common.{◌++◌, drop, ap, ◌∙◌}
 use Rattle.std.proofs.lemmas.Result.{on_ok_weaker}
-use Rattle.bn_reply_laws.specs.RunText.{output_from, output_line, quadruple_line, tape_lines}
+use Rattle.bn_reply_relations.specs.RunText.{output_from, output_line, quadruple_line, tape_lines}
 use Rattle.bn_reply.proofs.PieceLemmas.{three_pieces}
 use Rattle.bn_reply_boards.proofs.run_text.push_end.Goals as goal
 

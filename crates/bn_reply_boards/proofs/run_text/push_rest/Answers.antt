@@ -1,6 +1,6 @@
 use Rattle.std.proofs.Common.{sym, subst}
 use Rattle.std.proofs.lemmas.Result.{on_ok_weaker}
-use Rattle.bn_board_spec.specs.declared.spelled.Spelled.{Spelled}
+use Rattle.bn_boards.specs.declared.spelled.Spelled.{Spelled}
 use Rattle.bn_reply_boards.specs.Shown.{HaveLetters}
 use Rattle.bn_reply_boards.proofs.ShownLemmas.{shown_letters}
 use Rattle.bn_reply_boards.proofs.RunTextLemmas.{end_rest, other_rest}

@@ -5,7 +5,7 @@ use Rattle.bn_bennett.specs.Meaning.{machine_state_by}
 use Rattle.bn_reply.specs.Lines.{line}
 use Rattle.bn_reply.specs.Words.{letters_of}
 use Rattle.bn_reply.proofs.FrontLemmas.{as_it_was, behind_first, if_refused, in_first}
-use Rattle.bn_reply_laws.specs.RunText.{state_text}
+use Rattle.bn_reply_relations.specs.RunText.{state_text}
 use Rattle.bn_reply_boards.proofs.run_text.push_stuck.Goals as goal
 
 pub returns-in_err-push-2-clause-refused : goal.returns-in_err-push-2-clause-refused

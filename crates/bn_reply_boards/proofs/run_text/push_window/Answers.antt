@@ -3,7 +3,7 @@ use Rattle.std.specs.Prelude.{codes, decimal}
 use Rattle.std.proofs.lemmas.Result.{on_err_weaker}
 use Rattle.bn_reply.specs.Lines.{line}
 use Rattle.bn_reply.proofs.FrontLemmas.{as_it_was, behind_first, if_refused}
-use Rattle.bn_reply_laws.specs.RunText.{side_text}
+use Rattle.bn_reply_relations.specs.RunText.{side_text}
 use Rattle.bn_reply_boards.proofs.run_text.push_window.Goals as goal
 
 pub returns-in_err-push_u64-clause-refused : goal.returns-in_err-push_u64-clause-refused

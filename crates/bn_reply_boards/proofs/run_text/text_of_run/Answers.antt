@@ -1,5 +1,5 @@
 use Rattle.std.proofs.Common.{◌≡◌, ◌++◌, sym, ap, ◌∙◌}
-use Rattle.bn_reply_laws.specs.RunText.{exit_line, steps_line}
+use Rattle.bn_reply_relations.specs.RunText.{exit_line, steps_line}
 use Rattle.bn_reply_boards.proofs.ShownLemmas.{line_within}
 use Rattle.bn_reply_boards.proofs.RunTextLemmas.{run_joined}
 use Rattle.bn_reply_boards.proofs.run_text.text_of_run.Goals as goal

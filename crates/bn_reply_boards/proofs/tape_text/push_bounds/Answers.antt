@@ -3,7 +3,7 @@ use Rattle.std.specs.Prelude.{codes}
 use Rattle.std.proofs.lemmas.Result.{on_err_weaker}
 use Rattle.bn_reply.specs.Lines.{position_text}
 use Rattle.bn_reply.proofs.FrontLemmas.{as_it_was, behind_first, if_refused, in_first}
-use Rattle.bn_reply_laws.specs.RunText.{head_text}
+use Rattle.bn_reply_relations.specs.RunText.{head_text}
 use Rattle.bn_reply_boards.proofs.tape_text.push_bounds.Goals as goal
 
 pub returns-in_err-push_head-clause-refused : goal.returns-in_err-push_head-clause-refused

@@ -1,5 +1,5 @@
 use Rattle.std.proofs.Common.{◌+◌, ◌∷◌, [], None, drop, get_or, refl}
-use Rattle.bn_reply_laws.specs.RunText.{cells_text}
+use Rattle.bn_reply_relations.specs.RunText.{cells_text}
 use Rattle.bn_reply.proofs.FrontLemmas.{all_came, if_refused, more_came, part_came}
 use Rattle.bn_reply_boards.proofs.CellTextLemmas.{cells_on, none_left}
 use Rattle.bn_reply_boards.proofs.tape_text.push_cells.Goals as goal

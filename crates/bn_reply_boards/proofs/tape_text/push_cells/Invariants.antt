@@ -1,5 +1,5 @@
 use Rattle.std.proofs.Common.{drop}
-use Rattle.bn_reply_laws.specs.RunText.{cells_text}
+use Rattle.bn_reply_relations.specs.RunText.{cells_text}
 use Rattle.bn_reply.proofs.FrontLemmas.{CameSoFar}
 use Rattle.bn_reply_boards.proofs.tape_text.push_cells.Given as goal
 

@@ -1,6 +1,6 @@
 use Rattle.std.proofs.Common.{◌≡◌, ◌<◌, ℕ, List, drop, sym, ap, subst, ◌∙◌}
 use Rattle.std.specs.Prelude.{All}
-use Rattle.bn_reply_laws.specs.RunText.{output_from}
+use Rattle.bn_reply_relations.specs.RunText.{output_from}
 use Rattle.bn_reply_boards.proofs.CellTextLemmas.{letters_behind, taken_behind}
 use Rattle.bn_reply_boards.proofs.tape_text.push_output.Goals as goal
 

@@ -2,7 +2,7 @@ use Rattle.std.proofs.Common.{◌≡◌, ◌++◌, ◌∷◌, [], List, ℕ, ap,
 use Rattle.std.specs.Prelude.{codes, decimal}
 use Rattle.bn_reply.specs.Lines.{line, position_text}
 use Rattle.bn_reply.proofs.FrontLemmas.{behind_first, if_refused, in_first, of_equal}
-use Rattle.bn_reply_laws.specs.RunText.{cells_text, head_text}
+use Rattle.bn_reply_relations.specs.RunText.{cells_text, head_text}
 use Rattle.bn_reply_boards.specs.Shown.{bounds_text}
 use Rattle.bn_reply_boards.proofs.CellTextLemmas.{bounds_apart}
 use Rattle.bn_reply_boards.proofs.tape_text.push_tape.Goals as goal

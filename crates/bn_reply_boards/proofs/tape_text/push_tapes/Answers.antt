@@ -2,7 +2,7 @@ use Rattle.std.proofs.Common.{◌++◌}
 use Rattle.std.proofs.lemmas.Result.{on_err_weaker}
 use Rattle.bn_reply.proofs.FrontLemmas.{behind_first, if_refused, in_first}
 use Rattle.bn_reply.proofs.PieceLemmas.{two_pieces}
-use Rattle.bn_reply_laws.specs.RunText.{tape_line}
+use Rattle.bn_reply_relations.specs.RunText.{tape_line}
 use Rattle.bn_reply_boards.proofs.tape_text.push_tapes.Goals as goal
 
 pub returns-in_err-push_tape-clause-refused : goal.returns-in_err-push_tape-clause-refused

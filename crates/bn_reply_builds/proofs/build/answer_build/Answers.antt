@@ -1,5 +1,5 @@
 use Rattle.bn_qtable.specs.TapeWords.{tape_words_of}
-use Rattle.bn_assembly.specs.Assembled.{limits_of}
+use Rattle.bn_network_assembly.specs.Assembled.{limits_of}
 use Rattle.bn_reply_builds.specs.BuildReply.{BuildReplies}
 use Rattle.bn_reply_circuits.proofs.UnwrittenLemmas.{none_ends, will_ends}
 use Rattle.bn_reply_builds.proofs.build.answer_build.Goals as goal

@@ -1,7 +1,7 @@
 use Rattle.std.specs.Prelude.{[]}
 use Rattle.std.proofs.Common.{subst}
 use Rattle.bn_qtable.specs.TapeWords.{tape_words_of}
-use Rattle.bn_assembly.specs.Assembled.{limits_of}
+use Rattle.bn_network_assembly.specs.Assembled.{limits_of}
 use Rattle.bn_network.specs.Starts.{words_on}
 use Rattle.bn_reply_circuits.proofs.UnwrittenLemmas.{line_will}
 use Rattle.bn_reply_builds.specs.BuildReply.{BuildReplies, TellsBuild}

@@ -2,10 +2,10 @@ use Rattle.std.specs.Prelude.{[]}
 use Rattle.std.proofs.Common.{subst}
 use Rattle.bn_qtable.specs.Rows.{table_of}
 use Rattle.bn_qtable.specs.TapeWords.{tape_words_of}
-use Rattle.bn_assembly.specs.Assembled.{limits_of}
-use Rattle.bn_reply_tables.specs.Opened.{AreSpelledWords, IsOpenedUniform}
-use Rattle.bn_reply_tables.proofs.AlphabetLemmas.{read_alphabets}
-use Rattle.bn_reply_tables.proofs.UniformLemmas.{uniform_refused}
+use Rattle.bn_network_assembly.specs.Assembled.{limits_of}
+use Rattle.bn_reply_machines.specs.Opened.{AreSpelledWords, IsOpenedUniform}
+use Rattle.bn_reply_machines.proofs.AlphabetLemmas.{read_alphabets}
+use Rattle.bn_reply_machines.proofs.UniformLemmas.{uniform_refused}
 use Rattle.bn_reply_builds.specs.Opened.{IsOpenedSized}
 use Rattle.bn_reply_builds.proofs.OpenedLemmas.{NoneTold, named_slices, sized_asked, sized_refused, words_refused}
 use Rattle.bn_reply_builds.proofs.TableFacts.{buildable}

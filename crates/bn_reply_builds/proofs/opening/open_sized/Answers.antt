@@ -2,7 +2,7 @@ use Rattle.std.specs.Prelude.{refl}
 use Rattle.std.proofs.Common.{subst}
 use Rattle.bn_quad.specs.Quadruples.{Quadruples}
 use Rattle.bn_qtable.specs.TapeWords.{tape_words_of}
-use Rattle.bn_assembly.specs.Assembled.{limits_of}
+use Rattle.bn_network_assembly.specs.Assembled.{limits_of}
 use Rattle.bn_reply_builds.specs.BuildReply.{IsCrowded, IsUncrowded, long, many}
 use Rattle.bn_reply_builds.proofs.OpenedLemmas.{sized_opened}
 use Rattle.bn_reply_builds.proofs.TableFacts.{inputs_of}

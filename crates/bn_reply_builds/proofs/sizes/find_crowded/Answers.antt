@@ -1,6 +1,6 @@
 use Rattle.std.specs.Prelude.{◌≤◌, ◌<◌}
 use Rattle.std.proofs.Common.{arith, rules, sym}
-use Rattle.bn_assembly.proofs.SymbolLemmas.{letters_nth}
+use Rattle.bn_network_assembly.proofs.SymbolLemmas.{letters_nth}
 use Rattle.bn_network.specs.declared.limits.TheConstants.{MOST_SYMBOLS}
 use Rattle.bn_reply_builds.proofs.CrowdedLemmas.{all_few, crowded_at, few_before_one, few_more}
 use Rattle.bn_reply_builds.proofs.sizes.find_crowded.Goals as goal

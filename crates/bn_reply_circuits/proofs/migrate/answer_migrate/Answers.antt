@@ -1,5 +1,5 @@
 use Rattle.bn_netlist.specs.PackedText.{spelling_of_packed}
-use Rattle.bn_reply_laws.specs.MigrateReply.{MigrateReplies}
+use Rattle.bn_reply_relations.specs.MigrateReply.{MigrateReplies}
 use Rattle.bn_reply_circuits.proofs.StreamLemmas.{migrate_ends, not_too_long, migrate_refuses, stream_read}
 use Rattle.bn_reply_circuits.proofs.StreamLemmas.{stream_unread}
 use Rattle.bn_reply_circuits.proofs.CircuitLemmas.{read-Admits_two}

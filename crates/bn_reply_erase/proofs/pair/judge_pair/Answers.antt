@@ -1,6 +1,6 @@
 use Rattle.std.proofs.Common.{refl, ap, rules, ◌∙◌}
-use Rattle.bn_standard.specs.Standard.{IsStandard}
-use Rattle.bn_standard.specs.Verdict.{IsStandardRefusal}
+use Rattle.bn_machine.specs.Standard.{IsStandard}
+use Rattle.bn_machine.specs.Verdict.{IsStandardRefusal}
 use Rattle.bn_reply_erase.specs.Opened.{first_unfit, second_unfit}
 use Rattle.bn_reply_erase.specs.Pairs.{with_second}
 use Rattle.bn_reply_erase.proofs.pair.judge_pair.Goals as goal

@@ -1,4 +1,4 @@
-use Rattle.bn_assembly.specs.Assembled.{limits_of}
+use Rattle.bn_network_assembly.specs.Assembled.{limits_of}
 use Rattle.bn_reply.proofs.ReplyLemmas.{silent_ends}
 use Rattle.bn_reply_layout.specs.LayoutReply.{LayoutReplies}
 use Rattle.bn_reply_layout.proofs.layout.answer_layout.Goals as goal

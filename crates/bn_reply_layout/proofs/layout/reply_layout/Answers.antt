@@ -1,5 +1,5 @@
 use Rattle.std.proofs.Common.{[], refl, subst}
-use Rattle.bn_assembly.specs.Assembled.{limits_of}
+use Rattle.bn_network_assembly.specs.Assembled.{limits_of}
 use Rattle.bn_reply.specs.declared.status.Status.TheVariants.{Done}
 use Rattle.bn_reply_boards.specs.Opened.{IsBoardAsked, IsOpenedInput}
 use Rattle.bn_reply_boards.proofs.AskedLemmas.{board_accepted, board_replies, input_refused}

@@ -1,8 +1,8 @@
 use Rattle.std.proofs.Common.{◌≡◌, ◌+◌, ◌*◌, ◌∷◌, [], List, ap, ◌∙◌, arith}
 use Rattle.std.proofs.lemmas.Result.{on_ok_weaker}
-use Rattle.bn_assembly.specs.Assembled.{limits_of}
+use Rattle.bn_network_assembly.specs.Assembled.{limits_of}
 use Rattle.bn_network.specs.Networks.{cell_size, cells_in, first_cell}
-use Rattle.bn_board_spec.specs.Layouts.{Layout, lines_at}
+use Rattle.bn_boards.specs.Layouts.{Layout, lines_at}
 use Rattle.bn_reply_layout.specs.declared.bank.Bank.{Bank}
 use Rattle.bn_reply_layout.specs.declared.bank.ModuleName.TheVariants.{Control}
 use Rattle.bn_reply_layout.specs.declared.module_text.Row.{Row}

@@ -1,4 +1,4 @@
-use Rattle.bn_assembly.specs.Assembled.{limits_of}
+use Rattle.bn_network_assembly.specs.Assembled.{limits_of}
 use Rattle.bn_network.specs.Starts.{words_on}
 use Rattle.bn_qtable.specs.TapeWords.{tape_words_of}
 use Rattle.bn_reply_builds.specs.BuildReply.{BuiltReplies}

@@ -3,9 +3,9 @@ use Rattle.std.proofs.Common.{Ok, subst}
 use Rattle.bn_qtable.specs.Rows.{table_of}
 use Rattle.bn_reply.proofs.ReplyLemmas.{ends_as, silent_ends}
 use Rattle.bn_reply_traces.specs.MomentsReply.{TellsMoments, ThreeMomentsReplies}
-use Rattle.bn_reply_tables.specs.QuadReply.{TapeWordReplies, passes, tape_foreign_line}
-use Rattle.bn_reply_tables.specs.Opened.{AreOpenedQuads}
-use Rattle.bn_reply_tables.proofs.QuadReplyLemmas.{refused}
+use Rattle.bn_reply_machines.specs.QuadReply.{TapeWordReplies, passes, tape_foreign_line}
+use Rattle.bn_reply_machines.specs.Opened.{AreOpenedQuads}
+use Rattle.bn_reply_machines.proofs.QuadReplyLemmas.{refused}
 use Rattle.bn_reply_traces.proofs.moments.answer_three_moments.Goals as goal
 
 pub returns-in-Ok-Read-clause-ends : goal.returns-in-Ok-Read-clause-ends

@@ -1,7 +1,7 @@
 use Rattle.std.proofs.Common.{[], subst}
-use Rattle.bn_assembly.specs.Assembled.{limits_of}
-use Rattle.bn_board_spec.proofs.ExitLemmas.{exits-one}
-use Rattle.bn_board_laws.proofs.ClosedLemmas.{run_to_exit}
+use Rattle.bn_network_assembly.specs.Assembled.{limits_of}
+use Rattle.bn_boards.proofs.ExitLemmas.{exits-one}
+use Rattle.bn_boards.proofs.ClosedLemmas.{run_to_exit}
 use Rattle.bn_reply_boards.specs.Opened.{IsBoardAsked, IsOpenedInput}
 use Rattle.bn_reply_boards.proofs.AskedLemmas.{board_accepted, input_refused}
 use Rattle.bn_reply_views.specs.SessionReply.{TellsSession}

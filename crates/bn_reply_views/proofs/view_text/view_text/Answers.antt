@@ -2,7 +2,7 @@ use Rattle.std.proofs.Common.{◌++◌, sym, ap, ◌∙◌}
 use Rattle.bn_bennett.specs.Printed.{bennett_state_text}
 use Rattle.bn_bennett.specs.Translation.{Translation, name_of}
 use Rattle.bn_bennett_laws.specs.List.{symbols_of}
-use Rattle.bn_reply_laws.specs.RunText.{exit_line, tape_lines}
+use Rattle.bn_reply_relations.specs.RunText.{exit_line, tape_lines}
 use Rattle.bn_reply_views.specs.ViewText.{element_line, machine_line, module_line, state_line}
 use Rattle.bn_reply_views.proofs.ViewTextLemmas.{five_pieces, state_name}
 use Rattle.bn_reply_views.proofs.view_text.view_text.Goals as goal

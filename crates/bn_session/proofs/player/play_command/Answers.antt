@@ -3,8 +3,8 @@ use Rattle.std.proofs.Common.{refl, codes, None, ◌++◌, ◌∷◌, []}
 use Rattle.std.specs.Option.{option_copied}
 use Rattle.std.proofs.lemmas.Result.{on_ok_weaker, on_err_weaker}
 use Rattle.bn_circuits.specs.Stepping.{run, back}
-use Rattle.bn_net.specs.RotaryNets.{rotary_circuit}
-use Rattle.bn_board_spec.specs.Layouts.{moment_at}
+use Rattle.bn_circuits.specs.RotaryNets.{rotary_circuit}
+use Rattle.bn_boards.specs.Layouts.{moment_at}
 use Rattle.bn_session.specs.Breakpoints.{breakpoint, without_break}
 use Rattle.bn_session.specs.Plays.{session, label_that_holds, place_line, label_line}
 use Rattle.bn_session.specs.declared.command.Command.TheVariants.{Step, Back, Go, Rev, BreakState, BreakElement, Drop}

@@ -1,5 +1,5 @@
-use Rattle.bn_net.specs.RotaryNets.{rotary_circuit}
-use Rattle.bn_board_spec.specs.Layouts.{moment_at}
+use Rattle.bn_circuits.specs.RotaryNets.{rotary_circuit}
+use Rattle.bn_boards.specs.Layouts.{moment_at}
 use Rattle.bn_session.specs.Plays.{stops}
 use Rattle.bn_session.proofs.WalkLemmas.{walk-stops}
 use Rattle.bn_session.proofs.walk.go.Goals as goal

@@ -1,7 +1,7 @@
 -- Where the way ends, and how it goes on.
 use Rattle.std.proofs.Common.{ap, subst, ◌∙◌, true, false}
-use Rattle.bn_net.specs.RotaryNets.{rotary_circuit}
-use Rattle.bn_board_spec.specs.Layouts.{moment_at}
+use Rattle.bn_circuits.specs.RotaryNets.{rotary_circuit}
+use Rattle.bn_boards.specs.Layouts.{moment_at}
 use Rattle.bn_board.specs.Flattened.{IsBoardKept}
 use Rattle.bn_board.proofs.CountingLemmas.{same_again}
 use Rattle.bn_session.specs.Plays.{stops}

@@ -1,7 +1,7 @@
 -- What is left of the way ends where the way does.
 use Rattle.std.proofs.Common.{◌≡◌, ◌-◌}
-use Rattle.bn_net.specs.RotaryNets.{rotary_circuit}
-use Rattle.bn_board_spec.specs.Layouts.{moment_at}
+use Rattle.bn_circuits.specs.RotaryNets.{rotary_circuit}
+use Rattle.bn_boards.specs.Layouts.{moment_at}
 use Rattle.bn_board.specs.Flattened.{IsSameBoard}
 use Rattle.bn_session.specs.Plays.{stops}
 use Rattle.bn_session.specs.Walks.{once_along, walk}

@@ -1,5 +1,5 @@
 use Rattle.std.proofs.Common.{suc}
-use Rattle.bn_standard.specs.Search.{NoneBefore}
+use Rattle.bn_machine.specs.Search.{NoneBefore}
 use Rattle.bn_standardise.proofs.AcceptLemmas.{Leaves}
 use Rattle.bn_standardise.proofs.acceptance.first_halting.Given as goal
 

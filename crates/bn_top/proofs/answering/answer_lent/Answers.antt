@@ -1,5 +1,5 @@
 use Rattle.std.proofs.Common.{◌≤◌, ◌<◌, arith, length, refl}
-use Rattle.bn_net.proofs.WalkLemmas.{hears-nothing}
+use Rattle.bn_circuits.proofs.WalkLemmas.{hears-nothing}
 use Rattle.bn_reply.specs.Streams.{Whole, TooLong}
 use Rattle.bn_reply.specs.declared.limits.TheConstants.{MOST_INPUT_BYTES}
 use Rattle.bn_reply.proofs.CountLemmas.{counts_nothing}

@@ -1,5 +1,5 @@
 use Rattle.std.proofs.Common.{◌≡◌, ◌≤◌, [], length, Some, Err, IfSome, ap, arith, refl, subst, sym}
-use Rattle.bn_net.proofs.WalkLemmas.{hears-nothing}
+use Rattle.bn_circuits.proofs.WalkLemmas.{hears-nothing}
 use Rattle.bn_reply.specs.Streams.{Whole, TooLong, Failed, Unread}
 use Rattle.bn_reply.specs.declared.limits.TheConstants.{MOST_INPUT_BYTES}
 use Rattle.bn_reply.proofs.CountLemmas.{counts_nothing, counts_told}

@@ -1,5 +1,5 @@
 use Rattle.std.proofs.Common.{arith, sym, ap, ◌≡◌, ◌∙◌, below_more}
-use Rattle.bn_board_spec.specs.Layouts.{has_head, cell_state_at, symbol_count_at}
+use Rattle.bn_boards.specs.Layouts.{has_head, cell_state_at, symbol_count_at}
 use Rattle.bn_network.specs.Networks.{cells_in}
 use Rattle.bn_board.proofs.CellLemmas.{first_number, no_number}
 use Rattle.bn_board.proofs.board.Board.head_cell.Goals as goal

@@ -1,5 +1,5 @@
 use Rattle.std.proofs.Common.{◌≡◌, ℕ, ◌<◌, false}
-use Rattle.bn_board_spec.specs.Layouts.{has_head, cell_state_at, symbol_count_at}
+use Rattle.bn_boards.specs.Layouts.{has_head, cell_state_at, symbol_count_at}
 use Rattle.bn_board.proofs.board.Board.head_cell.Given as goal
 
 abbrev pub invariant-loop-cell : goal.invariant-loop-cell

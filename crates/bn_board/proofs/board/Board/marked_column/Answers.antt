@@ -1,6 +1,6 @@
 use Rattle.std.proofs.Common.{arith, sym, ◌∙◌}
 use Rattle.bn_realise.specs.Banks.{bottom_at}
-use Rattle.bn_board_spec.specs.Layouts.{is_marked_at}
+use Rattle.bn_boards.specs.Layouts.{is_marked_at}
 use Rattle.bn_board.proofs.CellLemmas.{bottom_low, first_number, no_number}
 use Rattle.bn_board.proofs.board.Board.marked_column.Goals as goal
 

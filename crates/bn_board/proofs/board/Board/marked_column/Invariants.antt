@@ -1,6 +1,6 @@
 use Rattle.std.proofs.Common.{◌≡◌, ℕ, ◌<◌, false}
 use Rattle.bn_realise.specs.Banks.{bottom_at}
-use Rattle.bn_board_spec.specs.Layouts.{is_marked_at}
+use Rattle.bn_boards.specs.Layouts.{is_marked_at}
 use Rattle.bn_board.proofs.board.Board.marked_column.Given as goal
 
 abbrev pub invariant-loop-column : goal.invariant-loop-column

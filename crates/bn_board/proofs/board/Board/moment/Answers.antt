@@ -1,6 +1,6 @@
 use Rattle.std.proofs.Common.{Some, subst, sym, ◌∙◌, ap}
 use Rattle.bn_circuits.specs.declared.place.Place.TheVariants.{Enter}
-use Rattle.bn_board_spec.specs.Layouts.{end_place}
+use Rattle.bn_boards.specs.Layouts.{end_place}
 use Rattle.bn_board.specs.Moments.{IsCommandTo}
 use Rattle.bn_board.proofs.ExitLemmas.{off_end as other_end}
 use Rattle.bn_board.proofs.MomentLemmas.{off_west, off_commands, off_end}

@@ -1,7 +1,7 @@
 use Rattle.std.proofs.Common.{rules, inl, inr, ◌≡◌, ◌<◌, ◌+◌, ◌-◌, arith, subst, refl}
 use Rattle.bn_circuits.specs.Circuits.{IsStuck}
-use Rattle.bn_net.specs.RotaryNets.{rotary_circuit}
-use Rattle.bn_board_spec.specs.Layouts.{is_moment}
+use Rattle.bn_circuits.specs.RotaryNets.{rotary_circuit}
+use Rattle.bn_boards.specs.Layouts.{is_moment}
 use Rattle.bn_board.specs.Moments.{AreFirstRows}
 use Rattle.bn_board.proofs.CountingLemmas.{IsTallied, counted_none, counted_leap, counted_still, counted_all}
 use Rattle.bn_board.proofs.board.Board.run_counting.Given.{Over}

@@ -1,5 +1,5 @@
 use Rattle.std.specs.Option.{option_map}
-use Rattle.bn_board_spec.specs.Layouts.{symbol_by, cell_state_at, symbol_count_at}
+use Rattle.bn_boards.specs.Layouts.{symbol_by, cell_state_at, symbol_count_at}
 use Rattle.bn_board.proofs.CellLemmas.{symbols_pushed}
 use Rattle.bn_board.proofs.board.Board.symbols_of.Goals as goal
 

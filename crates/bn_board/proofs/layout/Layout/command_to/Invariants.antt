@@ -1,6 +1,6 @@
 use Rattle.std.proofs.Common.{◌≡◌, ℕ, ◌≤◌, ◌+◌, ◌-◌, ◌*◌}
 use Rattle.bn_network.specs.Controls.{lines_before}
-use Rattle.bn_board_spec.specs.Layouts.{first_element}
+use Rattle.bn_boards.specs.Layouts.{first_element}
 use Rattle.bn_board.proofs.MomentLemmas.{IsCommandOf}
 use Rattle.bn_board.proofs.layout.Layout.command_to.Given as goal
 

@@ -1,4 +1,4 @@
-use Rattle.bn_board_spec.specs.Layouts.{named}
+use Rattle.bn_boards.specs.Layouts.{named}
 use Rattle.bn_board.proofs.ExitLemmas.{at_end}
 use Rattle.bn_board.proofs.layout.Layout.exit_by.Goals as goal
 

@@ -1,7 +1,7 @@
 use Rattle.std.proofs.Common.{◌≤◌, ◌∙◌, ◌-◌, sym, subst}
 use Rattle.bn_circuits.specs.Circuits.{IsConfig}
 use Rattle.bn_circuits.specs.declared.place.Place.TheVariants.{Enter}
-use Rattle.bn_net.specs.RotaryNets.{rotary_circuit}
+use Rattle.bn_circuits.specs.RotaryNets.{rotary_circuit}
 use Rattle.bn_column.proofs.RestLemmas.{start-IsConfig}
 use Rattle.bn_column.proofs.standing.Column.at_side.Goals as goal
 

@@ -2,8 +2,8 @@ use Rattle.std.proofs.Common.{ℕ, List, ◌≡◌, ◌∙◌, ap, arith, length
 use Rattle.bn_circuits.specs.Circuits.{IsCircuit, IsConfig}
 use Rattle.bn_circuits.specs.declared.config.Config.{Config}
 use Rattle.bn_element.specs.declared.rotary.Rotary.{Rotary}
-use Rattle.bn_net.specs.Parts.{Parts}
-use Rattle.bn_net.specs.RotaryNets.{IsNetOf, rotary_circuit}
+use Rattle.bn_circuits.specs.Parts.{Parts}
+use Rattle.bn_circuits.specs.RotaryNets.{IsNetOf, rotary_circuit}
 use Rattle.bn_packed.specs.Drafts.{AreDrawn}
 use Rattle.bn_netlist.proofs.PackedLemmas.{net-AreSame, net-IsConfig}
 use Rattle.bn_netlist.proofs.net_config.NetConfigFromWires.from_draft.Goals as goal

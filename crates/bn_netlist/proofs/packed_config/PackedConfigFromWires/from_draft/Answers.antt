@@ -1,7 +1,7 @@
 use Rattle.std.proofs.Common.{ℕ, List, ◌∙◌, ap, refl, subst, sym}
 use Rattle.bn_circuits.specs.Circuits.{IsConfig}
 use Rattle.bn_circuits.specs.declared.config.Config.{Config}
-use Rattle.bn_net.specs.RotaryNets.{IsNetOf, rotary_circuit}
+use Rattle.bn_circuits.specs.RotaryNets.{IsNetOf, rotary_circuit}
 use Rattle.bn_packed.specs.Drafts.{AreDrawn}
 use Rattle.bn_netlist.proofs.PackedLemmas.{net-IsConfig, packed-AreSame}
 use Rattle.bn_netlist.proofs.packed_config.PackedConfigFromWires.from_draft.Goals as goal

@@ -1,4 +1,4 @@
-use Rattle.bn_net.specs.RotaryNets.{rotary_circuit}
+use Rattle.bn_circuits.specs.RotaryNets.{rotary_circuit}
 use Rattle.bn_packed.specs.declared.direction.Direction.TheVariants.{Backward}
 use Rattle.bn_packed.proofs.StepLemmas.{ended_none, kept_none, made_one}
 use Rattle.bn_packed.proofs.packed.Packed.back_step.Goals as goal

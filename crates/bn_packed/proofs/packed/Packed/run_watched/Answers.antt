@@ -1,5 +1,5 @@
 use Rattle.std.proofs.Common.{◌-◌}
-use Rattle.bn_net.specs.RotaryNets.{rotary_circuit}
+use Rattle.bn_circuits.specs.RotaryNets.{rotary_circuit}
 use Rattle.bn_packed.specs.PackedNets.{net_in, config_at}
 use Rattle.bn_packed.specs.declared.direction.Direction.TheVariants.{Forward}
 use Rattle.bn_packed.proofs.StepLemmas.{IsToldRun, packed-IsToldRun}

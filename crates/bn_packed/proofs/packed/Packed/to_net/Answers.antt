@@ -1,7 +1,7 @@
 use Rattle.std.proofs.Common.{subst}
 use Rattle.std.specs.Prelude.{length}
-use Rattle.bn_net.specs.RotaryNets.{IsNetOf}
-use Rattle.bn_net.specs.Wirings.{AreWiresOf}
+use Rattle.bn_circuits.specs.RotaryNets.{IsNetOf}
+use Rattle.bn_circuits.specs.Wirings.{AreWiresOf}
 use Rattle.bn_packed.specs.CopiedWires.{IsTargetBefore}
 use Rattle.bn_packed.proofs.CopiedLemmas.{told_fits, told_again}
 use Rattle.bn_packed.proofs.packed.Packed.to_net.Goals as goal

@@ -1,8 +1,8 @@
 use Rattle.std.proofs.Common.{◌∙◌, sym, subst, ap}
 use Rattle.bn_element.specs.declared.rotary.Rotary.{Rotary}
-use Rattle.bn_net.specs.Order.{AreInOrder}
-use Rattle.bn_net.specs.Parts.{Parts}
-use Rattle.bn_net.specs.RotaryNets.{IsNetOf}
+use Rattle.bn_circuits.specs.Order.{AreInOrder}
+use Rattle.bn_circuits.specs.Parts.{Parts}
+use Rattle.bn_circuits.specs.RotaryNets.{IsNetOf}
 use Rattle.bn_packed.specs.Ends.{AreTargets, targets_by, net_of}
 use Rattle.bn_packed.specs.Ways.{Ways}
 use Rattle.bn_packed.proofs.ListedLemmas.{listed-AreTargets, listed-IsNetOf, ends-AreInOrder}

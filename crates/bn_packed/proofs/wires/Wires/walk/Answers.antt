@@ -1,6 +1,6 @@
 use Rattle.std.proofs.Common.{sym, subst}
 use Rattle.bn_circuits.specs.Circuits.{IsStuck}
-use Rattle.bn_net.specs.RotaryNets.{rotary_circuit}
+use Rattle.bn_circuits.specs.RotaryNets.{rotary_circuit}
 use Rattle.bn_packed.specs.PackedNets.{net_in, config_at}
 use Rattle.bn_packed.proofs.wires.Wires.walk.Goals as goal
 

@@ -1,6 +1,6 @@
 use Rattle.std.proofs.Common.{refl, sym, subst, arith}
 use Rattle.bn_circuits.specs.Circuits.{IsFirst}
-use Rattle.bn_net.specs.RotaryNets.{rotary_circuit}
+use Rattle.bn_circuits.specs.RotaryNets.{rotary_circuit}
 use Rattle.bn_packed.specs.PackedNets.{net_in, config_at}
 use Rattle.bn_packed.proofs.StepLemmas.{walked_back_none}
 use Rattle.bn_packed.proofs.wires.Wires.walk_back.Goals as goal

@@ -1,7 +1,7 @@
 use Rattle.std.proofs.Common.{◌≡◌, ◌<◌, true, sym, subst}
 use Rattle.std.specs.Prelude.{◌⊎◌}
 use Rattle.bn_circuits.specs.Circuits.{IsStuck}
-use Rattle.bn_net.specs.RotaryNets.{rotary_circuit}
+use Rattle.bn_circuits.specs.RotaryNets.{rotary_circuit}
 use Rattle.bn_packed.specs.PackedNets.{net_in, config_at}
 use Rattle.bn_packed.specs.Stopping.{stops_at}
 use Rattle.bn_packed.proofs.wires.Wires.walk_until.Goals as goal

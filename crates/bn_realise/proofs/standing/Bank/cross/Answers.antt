@@ -2,7 +2,7 @@ use Rattle.std.proofs.Common.{◌≡◌, subst}
 use Rattle.bn_lists.specs.Runs.{Reaches}
 use Rattle.bn_circuits.specs.Circuits.{clock, Goes}
 use Rattle.bn_circuits.specs.Stepping.{run}
-use Rattle.bn_net.specs.RotaryNets.{rotary_circuit}
+use Rattle.bn_circuits.specs.RotaryNets.{rotary_circuit}
 use Rattle.bn_realise.specs.BankNets.{IsSomeBank}
 use Rattle.bn_realise.proofs.StartLemmas.{bank_moved, move-left, ready-can}
 use Rattle.bn_realise.proofs.standing.Bank.cross.Goals as goal

@@ -1,11 +1,11 @@
 use Rattle.std.proofs.Common.{◌+◌, ◌*◌, ◌<◌, ◌≤◌, ◌∙◌, ap, sym, subst}
 use Rattle.bn_circuits.specs.Circuits.{IsConfig}
 use Rattle.bn_circuits.specs.declared.place.Place.TheVariants.{Enter}
-use Rattle.bn_net.specs.RotaryNets.{rotary_circuit}
+use Rattle.bn_circuits.specs.RotaryNets.{rotary_circuit}
 use Rattle.bn_realise.proofs.StartLemmas.{start-IsConfig, start-IsBankEntering, start-ready, resting}
 use Rattle.bn_rsm.proofs.CostLemmas.{costs-bounded}
 use Rattle.bn_realise.proofs.standing.Bank.start.Goals as goal
-use Rattle.bn_net.specs.declared.net.TheConstants.{MOST_ELEMENTS}
+use Rattle.bn_circuits.specs.declared.net.TheConstants.{MOST_ELEMENTS}
 
 pub returns-clause-good : goal.returns-clause-good
 returns-clause-good c =

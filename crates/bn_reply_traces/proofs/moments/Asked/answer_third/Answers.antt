@@ -2,11 +2,11 @@ use Rattle.std.specs.Prelude.{◌<◌, ◌^◌, ℕ, List, length}
 use Rattle.std.proofs.Common.{rules, subst}
 use Rattle.bn_reply.proofs.ReplyLemmas.{ends_as, silent_ends}
 use Rattle.bn_reply_traces.specs.MomentsReply.{TellsMoments}
-use Rattle.bn_reply_tables.specs.QuadReply.{TapeWordReplies, spelled, tape_foreign_line}
-use Rattle.bn_reply_tables.specs.Opened.{IsAlphabet, IsSpelling}
+use Rattle.bn_reply_machines.specs.QuadReply.{TapeWordReplies, spelled, tape_foreign_line}
+use Rattle.bn_reply_machines.specs.Opened.{IsAlphabet, IsSpelling}
 use Rattle.bn_reply_traces.specs.QuadStages.{asked_table}
-use Rattle.bn_reply_tables.proofs.AlphabetLemmas.{word_on}
-use Rattle.bn_reply_tables.proofs.QuadReplyLemmas.{foreign_told, spelled_on}
+use Rattle.bn_reply_machines.proofs.AlphabetLemmas.{word_on}
+use Rattle.bn_reply_machines.proofs.QuadReplyLemmas.{foreign_told, spelled_on}
 use Rattle.bn_reply_traces.proofs.moments.Asked.answer_third.Goals as goal
 
 pub give-requires-clause-three : goal.give-requires-clause-three

@@ -3,11 +3,11 @@ use Rattle.std.proofs.Common.{arith, rules, subst}
 use Rattle.bn_reply.specs.Lines.{foreign_line}
 use Rattle.bn_reply.proofs.ReplyLemmas.{ends_as, silent_ends}
 use Rattle.bn_reply_traces.specs.MomentsReply.{TellsMoments}
-use Rattle.bn_reply_tables.specs.QuadReply.{TapeWordReplies, spelled}
-use Rattle.bn_reply_tables.specs.Opened.{IsAlphabet, IsSpelling}
+use Rattle.bn_reply_machines.specs.QuadReply.{TapeWordReplies, spelled}
+use Rattle.bn_reply_machines.specs.Opened.{IsAlphabet, IsSpelling}
 use Rattle.bn_reply_traces.specs.QuadStages.{asked_table}
-use Rattle.bn_reply_tables.proofs.AlphabetLemmas.{no_word, read_alphabet, some_symbol, word_on}
-use Rattle.bn_reply_tables.proofs.QuadReplyLemmas.{foreign_told, spelled_on}
+use Rattle.bn_reply_machines.proofs.AlphabetLemmas.{no_word, read_alphabet, some_symbol, word_on}
+use Rattle.bn_reply_machines.proofs.QuadReplyLemmas.{foreign_told, spelled_on}
 use Rattle.bn_reply_traces.proofs.moments.Asked.answer_word.Goals as goal
 
 pub give-requires-clause-one : goal.give-requires-clause-one

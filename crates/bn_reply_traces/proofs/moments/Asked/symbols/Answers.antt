@@ -1,7 +1,7 @@
 use Rattle.std.proofs.Common.{subst, sym}
-use Rattle.bn_reply_tables.specs.Opened.{IsAlphabet}
+use Rattle.bn_reply_machines.specs.Opened.{IsAlphabet}
 use Rattle.bn_reply_traces.specs.QuadStages.{asked_table}
-use Rattle.bn_reply_tables.proofs.AlphabetLemmas.{read_alphabet}
+use Rattle.bn_reply_machines.proofs.AlphabetLemmas.{read_alphabet}
 use Rattle.bn_reply_traces.proofs.moments.Asked.symbols.Goals as goal
 
 pub returns-clause-alphabet : goal.returns-clause-alphabet

@@ -1,7 +1,0 @@
-//! The laws of this crate. The function does nothing: its contract is the laws.
-ghost use Rattle.bn_board_laws.specs.Laws.{Laws};
-
-/// The laws of this crate, a named field each.
-pub fn board_laws()
-    ensures { Laws }
-{}

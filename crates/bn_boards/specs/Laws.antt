@@ -1,0 +1,134 @@
+-- The laws of this crate, a named field each. `Laws` is the contract of `boards_laws`.
+use Rattle.bn_bennett_laws.specs.Steps.{Exit, Finished}
+use Rattle.bn_boards.specs.ExistenceLaws.{FlatsAreThere, LayoutsAreThere, NetworksAreModules, NetworksAreThere}
+use Rattle.bn_boards.specs.Moments.{BoardsHaveMoments, MomentsAreByMarks, MomentsAreTold}
+use Rattle.bn_boards.specs.NetworkMoments.{NetworksHaveMoments, NetworksStopAtFirstReads, StartsSpellWords}
+use Rattle.bn_boards.specs.NetworkMoments.{machine_start}
+use Rattle.bn_boards.specs.RunLaws.{BoardsAreRestored, BoardsEndInTime, BoardsLeaveByOutcomes, BoardsRunBack}
+use Rattle.bn_boards.specs.RunLaws.{BoardsRunToTheirExit, CostsAreOne, ExitsTellOutcomes, NetworksEndAlike}
+use Rattle.bn_boards.specs.BoardLaws.{BoardsAreThere, BoardsFollow, BoardsVisit, LooseMove, ModulesAreBanks}
+use Rattle.bn_boards.specs.BoardLaws.{OneMove}
+use Rattle.bn_boards.specs.Boards.{board_start}
+use Rattle.bn_boards.specs.Builds.{Build, IsBuild, IsStart, build_elements}
+use Rattle.bn_boards.specs.LayoutLaws.{BoardsRead, ExitsAreOne, FlatsAreOne, WordsDifferInCells, WordsShareBoards}
+use Rattle.bn_boards.specs.Layouts.{moment_at}
+use Rattle.bn_boards.specs.NetworkReads.{NetworksAreRead}
+use Rattle.bn_boards.specs.BuildRuns.{BuildRunsTo, EndsInWindow, HasLeft, ShowsMoment}
+use Rattle.bn_circuits.specs.Circuits.{Goes, IsStuck, clock}
+use Rattle.bn_circuits.specs.Situations.{Situation}
+use Rattle.bn_circuits.specs.Stepping.{back, run}
+use Rattle.bn_circuits.specs.declared.config.Config.{Config}
+use Rattle.bn_circuits.specs.declared.place.Place.TheVariants.{Left}
+use Rattle.bn_lists.specs.Runs.{Reaches}
+use Rattle.bn_machine.specs.Outcome.{Limits}
+use Rattle.bn_network.specs.Moments.{HasLetters}
+use Rattle.bn_network.specs.Networks.{network_start}
+use Rattle.bn_network.specs.Starts.{AreInputs, FitsWindow, start_from, words_on}
+use Rattle.bn_quad.specs.Calls.{IsUniformMachine}
+use Rattle.bn_quad.specs.Quadruples.{Configuration, IsQuadMachine, Quadruples, initial_of, inverse_of}
+use Rattle.std.specs.Prelude.{List, Some, [], ℕ, ◌*◌, ◌+◌, ◌≡◌, ◌≤◌}
+use Rattle.bn_boards.specs.OwnRuns.{OwnRunsEnd, OwnRunsFromWordsEnd, OwnRunsAreOne}
+
+pub record Laws : Type 0 where
+  -- Each module of a network is a bank of its board.
+  pub modules_are_banks : ModulesAreBanks
+  -- Every network of modules has a board.
+  pub boards_are_there : BoardsAreThere
+  -- One move of a network is one crossing of a bank on its board, in exactly its cost.
+  pub one_move_is_one_crossing : OneMove
+  -- Where a module has no move, the signal leaves its bank by the loose line.
+  pub missing_moves_lead_to_loose_lines : LooseMove
+  -- A path of a network is a path of its board, in the sum of the costs of its moves.
+  pub boards_follow_networks : BoardsFollow
+  -- At each step of a run a board stands for a situation of its network, or it is strictly within a move.
+  pub boards_visit_situations : BoardsVisit
+  -- Two boards of one machine, word and limits are the same up to the order of wires.
+  pub flats_are_one : FlatsAreOne
+  -- A board's place has at most one named exit.
+  pub exits_are_one : ExitsAreOne
+  -- What is said of the network is read off its board.
+  pub boards_are_read : BoardsRead
+  -- The boards of two words have one place at the start, and their bars differ at most at bottoms of tape 1's cells.
+  pub words_differ_in_cells : WordsDifferInCells
+  -- The boards of two words have the same elements and wires, the same layout, and one place at the end.
+  pub words_share_boards : WordsShareBoards
+  -- A uniform machine with a symbol on each tape has a network in any limits, and two of them are alike.
+  pub networks_are_there : NetworksAreThere
+  -- Each module of a network can be a bank.
+  pub networks_are_modules : NetworksAreModules
+  -- A uniform machine has a layout in any limits, and only one.
+  pub layouts_are_there : LayoutsAreThere
+  -- A machine in standard form within the limits of tables has a board for each word and limits, and two of them are
+  -- the same up to the order of wires.
+  pub flats_are_there : FlatsAreThere
+  -- The network comes over its moments to the end that the machine's own bounded run comes to.
+  pub networks_end_alike : NetworksEndAlike
+  -- The board runs to the exit that the machine's own bounded run names.
+  pub boards_run_to_their_exit : BoardsRunToTheirExit
+  -- A board has one cost.
+  pub costs_are_one : CostsAreOne
+  -- A board's signal is inside below its cost, and has left at it; the cost is within the bound, and the bound below
+  -- the greatest number of steps.
+  pub boards_end_in_time : BoardsEndInTime
+  -- At its cost a board has exactly the exits that the outcome names.
+  pub exits_tell_outcomes : ExitsTellOutcomes
+  -- A board is left by each exit exactly where the machine's own bounded run comes out so, and by no line without a
+  -- name.
+  pub boards_leave_by_outcomes : BoardsLeaveByOutcomes
+  -- A board that is left by its end spells the restored word, a blank history and the output alone.
+  pub boards_are_restored : BoardsAreRestored
+  -- A run of a board, taken back in part, is a shorter run.
+  pub boards_run_back : BoardsRunBack
+  -- A board that stands for a situation of its network is at the network's moment.
+  pub moments_are_told : MomentsAreTold
+  -- What is found by a board's layout is the moment that its lines and its control's marked column tell.
+  pub moments_are_by_marks : MomentsAreByMarks
+  -- A board is at a moment exactly at the sums of costs at which its network is at one; at every step no bank has two
+  -- marked columns and no tape shows two heads.
+  pub boards_have_moments : BoardsHaveMoments
+  -- What is said of the network of any uniform machine is read off its board.
+  pub networks_are_read : NetworksAreRead
+  -- What is said of the network of a translation is read off its board.
+  pub boards_are_read_alike : BoardsRead
+  -- The network of any uniform machine goes over its moments from the start, with one head a tape.
+  pub networks_have_moments : NetworksHaveMoments
+  -- At the answer of its first read the network of any uniform machine stops exactly where the machine is stuck there.
+  pub networks_stop_at_first_reads : NetworksStopAtFirstReads
+  -- The cells of a board at its start spell the word on tape 1 from cell 1 on, and nothing else, with the heads at 0.
+  pub starts_spell_words : StartsSpellWords
+  -- A uniform machine with a symbol on each tape has a build in every window.
+  pub builds_are_there : BuildsAreThere
+  -- A build starts with each configuration in the initial state that stands in its window.
+  pub builds_start_anywhere : BuildsStartAnywhere
+  -- Three words of the tapes' symbols, none longer than its tape's right side, stand in the window.
+  pub words_fit : WordsFit
+  -- So a build starts with a word on each tape, from cell 1 on, all heads at 0.
+  pub builds_start_with_words : BuildsStartWithWords
+  -- With a word on tape 1 alone that is the start with this word as it is of the machines that the program translates.
+  pub one_word_starts : OneWordStarts
+  -- For every uniform machine, window and start, where the clock has room: whatever the machine's own run in the window
+  -- comes to, its board runs in exactly its cost to that exit, and spells its tapes there.
+  pub builds_run_to_their_exit : BuildsRunToTheirExit
+  -- Steps taken back from within such a run restore it, all of them the start.
+  pub builds_run_back : BuildsRunBack
+  -- The converse, where the clock has room: where the board makes t steps and then no more, the machine's own run has
+  -- ended, and the board has run to that exit.
+  pub builds_tell_their_machine : BuildsTellTheirMachine
+  -- Wherever the signal has left, the machine's own run has ended, and the board was left by that exit.
+  pub builds_are_left_by_their_machine : BuildsAreLeftByTheirMachine
+  -- Wherever its layout finds a moment, the machine's own run has come to a configuration in that state, whose tapes
+  -- the cells spell; and at the start they spell those of the start.
+  pub builds_show_their_machine : BuildsShowTheirMachine
+  -- The machine's own run in the window ends once, so there is one exit; and the board's run to an exit has one cost,
+  -- and ends in one configuration.
+  pub builds_end_once : BuildsEndOnce
+  -- Where the machine runs from a start in n steps to its end, a build of its inverse in the same window starts with
+  -- what is left there, and the inverse runs from it in n steps to its own end, which is the start.
+  pub inverse_builds_run_back : InverseBuildsRunBack
+  -- The machine's own run in the window ends, from any configuration in the initial state that stands in the window,
+  -- after fewer steps than there are ways to be.
+  pub own_runs_end : OwnRunsEnd
+  -- So it does from words on the tapes.
+  pub own_runs_from_words_end : OwnRunsFromWordsEnd
+  -- It has one number of steps, one last configuration, and one exit.
+  pub own_runs_are_one : OwnRunsAreOne

@@ -1,4 +1,0 @@
-pub mod Builds
-pub mod Exits
-pub mod Runs
-pub mod Laws

@@ -1,0 +1,11 @@
+use Rattle.bn_circuits.proofs.WireLemmas.{view-IsCircuit}
+use Rattle.bn_circuits.proofs.OrderLemmas.{view-AreInOrder}
+use Rattle.bn_circuits.proofs.net.Net.len.Goals as goal
+
+pub returns-clause-circuit : goal.returns-clause-circuit
+returns-clause-circuit g c = view-IsCircuit g.E.Element.table g.met.E.Element.reversible c.self.inside.elements.items
+    c.self.inside.targets c.self.inside.sources c.args.self.now c.self.invariant c.self.view_is
+
+pub returns-clause-order : goal.returns-clause-order
+returns-clause-order g c = view-AreInOrder c.self.inside.elements.items c.self.inside.targets c.args.self.now
+    c.self.view_is

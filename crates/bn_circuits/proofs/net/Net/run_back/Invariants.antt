@@ -1,0 +1,11 @@
+use Rattle.std.proofs.Common.{◌≡◌}
+use Rattle.bn_lists.specs.Runs.{Reaches}
+use Rattle.bn_circuits.specs.Circuits.{Goes, IsConfig}
+use Rattle.bn_circuits.specs.Stepping.{back}
+use Rattle.bn_circuits.specs.Parts.{circuit}
+use Rattle.bn_circuits.proofs.net.Net.run_back.Given as goal
+
+abbrev pub invariant-loop-made : goal.invariant-loop-made
+invariant-loop-made g l = Reaches (Goes (circuit g.E.Element.table l.self)) l.made l.config l.fn.config
+    × IsConfig (circuit g.E.Element.table l.self) l.config
+    × (l.config ≡ back (circuit g.E.Element.table l.self) l.fn.config l.made)

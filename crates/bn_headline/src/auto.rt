@@ -1,0 +1,77 @@
+//! The command `run` where the program is to find the window.
+
+ghost use Rattle.std.specs.Prelude.{◌≢◌, IfOk, OnErr};
+ghost use Rattle.bn_reply.specs.Replying.{IsReplied, IsUnfinished};
+ghost use Rattle.bn_reply_boards.specs.Running.{IsAnswered};
+ghost use Rattle.bn_headline.specs.AutoReply.{AutoReplies, FindReplies};
+ghost use Rattle.bn_headline.specs.Asked.{IsRead};
+ghost use Rattle.bn_headline.specs.Told.{HearsSearch, TellsSearch};
+
+use crate::rounds::run_rounds;
+use bn_base::MOST_COUNT;
+use bn_bennett::Translated;
+use bn_circuits::Watch;
+use bn_reply::{NoMemory, Reply, Status, too_long};
+use bn_reply_boards::{OpenedMachine, open_machine};
+use bn_table::Table;
+use std::alloc::Global;
+
+/// What `run` answers to a word and some bytes where it is to find the window: whether they are a table with a machine
+/// in standard form, the word is one of its letters, and there aren't too many; and then, from the first window on, how
+/// the signal runs on the board of each window to its exit, until it leaves by no end of a tape, or the next board
+/// would have too many elements. The watch is told the places of all rounds one after another. The answer tells what
+/// the search by the machine's own bounded runs finds.
+pub fn reply_run_auto<W: Watch>(
+    alloc: Global,
+    word: &[u8],
+    bytes: &[u8],
+    watch: &mut W,
+) -> Result<Reply, NoMemory>
+    ensures replied { IfOk result (λ r. IsReplied (AutoReplies word.now bytes.now) r (W.told watch.old)
+        (W.told watch.new)) }
+    ensures interrupted { OnErr result (IsUnfinished (AutoReplies word.now bytes.now) (W.told watch.old)
+        (W.told watch.new)) }
+    ensures found { IfOk result (λ r. TellsSearch bytes.now word.now r.status r.text.items) }
+    ensures told { IfOk result (λ r. HearsSearch bytes.now word.now (W.told watch.old) (W.told watch.new)) }
+    ensures inside { IfOk result (λ r. (r.status ≢ Status.Window) × (r.status ≢ Status.Inside)) }
+{
+    answer_auto(alloc, word, bytes, watch)
+}
+
+// The same by the circuits alone.
+fn answer_auto<W: Watch>(
+    alloc: Global,
+    word: &[u8],
+    bytes: &[u8],
+    watch: &mut W,
+) -> Result<Reply, NoMemory>
+    ensures replied { IfOk result (λ r. IsReplied (AutoReplies word.now bytes.now) r (W.told watch.old)
+        (W.told watch.new)) }
+    ensures interrupted { OnErr result (IsUnfinished (AutoReplies word.now bytes.now) (W.told watch.old)
+        (W.told watch.new)) }
+{
+    match open_machine(alloc, word, bytes)? {
+        OpenedMachine::Refused(reply) => Ok(reply),
+        OpenedMachine::Made(table, translated, symbols) => {
+            auto_symbols(alloc, &table, &translated, symbols.as_slice(), watch)
+        }
+    }
+}
+
+// What is answered of a table's machine, by its translation, and a word of these symbols.
+fn auto_symbols<W: Watch>(
+    alloc: Global,
+    table: &Table,
+    translated: &Translated,
+    symbols: &[u32],
+    watch: &mut W,
+) -> Result<Reply, NoMemory>
+    requires { IsRead table.now translated.now symbols.now }
+    ensures { IsAnswered (FindReplies table.now symbols.now) result (W.told watch.old) (W.told watch.new) }
+{
+    let letters = symbols.len();
+    if letters as u64 > MOST_COUNT {
+        return too_long(alloc, letters);
+    }
+    run_rounds(alloc, table, translated, symbols, watch)
+}

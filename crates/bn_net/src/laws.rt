@@ -1,7 +1,0 @@
-//! Laws over the definitions alone. The function does nothing: its contract is the laws.
-ghost use Rattle.bn_net.specs.Laws.{Laws};
-
-/// Laws over the definitions alone, a named field each.
-pub fn net_laws()
-    ensures { Laws }
-{}

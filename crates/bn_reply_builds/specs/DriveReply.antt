@@ -1,0 +1,23 @@
+-- What the command `drive` answers: the run of the board of a uniform machine of quadruples in a window from its start
+-- with words on the tapes, within a greatest number of element steps (Morita 2017 for the elements; the board, the
+-- window and the text are this project's own profile). What is refused is refused as `build` does it.
+use Rattle.std.specs.Prelude.{ℕ, ◌≤◌, List}
+use Rattle.bn_circuits.specs.declared.place.Place.{Place}
+use Rattle.bn_machine.specs.Outcome.{Limits}
+use Rattle.bn_qtable.specs.TapeWords.{TapeWords}
+use Rattle.bn_network.specs.Starts.{words_on}
+use Rattle.bn_reply.specs.Answering.{IsSettled}
+use Rattle.bn_reply.specs.declared.status.Status.{Status}
+use Rattle.bn_reply_builds.specs.BuildReply.{BuiltReplies}
+use Rattle.bn_reply_builds.specs.Driven.{TellsDrive}
+use Rattle.bn_words.specs.declared.request.TheConstants.{MOST_DRIVE_STEPS}
+
+-- what `drive` answers to words on the tapes, limits, a greatest number of element steps and bytes
+abbrev pub DriveReplies : TapeWords → Limits → ℕ → List ℕ → Status → List ℕ → List Place → Type 0
+DriveReplies words l most =
+    BuiltReplies (λ t one two three. TellsDrive most t (words_on t.machine one two three)) words l
+
+-- it has one answer to all words, limits, numbers of steps up to the greatest, and bytes
+abbrev pub DriveIsSettled : Type 0
+DriveIsSettled = (words : TapeWords) (l : Limits) (most : ℕ) (bytes : List ℕ) → most ≤ MOST_DRIVE_STEPS
+    → IsSettled (DriveReplies words l most bytes)

@@ -1,7 +1,0 @@
-//! Laws on the answers. The function does nothing: its contract is the laws.
-ghost use Rattle.bn_reply_drives.specs.Laws.{Laws};
-
-/// Laws on the answers, a named field each.
-pub fn drive_reply_laws()
-    ensures { Laws }
-{}

@@ -1,7 +1,0 @@
-//! Laws on the answers of the commands on boards. The function does nothing: its contract is the laws.
-ghost use Rattle.bn_reply_laws.specs.Laws.{Laws};
-
-/// Laws on the answers of the commands on boards, a named field each.
-pub fn reply_laws()
-    ensures { Laws }
-{}

@@ -1,0 +1,55 @@
+//! The command `standard`.
+
+ghost use Rattle.std.specs.Prelude.{[], IfOk};
+ghost use Rattle.bn_reply_machines.specs.StandardReply.{IsRefusedReply, StandardTableReplies};
+ghost use Rattle.bn_reply_machines.specs.StandardReply.{TellsStandard};
+
+use bn_reply::{NoMemory, OpenedTable, Reply, Status, open_table};
+use bn_standardise::{LooseRefusal, standard_text};
+use bn_table::Table;
+use std::alloc::Global;
+
+/// What `standard` answers to some bytes: whether they are a table, and then the table of the machine in standard
+/// form that is equivalent to its machine, which starts on the first letter, or why there is none.
+pub fn reply_standard(alloc: Global, bytes: &[u8]) -> Result<Reply, NoMemory>
+    ensures { IfOk result (λ r. StandardTableReplies bytes.now r.status r.text.items []) }
+{
+    match open_table(alloc, bytes)? {
+        OpenedTable::Refused(reply) => Ok(reply),
+        OpenedTable::Read(table) => standardise_table(alloc, &table),
+    }
+}
+
+// What `standard` answers to a table.
+fn standardise_table(alloc: Global, table: &Table) -> Result<Reply, NoMemory>
+    ensures { IfOk result (λ r. TellsStandard table.now r.status r.text.items []) }
+{
+    match standard_text(alloc, table) {
+        Ok(text) => Ok(Reply {
+            text,
+            status: Status::Done,
+        }),
+        Err(refusal) => refused_reply(alloc, refusal),
+    }
+}
+
+// The answer to a table whose machine is refused.
+fn refused_reply(alloc: Global, refusal: LooseRefusal) -> Result<Reply, NoMemory>
+    ensures { IfOk result (IsRefusedReply refusal) }
+{
+    match refusal {
+        LooseRefusal::Repeat { i, j } => Ok(Reply {
+            text: format!(in alloc; "machine: S1 {i} {j}\n")?.into_bytes(),
+            status: Status::Machine,
+        }),
+        LooseRefusal::Halting { i } => Ok(Reply {
+            text: format!(in alloc; "machine: halting {i}\n")?.into_bytes(),
+            status: Status::Machine,
+        }),
+        LooseRefusal::Many { count } => Ok(Reply {
+            text: format!(in alloc; "size: quintuples {count}\n")?.into_bytes(),
+            status: Status::Size,
+        }),
+        LooseRefusal::NoMemory => Err(NoMemory),
+    }
+}

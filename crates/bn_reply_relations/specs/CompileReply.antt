@@ -1,0 +1,52 @@
+-- What the command `compile` answers: the configuration text of the board of a machine and a word in a window, at its
+-- start (Morita 2017 for the elements; the board and the text are this project's own profile).
+use Rattle.std.specs.Prelude.{◌≡◌, ◌↔◌, ℕ, List, [], Some}
+use Rattle.bn_circuits.specs.Circuits.{Circuit, target}
+use Rattle.bn_circuits.specs.declared.config.Config.{Config}
+use Rattle.bn_circuits.specs.declared.line.Line.{Line}
+use Rattle.bn_circuits.specs.declared.place.Place.{Place}
+use Rattle.bn_circuits.specs.declared.place.Place.TheVariants.{Enter, Left}
+use Rattle.bn_machine.specs.Outcome.{Limits}
+use Rattle.bn_netlist_laws.specs.Spelling.{Spelling, Spelled}
+use Rattle.bn_netlist_laws.specs.declared.version.Version.TheVariants.{Two}
+use Rattle.bn_boards.specs.Boards.{IsBoardWire, size}
+use Rattle.bn_boards.specs.Layouts.{Layout, end_place}
+use Rattle.bn_boards.specs.Flats.{Flat, flat_start}
+use Rattle.bn_reply.specs.Answering.{IsSettled}
+use Rattle.bn_reply.specs.declared.status.Status.{Status}
+use Rattle.bn_reply.specs.declared.status.Status.TheVariants.{Done}
+use Rattle.bn_network.specs.Limits.{AreSmall}
+use Rattle.bn_reply_relations.specs.Windows.{WindowReplies}
+
+-- What is spelled is the board of a network, with the board's own wires and no others, at its start; the start is the
+-- line that the signal is about to enter, and the end the one by which it leaves where the machine halts.
+pub record IsBoardSpelling (network : Circuit) (layout : Layout) (at_start : Config) (s : Spelling) : Type 0 where
+  pub elements : s.elements ≡ size network.tables
+  pub wires : (from to : Line) → (target s.wires from ≡ Some to) ↔ IsBoardWire network from to
+  pub config : s.config ≡ at_start
+  pub start : Enter s.start.element s.start.line ≡ at_start.place
+  pub end : Left s.end.element s.end.line ≡ end_place layout
+
+-- the text is that of the board of a network at its start, in version 2, and nothing is told
+pub record TellsBoard (network : Circuit) (layout : Layout) (at_start : Config) (status : Status) (text : List ℕ)
+    (told : List Place) : Type 0 where
+  pub spelling : Spelling
+  pub board : IsBoardSpelling network layout at_start spelling
+  pub spelled : Spelled Two spelling text
+  pub done : status ≡ Done
+  pub silent : told ≡ []
+
+-- so of the board of a machine's translation
+abbrev pub IsFlatSpelling : Flat → Spelling → Type 0
+IsFlatSpelling f = IsBoardSpelling f.network f.layout (flat_start f)
+
+abbrev pub TellsStart : Flat → Status → List ℕ → List Place → Type 0
+TellsStart f = TellsBoard f.network f.layout (flat_start f)
+
+-- what `compile` answers to a word, limits and these bytes
+abbrev pub CompileReplies : List ℕ → Limits → List ℕ → Status → List ℕ → List Place → Type 0
+CompileReplies = WindowReplies (λ t. TellsStart)
+
+-- it has one answer to all words, limits that may be asked for, and bytes
+abbrev pub CompileIsSettled : Type 0
+CompileIsSettled = (word : List ℕ) (l : Limits) (bytes : List ℕ) → AreSmall l → IsSettled (CompileReplies word l bytes)

@@ -1,5 +1,0 @@
-use Rattle.bn_reply_tables.proofs.AlphabetLemmas.{HasNoLetterBelow}
-use Rattle.bn_reply_tables.proofs.tape_names.TapeNames.find.Given as goal
-
-abbrev pub invariant-loop-symbol : goal.invariant-loop-symbol
-invariant-loop-symbol l = HasNoLetterBelow l.self l.byte l.symbol

@@ -1,7 +1,0 @@
-//! The laws of this crate. The function does nothing: its contract is the laws.
-ghost use Rattle.bn_reply_tables.specs.Laws.{Laws};
-
-/// The laws of this crate, a named field each.
-pub fn table_reply_laws()
-    ensures { Laws }
-{}

@@ -1,0 +1,10 @@
+-- Moves as they are gathered.
+use Rattle.std.specs.Prelude.{◌≡◌, All}
+use Rattle.bn_rsm.specs.Entry.{IsMove, states_named, lines_named}
+use Rattle.bn_rsm.specs.declared.draft.Draft.{Draft}
+
+-- the draft's moves may stand in a table, and it counts the states and lines that they name
+pub record IsDraft (d : Draft) : Type 0 where
+  pub within : All IsMove d.moves.items
+  pub states : d.states ≡ states_named d.moves.items
+  pub lines : d.lines ≡ lines_named d.moves.items

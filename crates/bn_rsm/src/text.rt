@@ -1,0 +1,55 @@
+//! Reading and writing the text of a table.
+
+ghost use Rattle.std.specs.Prelude.{◌≡◌, ◌≤◌, ◌<◌, ◌++◌, IfOk, IfErr, OnOk, length};
+ghost use Rattle.bn_csv.specs.Entries.{entries_of};
+ghost use Rattle.bn_csv.specs.Lines.{line_of, lines_of};
+ghost use Rattle.bn_rsm.specs.Entry.{AreReadAs, move_entry, entries_by, lines_named, states_named};
+ghost use Rattle.bn_rsm.specs.Reading.{IsMoveTableRefusal, ReadsMoves};
+ghost use Rattle.bn_rsm.specs.Writing.{IsTable};
+
+use crate::draft::{into_machine, new_draft};
+use crate::table_refusal::RsmTableRefusal;
+use crate::{Rsm, RsmMove};
+use bn_csv::{EntryWriter, NoMemory, read_entries};
+use itoa::Buffer;
+use std::alloc::Global;
+
+/// Reads the bytes of a table: csv records without a header, each with a state, an input line, the next state and an
+/// output line, numbers from 1 to `MOST_COUNT`. It answers the bytes' machine, where they have one; the machine has as
+/// many states and lines as the moves name. Each refusal but `NoMemory` comes exactly where it is the first.
+pub fn read_rsm(alloc: Global, bytes: &[u8]) -> Result<Rsm, RsmTableRefusal>
+    ensures ok { IfOk result (ReadsMoves bytes.now) }
+    ensures refused { IfErr result (IsMoveTableRefusal bytes.now) }
+{
+    let draft = read_entries(alloc, bytes, new_draft(alloc))?;
+    into_machine(alloc, draft)
+}
+
+// Writes the entry of a move.
+fn write_move(writer: &mut EntryWriter, step: &RsmMove) -> Result<(), NoMemory>
+    ensures { OnOk result (writer.new ≡ writer.old ++ line_of (move_entry step.now)) }
+{
+    let mut state = Buffer::new();
+    let mut line = Buffer::new();
+    let mut next = Buffer::new();
+    let mut out = Buffer::new();
+    writer.write_entry(&[
+        state.format(u64::from(step.state) + 1).as_bytes(),
+        line.format(u64::from(step.line) + 1).as_bytes(),
+        next.format(u64::from(step.next) + 1).as_bytes(),
+        out.format(u64::from(step.out) + 1).as_bytes(),
+    ])
+}
+
+/// The text of a machine: for each move, in order, a line with its four numbers, counted from 1. Reading it gives the
+/// machine, where it has 1 to `MOST_ENTRIES` moves and as many states and lines as they name, at most `MOST_COUNT`.
+pub fn write_rsm(alloc: Global, rsm: &Rsm) -> Result<Vec<u8>, NoMemory>
+    ensures text { IfOk result (λ text. text.items ≡ lines_of (entries_by rsm.now.moves)) }
+    ensures read_back { IfOk result (λ text. IsTable rsm.now → ReadsMoves text.items rsm.now) }
+{
+    let mut writer = EntryWriter::new(alloc);
+    for step in rsm.moves() {
+        write_move(&mut writer, step)?;
+    }
+    writer.into_text()
+}

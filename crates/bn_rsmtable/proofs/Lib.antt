@@ -1,6 +1,0 @@
-mod Decimals
-mod Passing
-mod Drafting
-mod Coming
-pub mod ReadingLaws
-pub mod LawLemmas

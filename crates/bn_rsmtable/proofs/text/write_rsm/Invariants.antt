@@ -1,8 +1,0 @@
--- The lines of the moves so far.
-use Rattle.std.proofs.Common.{◌≡◌, take}
-use Rattle.bn_csv.specs.Lines.{lines_of}
-use Rattle.bn_rsmtable.specs.Entry.{entries_by}
-use Rattle.bn_rsmtable.proofs.text.write_rsm.Given as goal
-
-abbrev pub invariant-loop-step : goal.invariant-loop-step
-invariant-loop-step l = l.writer ≡ lines_of (entries_by (take l.step-index l.step-items))

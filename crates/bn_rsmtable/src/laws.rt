@@ -1,7 +1,0 @@
-//! Laws of the definitions. The function does nothing: its contract is the laws.
-ghost use Rattle.bn_rsmtable.specs.Laws.{Laws};
-
-/// Laws of the definitions, a named field each.
-pub fn move_table_laws()
-    ensures { Laws }
-{}

@@ -1,6 +1,0 @@
-use Rattle.std.proofs.Common.{suc}
-use Rattle.bn_standard.proofs.SearchLemmas.{NoneRepeated}
-use Rattle.bn_standard.proofs.demands.first_repeat.Given as goal
-
-abbrev pub invariant-loop-index : goal.invariant-loop-index
-invariant-loop-index l = NoneRepeated l.quints (suc l.index)

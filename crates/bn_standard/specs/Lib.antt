@@ -1,5 +1,0 @@
-pub mod Standard
-pub mod Verdict
-pub mod Search
-pub mod VerdictLaws
-pub mod Laws
