@@ -25,7 +25,8 @@ use Rattle.bn_network_laws.proofs.StartsLemmas.{inputs-fit}
 use Rattle.bn_lists.specs.Finite.{IsFinitePermuting}
 use Rattle.bn_lists.proofs.FiniteLemmas.{ends_below}
 use Rattle.bn_boards.specs.OwnRuns.{tape_count, situation_count, OwnRun, OwnRunsEnd, OwnRunsFromWordsEnd, OwnRunsAreOne}
-use Rattle.bn_boards.proofs.TapeCountLemmas.{paired_low, tape_number, tape_low, tape_apart}
+use Rattle.bn_boards.proofs.TapeCountLemmas.{tape_number, tape_low, tape_apart}
+use Rattle.bn_lists.proofs.PairingLemmas.{paired_low}
 
 -- ---- deeds
 

@@ -1,4 +1,5 @@
 -- The ways in which a tape can stand in a window have numbers.
+use Rattle.bn_lists.proofs.PairingLemmas.{paired_low}
 use Rattle.std.specs.Prelude.{◌≡◌, ℕ, ◌+◌, ◌-◌, ◌*◌, ◌<◌, ◌^◌, ℤ, pos, negsuc, ◌-ℤ◌}
 use Rattle.std.proofs.Common.{zero, suc, arith, sym, ap, subst, ◌∙◌, inl, inr}
 use Rattle.std.proofs.Math.Nat.{mul_comm, pow-suc, pow-zero}
@@ -10,10 +11,6 @@ use Rattle.bn_machine.specs.Window.{IsBetween}
 use Rattle.bn_machine.proofs.TapeLemmas.{same_tape}
 use Rattle.bn_network.specs.Starts.{FitsTape}
 use Rattle.bn_boards.specs.OwnRuns.{tape_count}
-
--- a pair of numbers as one
-pub paired_low : (a b m n : ℕ) → a < m → b < n → a * n + b < m * n
-paired_low a b m n p q = subst (λ x. a * n + b < x) (mul_comm n m) (mul-add-lt a n b m p q)
 
 -- ---- places in the window
 

@@ -29,6 +29,105 @@ use Rattle.bn_quad.specs.Quadruples.{Configuration, IsQuadMachine, Quadruples, i
 use Rattle.std.specs.Prelude.{List, Some, [], ℕ, ◌*◌, ◌+◌, ◌≡◌, ◌≤◌}
 use Rattle.bn_boards.specs.OwnRuns.{OwnRunsEnd, OwnRunsFromWordsEnd, OwnRunsAreOne}
 
+-- ---- builds and their starts
+
+abbrev pub BuildsAreThere : Type 0
+BuildsAreThere =
+    (m : Quadruples) (l : Limits) → IsQuadMachine m → IsUniformMachine m → HasLetters m
+    → (f : Build) × (f.machine ≡ m) × (f.limits ≡ l) × IsBuild f
+
+abbrev pub BuildsStartAnywhere : Type 0
+BuildsStartAnywhere =
+    (f : Build) → IsBuild f → (c : Configuration ℕ) → c.state ≡ initial_of f.machine.rules
+    → FitsWindow f.machine f.limits c
+    → IsStart f c (start_from f.machine f.limits c)
+    (board_start f.network.tables (start_from f.machine f.limits c))
+
+abbrev pub WordsFit : Type 0
+WordsFit = (f : Build) → IsBuild f → (one two three : List ℕ) → AreInputs f.machine f.limits one two three
+    → FitsWindow f.machine f.limits (words_on f.machine one two three)
+
+abbrev pub BuildsStartWithWords : Type 0
+BuildsStartWithWords =
+    (f : Build) → IsBuild f → (one two three : List ℕ) → AreInputs f.machine f.limits one two three
+    → IsStart f (words_on f.machine one two three) (start_from f.machine f.limits (words_on f.machine one two three))
+    (board_start f.network.tables (start_from f.machine f.limits (words_on f.machine one two three)))
+
+abbrev pub OneWordStarts : Type 0
+OneWordStarts = (m : Quadruples) (l : Limits) (word : List ℕ)
+    → (words_on m word [] [] ≡ machine_start m word)
+    × (start_from m l (words_on m word [] []) ≡ network_start m l word)
+
+-- ---- runs
+
+-- the clock has room for as many element steps as the machine's steps bound them
+abbrev pub BuildsRunToTheirExit : Type 0
+BuildsRunToTheirExit =
+    (f : Build) → IsBuild f → (c : Configuration ℕ) (s : Situation) (at_start : Config) → IsStart f c s at_start
+    → (n : ℕ) (d : Configuration ℕ) (e : Exit) → EndsInWindow f c n d e
+    → 4 * build_elements f + 48 * build_elements f * (n + 1) ≤ clock
+    → BuildRunsTo f s at_start n d e
+
+-- r + j of the run's steps, and j of them back
+abbrev pub BuildsRunBack : Type 0
+BuildsRunBack =
+    (f : Build) → IsBuild f → (s : Situation) (at_start : Config) (n : ℕ) (d : Configuration ℕ) (e : Exit)
+    → (ran : BuildRunsTo f s at_start n d e) → (j r : ℕ) → r + j ≤ ran.cost
+    → back f.circuit (run f.circuit at_start (r + j)) j ≡ run f.circuit at_start r
+
+-- What a board tells that has stopped at x after t steps: the machine's own run has ended, so and there, and the
+-- board's run is the one to that end, in as many steps.
+pub record Told (f : Build) (c : Configuration ℕ) (s : Situation) (at_start : Config) (t : ℕ)
+    (x : Config) : Type 0 where
+  pub steps : ℕ
+  pub final : Configuration ℕ
+  pub exit : Exit
+  pub ends : EndsInWindow f c steps final exit
+  pub ran : BuildRunsTo f s at_start steps final exit
+  pub cost : ran.cost ≡ t
+  pub there : run f.circuit at_start ran.cost ≡ x
+
+-- the clock has room for the t steps and those of one more step of the machine
+abbrev pub BuildsTellTheirMachine : Type 0
+BuildsTellTheirMachine =
+    (f : Build) → IsBuild f → (c : Configuration ℕ) (s : Situation) (at_start : Config) → IsStart f c s at_start
+    → (t : ℕ) (x : Config) → Reaches (Goes f.circuit) t at_start x → IsStuck f.circuit x
+    → t + 48 * build_elements f ≤ clock → Told f c s at_start t x
+
+-- wherever the clock runs out: it has room for the steps that lead from one step of the machine to the next
+abbrev pub BuildsAreLeftByTheirMachine : Type 0
+BuildsAreLeftByTheirMachine =
+    (f : Build) → IsBuild f → 48 * build_elements f ≤ clock → (c : Configuration ℕ) (s : Situation) (at_start : Config)
+    → IsStart f c s at_start → (t : ℕ) (x : Config) → Reaches (Goes f.circuit) t at_start x
+    → (e l : ℕ) → x.place ≡ Left e l → HasLeft f c x.place x.states
+
+-- the same of the moments that the layout finds, and of the start
+abbrev pub BuildsShowTheirMachine : Type 0
+BuildsShowTheirMachine =
+    (f : Build) → IsBuild f → 48 * build_elements f ≤ clock → (c : Configuration ℕ) (s : Situation) (at_start : Config)
+    → IsStart f c s at_start
+    → ((t : ℕ) (x : Config) → Reaches (Goes f.circuit) t at_start x → (a : ℕ) → moment_at f.layout x ≡ Some a
+    → ShowsMoment f c a x.states)
+    × ShowsMoment f c (initial_of f.machine.rules) at_start.states
+
+abbrev pub BuildsEndOnce : Type 0
+BuildsEndOnce =
+    ((f : Build) → IsBuild f → (c : Configuration ℕ) (m n : ℕ) (d b : Configuration ℕ) (e g : Exit)
+    → EndsInWindow f c m d e → EndsInWindow f c n b g → (m ≡ n) × (d ≡ b) × (e ≡ g))
+    × ((f : Build) (s : Situation) (at_start : Config) (m n : ℕ) (d b : Configuration ℕ) (e g : Exit)
+    → (h : BuildRunsTo f s at_start m d e) → (k : BuildRunsTo f s at_start n b g)
+    → (h.cost ≡ k.cost) × (run f.circuit at_start h.cost ≡ run f.circuit at_start k.cost))
+
+abbrev pub InverseBuildsRunBack : Type 0
+InverseBuildsRunBack =
+    (f g : Build) → IsBuild f → IsBuild g → g.machine ≡ inverse_of f.machine → g.limits ≡ f.limits
+    → (c : Configuration ℕ) (s : Situation) (at_start : Config) → IsStart f c s at_start
+    → (n : ℕ) (d : Configuration ℕ) → EndsInWindow f c n d Finished
+    → IsStart g d (start_from g.machine g.limits d) (board_start g.network.tables (start_from g.machine g.limits d))
+    × EndsInWindow g d n c Finished
+
+-- ---- the laws
+
 pub record Laws : Type 0 where
   -- Each module of a network is a bank of its board.
   pub modules_are_banks : ModulesAreBanks

@@ -25,7 +25,8 @@ use Rattle.bn_circuits.specs.BehaviourLaws.{Comes, leaves, hangs, Passage, Origi
 use Rattle.bn_circuits.specs.BehaviourLaws.{CircuitsAreLeft, BehavioursStay, BehavioursAreOneToOne, BehavioursAreOnto}
 use Rattle.bn_circuits.specs.BehaviourLaws.{BehavioursAreRuns}
 use Rattle.bn_lists.proofs.FiniteLemmas.{ends_below, runs_stop_once, runs_mapped}
-use Rattle.bn_circuits.proofs.SituationNumberLemmas.{paired_low, states_number, states_low, states_apart, line_number, line_low}
+use Rattle.bn_circuits.proofs.SituationNumberLemmas.{states_number, states_low, states_apart, line_number, line_low}
+use Rattle.bn_lists.proofs.PairingLemmas.{paired_low}
 use Rattle.bn_circuits.proofs.SituationNumberLemmas.{line_apart}
 use Rattle.std.proofs.lemmas.Nat.{same_from_place}
 

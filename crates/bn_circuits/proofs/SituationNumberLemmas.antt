@@ -1,4 +1,5 @@
 -- Situations of a circuit have numbers: those of the states, and those of the input lines.
+use Rattle.bn_lists.proofs.PairingLemmas.{paired_low}
 use Rattle.std.specs.Prelude.{◌≡◌, ℕ, ◌+◌, ◌*◌, ◌<◌, List, [], ◌∷◌, refl}
 use Rattle.std.proofs.Common.{zero, suc, arith, ap, subst}
 use Rattle.std.proofs.Math.Nat.{mul_comm}
@@ -7,11 +8,6 @@ use Rattle.bn_element.specs.Tables.{Table}
 use Rattle.bn_circuits.specs.Circuits.{inputs_of}
 use Rattle.bn_circuits.specs.Behaviours.{state_count, input_count}
 use Rattle.bn_circuits.specs.Circuits.{AreStates}
-
--- ---- a pair of numbers as one
-
-pub paired_low : (a b m n : ℕ) → a < m → b < n → a * n + b < m * n
-paired_low a b m n p q = subst (λ x. a * n + b < x) (mul_comm n m) (mul-add-lt a n b m p q)
 
 -- ---- states
 

@@ -12,3 +12,4 @@ pub mod MachineLemmas
 pub mod PrintedLemmas
 pub mod ClosedLemmas
 pub mod LawLemmas
+pub mod ThereLemmas

@@ -20,6 +20,7 @@ use Rattle.bn_erase.specs.Made.{Erasure, IsErasing, name_of}
 use Rattle.bn_erase.specs.Printed.{names_of}
 use Rattle.bn_erase.specs.Recoded.{KeepsSymbols, recoded}
 use Rattle.bn_erase.specs.declared.erasing.TheConstants.{MOST_QUADRUPLES}
+use Rattle.bn_erase.specs.Existence.{ErasingsAreThere}
 
 -- ---- one alphabet
 
@@ -121,3 +122,6 @@ pub record Laws : Type 0 where
   pub erasings_erase : ErasingsErase
   -- Every state and every symbol of the erasing machine has a printed name.
   pub erasings_have_names : ErasingsHaveNames
+  -- Two machines in standard form as tables have them, over one alphabet, have an erasing machine whose states have
+  -- numbers.
+  pub erasings_are_there : ErasingsAreThere

@@ -4,4 +4,5 @@ pub mod Made
 pub mod Numbered
 pub mod Printed
 pub mod Printable
+pub mod Existence
 pub mod Laws

@@ -16,3 +16,11 @@ pub mod ExchangedLemmas
 pub mod JoinedLemmas
 pub mod InverseLemmas
 pub mod InverseDecidedLemmas
+pub mod WindowHaltLemmas
+pub mod WindowHalvesLemmas
+pub mod WindowEraseLemmas
+pub mod WindowGoingLemmas
+pub mod WindowComparingLemmas
+pub mod WindowEndsLemmas
+pub mod WindowNamedEndsLemmas
+pub mod WindowLeastLemmas

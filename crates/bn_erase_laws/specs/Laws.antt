@@ -7,6 +7,9 @@ use Rattle.bn_erase_laws.specs.ErasingLaws.{ErasingCountsNames, FirstSticks, Sec
 use Rattle.bn_erase_laws.specs.ErasingLaws.{UnequalOutputsStop}
 use Rattle.bn_erase_laws.specs.ListLaws.{TurnedListsPassTests, TurnedListsRunBack, ExchangedListsPassTests}
 use Rattle.bn_erase_laws.specs.ListLaws.{ExchangedListsRun, JoinedListsPassTests, JoinedListsRun, JoinedListsHaveRun}
+use Rattle.bn_erase_laws.specs.EraseWindowLaws.{ErasesInWindows, RunsEnd, RunsEndOnce, FirstNamesEnd}
+use Rattle.bn_erase_laws.specs.EraseWindowLaws.{SecondNamesEnd, UnequalOutputsEnd, HaltsInGreaterWindows, WindowsOfBothSuffice}
+use Rattle.bn_erase_laws.specs.EraseWindowLaws.{StepsGiveWindow, LeastErasesIn}
 
 pub record Laws : Type 0 where
   -- The erasing machine is deterministic, reversible and uniform.
@@ -41,3 +44,19 @@ pub record Laws : Type 0 where
   -- Two lists that join at a state make one: it passes the tests where both do, and its runs from the first one's
   -- initial to the second one's final state are those of the two in a row.
   pub joined_lists : JoinedListsPassTests × JoinedListsRun × JoinedListsHaveRun
+  -- In a window the erasing machine (Bennett 1973) comes from x to its end exactly where both machines halt in it, each
+  -- on the other's word; then y alone is left.
+  pub erases_in_windows : ErasesInWindows
+  -- In every window the run from a word ends, after at most 8 r2 + 4 (r1 + r3) + 10 steps, and in one way.
+  pub runs_end : RunsEnd × RunsEndOnce
+  -- Which end it has, where a machine is stuck in the window, the first has no room there, or the second makes another
+  -- word of y than x.
+  pub machines_name_ends : FirstNamesEnd × SecondNamesEnd × UnequalOutputsEnd
+  -- A greater window changes no halting run.
+  pub halts_in_greater_windows : HaltsInGreaterWindows
+  -- Which window has room for both machines, by a window of each.
+  pub windows_of_both_suffice : WindowsOfBothSuffice
+  -- And by the steps and the words alone, where the second machine's head never is left of cell 0.
+  pub steps_give_window : StepsGiveWindow
+  -- The two least machines in a window.
+  pub least_erases_in : LeastErasesIn

@@ -4,4 +4,6 @@ pub mod ErasingLaws
 pub mod Lists
 pub mod ListLaws
 pub mod InverseLaws
+pub mod EraseWindows
+pub mod EraseWindowLaws
 pub mod Laws

@@ -3,4 +3,5 @@ pub mod ListLemmas
 pub mod LeastLemmas
 pub mod MemberLemmas
 pub mod RunsLemmas
+pub mod PairingLemmas
 pub mod FiniteLemmas

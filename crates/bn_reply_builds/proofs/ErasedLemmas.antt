@@ -68,6 +68,8 @@ use Rattle.bn_reply_machines.specs.UniformReply.{not_uniform, uniform}
 use Rattle.bn_reply_machines.specs.WordsReply.{WordsReplies, named, unnamed}
 use Rattle.bn_reply_builds.specs.DriveHeadline.{IsGiven, IsOwnRun, ShowsEnd, TellsEnd, TellsOwnRun, drive_lines}
 use Rattle.bn_reply_builds.specs.DriveHeadline as headline
+use Rattle.bn_erase.proofs.ThereLemmas.{erasings-there}
+use Rattle.bn_reply_builds.proofs.ErasedTableLemmas as printed_tables
 use Rattle.bn_reply_builds.specs.DriveReply.{DriveReplies}
 use Rattle.bn_reply_builds.specs.Driven.{TellsDrive, drive_status}
 use Rattle.bn_reply_builds.specs.ErasedDrives.{AreErasedBy, ErasedCircuitsErase, LeavesOutputAlone}
@@ -457,9 +459,13 @@ module _ (bytes word table : List ℕ) (silent : List Place) (printed : EraseRep
           )
 
 pub erased-circuits_erase : ErasedCircuitsErase
-erased-circuits_erase bytes word table silent printed t u x pair e is l most status text told low reply = (
-  λ done. (erases bytes word table silent printed t u x pair e is l most status text told low reply
-      (was_driven word table l most status text told (inl done) reply)).0 done,
-  λ v w y first second stuck. (erases bytes word table silent printed t u x pair e is l most status text told low reply
-      (was_driven word table l most status text told (inr stuck) reply)).1 v w y first second stuck,
-)
+erased-circuits_erase bytes word table silent printed t u x pair l most status text told low reply =
+    let both = printed_tables.joint bytes word table silent printed t u x pair in
+    let machines = printed_tables.standard bytes word table silent printed t u x pair in
+    let made = erasings-there (joined t u).first (joined t u).second machines.0 machines.1 both.first_fits
+    both.second_fits (both.first_symbols ∙ sym both.second_symbols) in (
+      λ done. (erases bytes word table silent printed t u x pair made.0 made.1 l most status text told low reply
+          (was_driven word table l most status text told (inl done) reply)).0 done,
+      λ v w y first second stuck. (erases bytes word table silent printed t u x pair made.0 made.1 l most status text
+          told low reply (was_driven word table l most status text told (inr stuck) reply)).1 v w y first second stuck,
+    )

@@ -26,3 +26,9 @@ pub mod HeadlineLemmas
 pub mod CircuitLemmas
 pub mod ErasedLemmas
 pub mod OwnDriveLemmas
+pub mod ErasedTableLemmas
+pub mod ErasedWordLemmas
+pub mod ErasedOwnRunLemmas
+pub mod ErasedLineLemmas
+pub mod ErasedComeLemmas
+pub mod ErasedEndLemmas

@@ -11,7 +11,6 @@ use Rattle.bn_machine.specs.Standard.{IsStandard}
 use Rattle.bn_qtable.specs.TapeWords.{Letters, One}
 use Rattle.bn_bennett_laws.specs.Laws.{HaltsAfter}
 use Rattle.bn_erase.specs.Joint.{Joint, joined}
-use Rattle.bn_erase.specs.Made.{Erasure, IsErasing}
 use Rattle.bn_erase.specs.Printed.{history_names, letter_names}
 use Rattle.bn_boards.specs.Layouts.{tape_in}
 use Rattle.bn_reply.specs.Lines.{line}
@@ -58,13 +57,11 @@ pub record LeavesOutputAlone (j : Joint) (l : Limits) (x text : List ℕ) : Type
       ++ (quadruple_line (4 * (v + w) + 4 * (length x + length y) + 10) ++ output_lines j l y)))
 
 -- What `drive` answers to the table that `erase` wrote, and a word: it tells the end only where each machine halts on
--- the other's word, and then it tells that output alone; and where they do, it tells no machine that is stuck. The
--- states of the machine that was joined have numbers, by e.
+-- the other's word, and then it tells that output alone; and where they do, it tells no machine that is stuck.
 abbrev pub ErasedCircuitsErase : Type 0
 ErasedCircuitsErase =
     (bytes word table : List ℕ) (silent : List Place) → EraseReplies bytes Done table silent
     → (t u : Named) (x : List ℕ) → AreErasedBy bytes word t u x
-    → (e : Erasure) → IsErasing (joined t u).first (joined t u).second e
     → (l : Limits) (most : ℕ) (status : Status) (text : List ℕ) (told : List Place) → most ≤ MOST_DRIVE_STEPS
     → DriveReplies (One (Letters word)) l most table status text told
     → (status ≡ Done → LeavesOutputAlone (joined t u) l x text)

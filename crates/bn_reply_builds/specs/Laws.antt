@@ -6,6 +6,7 @@ use Rattle.bn_reply_builds.specs.DriveHeadline.{DrivesTellTheirMachine}
 use Rattle.bn_reply_builds.specs.DriveReply.{DriveIsSettled}
 use Rattle.bn_reply_builds.specs.ErasedDrives.{ErasedCircuitsErase}
 use Rattle.bn_reply_builds.specs.OwnDrives.{OwnRunsAreThere, OwnRunsAreOne, DrivesTellTheirRun}
+use Rattle.bn_reply_builds.specs.ErasedRunLaws.{ErasedCircuitsComeOut, EndsTellHalts, ErasedCircuitsEnd}
 
 pub record Laws : Type 0 where
   -- To all words, windows and bytes `build` has an answer, and only one.
@@ -32,3 +33,12 @@ pub record Laws : Type 0 where
   pub own_runs_are_one : OwnRunsAreOne
   -- What `drive` answers tells that run.
   pub drives_tell_their_run : DrivesTellTheirRun
+  -- Where both machines halt in the window, each on the other's word, the signal of the circuit that erases comes to
+  -- its end in exactly its cost, and `drive` tells that end, with y alone, for each number of element steps from the
+  -- cost on.
+  pub erased_circuits_come_out : ErasedCircuitsComeOut
+  -- It tells the end only where they do.
+  pub ends_tell_halts : EndsTellHalts
+  -- Whatever the machines do, the signal leaves in exactly its cost, by the exit that the erasing machine's own run in
+  -- the window names: no drive goes on for ever.
+  pub erased_circuits_end : ErasedCircuitsEnd

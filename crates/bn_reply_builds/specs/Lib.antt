@@ -15,4 +15,6 @@ pub mod DriveHeadline
 pub mod DriveCircuits
 pub mod ErasedDrives
 pub mod OwnDrives
+pub mod ErasedRuns
+pub mod ErasedRunLaws
 pub mod Laws

@@ -9,3 +9,6 @@ pub mod AnswerLemmas
 mod OpenedLemmas
 mod SecondLemmas
 pub mod BothLemmas
+pub mod PrintedRowLemmas
+pub mod PrintedSizeLemmas
+pub mod InverseSizeLemmas

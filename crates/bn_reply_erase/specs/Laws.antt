@@ -14,6 +14,7 @@ use Rattle.bn_reply.specs.declared.status.Status.TheVariants.{Done}
 use Rattle.bn_reply_erase.specs.EraseReply.{EraseRunReplies, erasing_of, erased_lines, lettered}
 use Rattle.bn_base.specs.declared.limits.TheConstants.{MOST_COUNT}
 use Rattle.bn_reply_erase.specs.EraseReply.{EraseIsSettled, EraseRunIsSettled}
+use Rattle.bn_reply_erase.specs.PrintedSizes.{BennettTextsMayBeRead, EraseTextsMayBeRead, InverseTextsMayBeRead}
 
 -- the bytes are two tables with machines in standard form, the word is spelled by these symbols of the joint letters,
 -- and neither the word nor the erasing machine is too large
@@ -63,3 +64,9 @@ pub record Laws : Type 0 where
   -- `erase =W n` answers that the run halts exactly where both machines do, each on the other's word, and the number of
   -- steps that they make it take is at most n (Bennett 1973).
   pub erasing_runs_tell_both : ErasingRunsTellBoth
+  -- The table that `bennett` prints is within the limit of an input.
+  pub bennett_texts_may_be_read : BennettTextsMayBeRead
+  -- So is the table that `erase` prints.
+  pub erase_texts_may_be_read : EraseTextsMayBeRead
+  -- And the table that `inverse` prints.
+  pub inverse_texts_may_be_read : InverseTextsMayBeRead

@@ -10,6 +10,30 @@ use Rattle.bn_rsm.specs.Reading.{ReadingOrFault}
 use Rattle.bn_rsm.specs.declared.entry.TheConstants.{MOST_ENTRIES}
 use Rattle.std.specs.Prelude.{List, ℕ, ◌*◌, ◌+◌, ◌<◌, ◌^◌, ◌≡◌, ◌≢◌, ◌≤◌, ◌⊎◌}
 
+abbrev pub RefusalsAreOne : Type 0
+RefusalsAreOne =
+    (states lines : ℕ) (moves : List RsmMove) (a b : RsmRefusal) → IsMoveRefusal states lines moves a
+    → IsMoveRefusal states lines moves b → a ≢ NoMemory → b ≢ NoMemory → a ≡ b
+
+abbrev pub SoundMovesAreTaken : Type 0
+SoundMovesAreTaken =
+    (states lines : ℕ) (moves : List RsmMove) (a : RsmRefusal) → AreSound states lines moves
+    → IsMoveRefusal states lines moves a → a ≡ NoMemory
+
+-- moves make a machine, or they have a first fault
+abbrev pub MovesAreSoundOrRefused : Type 0
+MovesAreSoundOrRefused =
+    (states lines : ℕ) (moves : List RsmMove)
+    → AreSound states lines moves ⊎ ((a : RsmRefusal) × (a ≢ NoMemory) × IsMoveRefusal states lines moves a)
+
+-- n columns of k rows have n * (k + 1) elements
+abbrev pub CostsAreBounded : Type 0
+CostsAreBounded =
+    (n k q i r o : ℕ) → q < n → i < k → r < n → o < k
+    → (move_cost n k q i r o ≤ 4 * (n * (k + 1))) × (loose_cost k q i ≤ 4 * (n * (k + 1)))
+
+-- ---- the laws
+
 pub record Laws : Type 0 where
   -- Moves have one refusal at most, beside want of memory.
   pub refusals_are_one : RefusalsAreOne

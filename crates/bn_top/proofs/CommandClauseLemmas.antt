@@ -8,7 +8,7 @@ use Rattle.bn_reply.specs.declared.status.Status.{Status}
 use Rattle.bn_reply.specs.declared.status.Status.TheVariants.{Done}
 use Rattle.bn_quad.specs.Quadruples.{Quadruples, inverse_of}
 use Rattle.bn_reply_builds.proofs.CircuitLemmas.{builds-tell_boards, drives-tell_boards}
-use Rattle.bn_reply_builds.proofs.HeadlineLemmas.{drives-tell_machine}
+use Rattle.bn_reply_builds.proofs.OwnDriveLemmas.{tell-their-run}
 use Rattle.bn_erase_laws.proofs.InverseLemmas.{inverses-follow, inverses-uniform, tests_passed}
 use Rattle.bn_renumbering.proofs.TableLemmas.{inverses-tables}
 use Rattle.bn_reply_machines.proofs.InverseLemmas.{inverse_settled}
@@ -109,13 +109,10 @@ module _ (words : List (List ℕ)) (bytes : List ℕ) (status : Status) (taken t
 
   drive_told : DriveHeadline words bytes status taken took
   unfolding DriveHeadline
-  drive_told asked l most form short t one two three given n d e own =
-      let reply = reply_to (Drive asked l most) form refl short in (
-        h.text,
-        h.grows,
-        drives-tell_machine asked l most bytes status h.text h.places form.allowed.1 reply t one two three given n d e
-            own,
-      )
+  drive_told asked l most form short t one two three given =
+      let reply = reply_to (Drive asked l most) form refl short in
+      let told = tell-their-run asked l most bytes status h.text h.places form.allowed.1 reply t one two three given in
+      (told.0, h.text, h.grows, told.1)
 
   drive_circuit_told : DriveCircuitHeadline words bytes status taken took
   unfolding DriveCircuitHeadline

@@ -14,3 +14,6 @@ pub mod MemoryLemmas
 pub mod TextLemmas
 pub mod BuildTextLemmas
 pub mod LawLemmas
+pub mod PrintedCompiledLemmas
+pub mod PrintedErasedLemmas
+pub mod PrintedInverseLemmas

@@ -9,6 +9,9 @@ use Rattle.bn_top.specs.HeadlineLaws.{AnswersTellMachine, GeneratedClauseTells}
 use Rattle.bn_top.specs.TextLaws.{CompiledTextsReturn, BuiltTextsReturn, RealisedTextsReturn, MirroredTextsReturn}
 use Rattle.bn_top.specs.TextLaws.{FarmedTextsReturn}
 use Rattle.bn_top.specs.FoundLaws.{AnswersTellFound}
+use Rattle.bn_top.specs.PrintedTables.{CompilingIsBuildingAgain, EndsTellHalts, ErasedTablesComeOut}
+use Rattle.bn_top.specs.PrintedTables.{ErasedTablesEnd, ErasedTablesErase, ErasedTablesTellOutput}
+use Rattle.bn_top.specs.PrintedTables.{InversedTablesReturn}
 
 abbrev pub AnswersAreOne : Type 0
 AnswersAreOne = (words : List (List ℕ)) (bytes : List ℕ) → IsOneAnswer (Answers words bytes)
@@ -41,3 +44,17 @@ pub record Laws : Type 0 where
   -- undoes the schedule.
   pub printed_texts_return :
       CompiledTextsReturn × BuiltTextsReturn × RealisedTextsReturn × MirroredTextsReturn × FarmedTextsReturn
+  -- What `compile` prints is what `build` prints of what `bennett` prints.
+  pub compiling_is_building : CompilingIsBuildingAgain
+  -- Of the table that `erase` prints, `drive` tells the end only with the output alone on the tapes.
+  pub erased_tables_erase : ErasedTablesErase
+  -- And only where both machines halt in the window, each on the other's word.
+  pub ends_tell_halts : EndsTellHalts
+  -- Where they do, it comes to the end, for each number of element steps from the circuit's cost on.
+  pub erased_tables_come_out : ErasedTablesComeOut
+  -- So with 2^52 element steps or more it tells y alone, unless the circuit is refused for its size.
+  pub erased_tables_tell_output : ErasedTablesTellOutput
+  -- Whatever the machines do, no drive of it goes on for ever.
+  pub erased_tables_end : ErasedTablesEnd
+  -- The inverse of the inverse has the entries of the first table.
+  pub inversed_tables_return : InversedTablesReturn

@@ -1,5 +1,6 @@
 pub mod Answers
 pub mod Told
+pub mod PrintedTables
 pub mod Laws
 pub mod Outside
 pub mod Clauses

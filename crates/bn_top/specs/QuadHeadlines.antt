@@ -13,7 +13,6 @@ use Rattle.bn_qtable.specs.Reading.{ReadsQuadruples}
 use Rattle.bn_qtable.specs.Rows.{QuadTable}
 use Rattle.bn_qtable.specs.TapeWords.{TapeWords}
 use Rattle.bn_renumbering.specs.Renumbering.{ReadsBack}
-use Rattle.bn_bennett_laws.specs.Steps.{Exit}
 use Rattle.bn_network.specs.Starts.{words_on}
 use Rattle.bn_network_assembly.specs.Assembled.{CountsElements}
 use Rattle.bn_reply.specs.declared.limits.TheConstants.{MOST_INPUT_BYTES}
@@ -21,7 +20,8 @@ use Rattle.bn_reply.specs.declared.status.Status.{Status}
 use Rattle.bn_reply.specs.declared.status.Status.TheVariants.{Done}
 use Rattle.bn_reply_machines.specs.InverseReply.{inverse_text}
 use Rattle.bn_reply_builds.specs.DriveCircuits.{TellsBoards, TellsRuns}
-use Rattle.bn_reply_builds.specs.DriveHeadline.{IsGiven, IsOwnRun, TellsDriven}
+use Rattle.bn_reply_builds.specs.DriveHeadline.{IsGiven, TellsDriven}
+use Rattle.bn_reply_builds.specs.OwnDrives.{HasOwnRun}
 use Rattle.bn_words.specs.Requests.{Build, Drive, HasForm}
 
 -- Each step of m is a step back of w, so n steps are n steps back; where the one is deterministic the other is
@@ -41,15 +41,15 @@ InverseCommand words bytes status taken took =
     → (status ≡ Done) × Grows taken took (inverse_text t) × TakesBack t.machine (inverse_of t.machine)
     × ((u : QuadTable) × ReadsQuadruples (inverse_text t) u × ReadsBack (inverse_of t.machine) t.names u)
 
--- Where the words ask for a drive, and whatever words, window and table of a uniform machine are given: however the
--- machine's own run in the window ends, the sink took the text that tells it, or that the signal is inside after the
--- greatest number of element steps. No circuit stands in what is said.
+-- Where the words ask for a drive, and whatever words, window and table of a uniform machine are given: the machine's
+-- own run in the window ends, and the sink took the text that reports its end, or that the signal is inside the circuit
+-- after the greatest number of element steps.
 unfoldable pub DriveHeadline : List (List ℕ) → List ℕ → Status → Option (List ℕ) → Option (List ℕ) → Type 0
 DriveHeadline words bytes status taken took =
     (asked : TapeWords) (l : Limits) (most : ℕ) → HasForm words (Drive asked l most) → length bytes ≤ MOST_INPUT_BYTES
     → (t : QuadTable) (one two three : List ℕ) → IsGiven asked bytes l t one two three
-    → (n : ℕ) (d : Configuration ℕ) (e : Exit) → IsOwnRun t l one two three n d e
-    → (text : List ℕ) × Grows taken took text × TellsDriven most t l n d e status text
+    → (run : HasOwnRun t l one two three) × (text : List ℕ) × Grows taken took text
+    × TellsDriven most t l run.steps run.last run.exit status text
 
 -- By the circuit: the sink took the text of the run of what the machine is built to, within the greatest number of
 -- element steps. That run comes in exactly its cost to the exit that the machine's own run names, where the clock has

@@ -4,6 +4,7 @@ use Rattle.bn_erase.proofs.JointLemmas.{joint_alphabet, codes_keep_symbols}
 use Rattle.bn_erase.proofs.LawLemmas.{erasings_erase, erasings_have_names}
 use Rattle.bn_erase.proofs.RecodedLemmas.{recoded_is_standard}
 use Rattle.std.proofs.Common.{refl}
+use Rattle.bn_erase.proofs.ThereLemmas.{erasings-there}
 use Rattle.bn_erase.proofs.laws.erase_joining_laws.Goals as goal
 
 pub returns : goal.returns
@@ -14,4 +15,5 @@ returns _ = record {
   erasings_are_uniform = erasings_uniform;
   erasings_erase = erasings_erase;
   erasings_have_names = erasings_have_names;
+  erasings_are_there = erasings-there;
 }

@@ -12,6 +12,11 @@ use Rattle.bn_erase_laws.proofs.SticksLemmas.{first_sticks, second_sticks}
 use Rattle.bn_erase_laws.proofs.TheoremLemmas.{erases_input}
 use Rattle.bn_erase_laws.proofs.TurnedLemmas.{turned_lists_pass_tests, turned_lists_run_back}
 use Rattle.bn_erase_laws.proofs.UnequalLemmas.{unequal_words_part, unequal_outputs_stop}
+use Rattle.bn_erase_laws.proofs.WindowEraseLemmas.{erases-in_windows}
+use Rattle.bn_erase_laws.proofs.WindowEndsLemmas.{runs-end, runs-end_once}
+use Rattle.bn_erase_laws.proofs.WindowHaltLemmas.{halts-greater, windows-suffice, steps-give}
+use Rattle.bn_erase_laws.proofs.WindowLeastLemmas.{least-erases_in}
+use Rattle.bn_erase_laws.proofs.WindowNamedEndsLemmas.{first-names, second-names, unequal-end}
 use Rattle.bn_erase_laws.proofs.laws.erase_laws.Goals as goal
 
 pub returns : goal.returns
@@ -29,4 +34,11 @@ returns _ = record {
   turned_lists = (turned_lists_pass_tests, turned_lists_run_back);
   exchanged_lists = (exchanged_lists_pass_tests, exchanged_lists_run);
   joined_lists = (joined_lists_pass_tests, joined_lists_run, joined_lists_have_run);
+  erases_in_windows = erases-in_windows;
+  runs_end = (runs-end, runs-end_once);
+  machines_name_ends = (first-names, second-names, unequal-end);
+  halts_in_greater_windows = halts-greater;
+  windows_of_both_suffice = windows-suffice;
+  least_erases_in = least-erases_in;
+  steps_give_window = steps-give;
 }

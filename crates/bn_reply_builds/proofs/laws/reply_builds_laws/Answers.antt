@@ -5,6 +5,7 @@ use Rattle.bn_reply_builds.proofs.DriveSettledLemmas.{drive_is_settled}
 use Rattle.bn_reply_builds.proofs.ErasedLemmas.{erased-circuits_erase}
 use Rattle.bn_reply_builds.proofs.HeadlineLemmas.{drives-tell_machine}
 use Rattle.bn_reply_builds.proofs.OwnDriveLemmas.{runs-there, runs-one, tell-their-run}
+use Rattle.bn_reply_builds.proofs.ErasedEndLemmas.{ends-tell_halts, erased-come_out, erased-end}
 use Rattle.bn_reply_builds.proofs.laws.reply_builds_laws.Goals as goal
 
 pub returns : goal.returns
@@ -18,4 +19,7 @@ returns _ = record {
   own_runs_are_there = runs-there;
   own_runs_are_one = runs-one;
   drives_tell_their_run = tell-their-run;
+  erased_circuits_come_out = erased-come_out;
+  ends_tell_halts = ends-tell_halts;
+  erased_circuits_end = erased-end;
 }
