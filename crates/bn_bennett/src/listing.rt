@@ -5,7 +5,10 @@ ghost use Rattle.bn_bennett_laws.specs.List as list;
 ghost use Rattle.bn_bennett.specs.Draft.{IsDraft, drafted, Grows};
 
 use crate::draft::{Draft, add, add_two};
-use crate::rule::{begins_copy, copies_letter, ends_copy, goes_left, goes_right, passes_letter, shifts_ahead, shifts_back, turns_left, writes_ahead, writes_back};
+use crate::rule::{
+    begins_copy, copies_letter, ends_copy, goes_left, goes_right, passes_letter, shifts_ahead,
+    shifts_back, turns_left, writes_ahead, writes_back,
+};
 use bn_machine::{Machine, Quint};
 use bn_quad::NoMemory;
 

@@ -14,7 +14,9 @@ pub use bn_lists::NoMemory;
 pub use letters::push_letters;
 pub use limits::{MOST_INPUT_BYTES, most_input_bytes_are_stated};
 pub use lines::{empty_text, field_text, record_text, why_text};
-pub use opening::{Judged, OpenedTable, OpenedWord, foreign_letter, judge_table, open_table, open_word, too_long};
+pub use opening::{
+    Judged, OpenedTable, OpenedWord, foreign_letter, judge_table, open_table, open_word, too_long,
+};
 pub use pieces::{push, push_counted, push_position};
 pub use reply::Reply;
 pub use status::Status;

@@ -11,3 +11,4 @@ pub mod MirrorStreamLemmas
 pub mod FarmReplyLemmas
 pub mod ComeBackLemmas
 pub mod FarmAnswerLemmas
+pub mod ElementReplyLemmas

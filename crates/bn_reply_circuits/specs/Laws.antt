@@ -1,4 +1,5 @@
 -- The laws of this crate, a named field each. `Laws` is the contract of `reply_circuits_laws`.
+use Rattle.bn_reply_circuits.specs.ElementReply.{ElementIsSettled}
 use Rattle.bn_reply_circuits.specs.FarmReply.{FarmIsSettled, FarmsComeBack}
 use Rattle.bn_reply_circuits.specs.MirrorLaws.{MirroredTextsComeBack, BoardsComeBack}
 use Rattle.bn_reply_circuits.specs.MirrorReply.{MirrorIsSettled}
@@ -22,3 +23,5 @@ pub record Laws : Type 0 where
   pub plan_has_one_reply : PlanIsSettled
   -- To all states and lines, counted from 1, and all bytes `realise` has an answer, and only one.
   pub realise_has_one_reply : RealiseIsSettled
+  -- `element` has one answer to each number of lines and each number, and only one.
+  pub element_has_one_reply : ElementIsSettled

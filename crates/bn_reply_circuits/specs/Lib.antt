@@ -7,4 +7,5 @@ pub mod MirrorReply
 pub mod MirrorLaws
 pub mod FarmReply
 pub mod FarmRefused
+pub mod ElementReply
 pub mod Laws

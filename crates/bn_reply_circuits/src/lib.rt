@@ -3,6 +3,7 @@
 #![tactic(auto)]
 
 mod config;
+mod element;
 mod farm;
 mod laws;
 mod migrate;
@@ -15,6 +16,7 @@ mod unwritten;
 mod walk;
 
 pub use config::{give_config, refuse_input};
+pub use element::reply_element;
 pub use farm::reply_farm;
 pub use laws::reply_circuits_laws;
 pub use migrate::answer_migrate;

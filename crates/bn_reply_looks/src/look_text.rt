@@ -14,7 +14,9 @@ use bn_board::Board;
 use bn_circuits::Place;
 use bn_quad::{QuadNames, Uniform};
 use bn_reply::{NoMemory, push};
-use bn_reply_builds::{TableNames, counts_of_machine, outcome_of, push_outcome, push_state, push_tapes};
+use bn_reply_builds::{
+    TableNames, counts_of_machine, outcome_of, push_outcome, push_state, push_tapes,
+};
 use bn_reply_views::{push_element, push_module};
 use bn_view::{BoardLayers, ModuleAt, view_board};
 use std::alloc::Global;

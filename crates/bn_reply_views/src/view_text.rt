@@ -21,7 +21,9 @@ use bn_bennett::{MachineState, Stage, Translated, names};
 use bn_circuits::Place;
 use bn_quad::QuadNames;
 use bn_reply::{NoMemory, push, push_position};
-use bn_reply_boards::{SymbolCounts, counts_of_table, push_cell_line, push_control_line, push_exit, push_tapes};
+use bn_reply_boards::{
+    SymbolCounts, counts_of_table, push_cell_line, push_control_line, push_exit, push_tapes,
+};
 use bn_table::Table;
 use bn_view::{Layers, ModuleAt};
 use std::alloc::Global;

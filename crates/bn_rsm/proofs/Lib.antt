@@ -9,3 +9,4 @@ mod Drafting
 mod Coming
 pub mod ReadingLaws
 pub mod LawLemmas
+pub mod PairedLemmas

@@ -11,7 +11,6 @@ mod rsm_move;
 mod table_refusal;
 mod text;
 
-pub use bn_csv::NoMemory;
 pub use bn_lists::NoMemory;
 pub use entry::MOST_ENTRIES;
 pub use laws::rsm_laws;
@@ -19,4 +18,4 @@ pub use refusal::RsmRefusal;
 pub use rsm::Rsm;
 pub use rsm_move::RsmMove;
 pub use table_refusal::RsmTableRefusal;
-pub use text::{read_rsm, write_rsm};
+pub use text::{read_rsm, write_moves, write_rsm};

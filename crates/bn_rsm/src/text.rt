@@ -47,8 +47,15 @@ pub fn write_rsm(alloc: Global, rsm: &Rsm) -> Result<Vec<u8>, NoMemory>
     ensures text { IfOk result (λ text. text.items ≡ lines_of (entries_by rsm.now.moves)) }
     ensures read_back { IfOk result (λ text. IsTable rsm.now → ReadsMoves text.items rsm.now) }
 {
+    write_moves(alloc, rsm.moves())
+}
+
+/// The text of some moves: for each, in order, a line with its four numbers, counted from 1.
+pub fn write_moves(alloc: Global, moves: &[RsmMove]) -> Result<Vec<u8>, NoMemory>
+    ensures { IfOk result (λ text. text.items ≡ lines_of (entries_by moves.now)) }
+{
     let mut writer = EntryWriter::new(alloc);
-    for step in rsm.moves() {
+    for step in moves {
         write_move(&mut writer, step)?;
     }
     writer.into_text()

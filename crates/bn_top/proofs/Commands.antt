@@ -6,7 +6,7 @@ use Rattle.bn_circuits.specs.declared.place.Place.{Place}
 use Rattle.bn_words.specs.Requests.{HasForm, IsAllowed, Request, of_configuration, of_whole, reads_input, Step, Back}
 use Rattle.bn_words.specs.Requests.{Check, Machine, Trace, Moments, ThreeMoments, Reversible, Inverse, Bennett, Realise}
 use Rattle.bn_words.specs.Requests.{Standard, Build, Compile, Drive, Layout, Run, RunAuto, View, Session, Look, Play}
-use Rattle.bn_words.specs.Requests.{Plan, Migrate, Mirror, Farm, Generate, Erase, EraseRun}
+use Rattle.bn_words.specs.Requests.{Plan, Migrate, Mirror, Farm, Generate, Element, Erase, EraseRun}
 use Rattle.bn_words.specs.declared.request.ConfigurationRequest as configuration
 use Rattle.bn_words.specs.declared.request.ConfigurationRequest.TheVariants as configuration_variants
 use Rattle.bn_words.specs.declared.request.WholeRequest as whole
@@ -29,6 +29,7 @@ use Rattle.bn_reply_circuits.proofs.FarmReplyLemmas.{farm-settled}
 use Rattle.bn_reply_circuits.proofs.RealiseLemmas.{realise_settled}
 use Rattle.bn_reply_machines.proofs.StandardLemmas.{standard_settled}
 use Rattle.bn_reply_circuits.proofs.PlanReplyLemmas.{plan_settled}
+use Rattle.bn_reply_circuits.proofs.ElementReplyLemmas.{element_settled}
 use Rattle.bn_reply_machines.proofs.BennettLemmas.{bennett_settled}
 use Rattle.bn_reply_machines.proofs.CheckLemmas.{check_settled}
 use Rattle.bn_reply_machines.proofs.InverseLemmas.{inverse_settled}
@@ -75,6 +76,7 @@ settled_by Migrate allowed = migrate_settled
 settled_by Mirror allowed = mirror_settled
 settled_by Farm allowed = farm-settled
 settled_by (Generate k) allowed = λ bytes. generate_settled k allowed
+settled_by (Element k n) allowed = λ bytes. element_settled k n
 settled_by Erase allowed = erase_settled
 settled_by (EraseRun word n) allowed = erase_run_settled word n
 

@@ -5,7 +5,7 @@ use Rattle.bn_circuits.specs.declared.place.Place.{Place}
 use Rattle.bn_words.specs.Requests.{Request, HasForm, HasNoForm, reads_input, Step, Back, Check, Machine, Trace}
 use Rattle.bn_words.specs.Requests.{Moments, ThreeMoments, Reversible, Inverse, Bennett, Realise, Standard, Build}
 use Rattle.bn_words.specs.Requests.{Compile, Drive, Layout, Run, RunAuto, View, Session, Look, Play, Plan, Migrate}
-use Rattle.bn_words.specs.Requests.{Mirror, Farm, Generate, Erase, EraseRun}
+use Rattle.bn_words.specs.Requests.{Mirror, Farm, Generate, Element, Erase, EraseRun}
 use Rattle.bn_reply_relations.specs.CompileReply.{CompileReplies}
 use Rattle.bn_reply.specs.declared.limits.TheConstants.{MOST_INPUT_BYTES}
 use Rattle.bn_reply_relations.specs.RunReply.{RunReplies}
@@ -15,6 +15,7 @@ use Rattle.bn_reply_boards.specs.GenerateReply.{GenerateReplies}
 use Rattle.bn_reply_relations.specs.CircuitReply.{BackReplies, StepReplies}
 use Rattle.bn_reply_circuits.specs.RealiseReply.{RealiseReplies}
 use Rattle.bn_reply_circuits.specs.PlanReply.{PlanReplies}
+use Rattle.bn_reply_circuits.specs.ElementReply.{ElementReplies}
 use Rattle.bn_reply_relations.specs.MigrateReply.{MigrateReplies}
 use Rattle.bn_reply_circuits.specs.MirrorReply.{MirrorReplies}
 use Rattle.bn_reply_circuits.specs.FarmReply.{FarmReplies}
@@ -70,6 +71,7 @@ Replies Migrate = MigrateReplies
 Replies Mirror = MirrorReplies
 Replies Farm = FarmReplies
 Replies (Generate k) = λ bytes. GenerateReplies k
+Replies (Element k n) = λ bytes. ElementReplies k n
 Replies Erase = EraseReplies
 Replies (EraseRun word n) = EraseRunReplies word n
 

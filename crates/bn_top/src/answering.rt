@@ -17,11 +17,16 @@ use bn_io::{Input, ReadRefusal, Sink, piece_size, read_whole};
 use bn_reply::{MOST_INPUT_BYTES, Status, finish, give_reply, tell_long_input, tell_read_fault};
 use bn_reply_boards::{answer_compile, reply_generate, reply_run};
 use bn_reply_builds::{answer_build, reply_drive};
-use bn_reply_circuits::{answer_back, answer_migrate, answer_mirror, answer_plan, answer_realise, answer_step, reply_farm};
+use bn_reply_circuits::{
+    answer_back, answer_migrate, answer_mirror, answer_plan, answer_realise, answer_step,
+    reply_element, reply_farm,
+};
 use bn_reply_erase::{reply_erase, reply_erase_run};
 use bn_reply_layout::answer_layout;
 use bn_reply_looks::{reply_look, reply_play};
-use bn_reply_machines::{reply_bennett, reply_check, reply_inverse, reply_machine, reply_reversible, reply_standard};
+use bn_reply_machines::{
+    reply_bennett, reply_check, reply_inverse, reply_machine, reply_reversible, reply_standard,
+};
 use bn_reply_traces::{answer_moments, answer_three_moments, answer_trace};
 use bn_reply_views::{reply_session, reply_view};
 use bn_words::{ConfigurationRequest, Request, WholeRequest, read_words};
@@ -48,6 +53,9 @@ pub(crate) fn answer_words<I: Input, K: Sink, W: Watch>(
         Some(Request::OnWhole(asked)) => answer_whole(alloc, &asked, input, sink, watch),
         Some(Request::Generate { increments }) => {
             give_reply(sink, reply_generate(alloc, increments, watch))
+        }
+        Some(Request::Element { lines, number }) => {
+            give_reply(sink, reply_element(alloc, lines, number))
         }
         None => finish(sink, b"usage\n", Status::Usage),
     }

@@ -1,5 +1,7 @@
 //! Readers and writers of std behind a source and a sink: what they give and take, and where they fail.
-use bn_io::{ReadRefusal, Sink, Source, SourceFailed, StdSink, StdSource, WriteFault, read_all, write_all};
+use bn_io::{
+    ReadRefusal, Sink, Source, SourceFailed, StdSink, StdSource, WriteFault, read_all, write_all,
+};
 use std::io::{Cursor, Error, ErrorKind, Read, Write};
 use std::test::Fail;
 

@@ -9,10 +9,12 @@ use Rattle.bn_gen.specs.Increments.{IsRoundCount}
 use Rattle.bn_gen.specs.declared.machine.TheConstants.{MOST_INCREMENTS}
 use Rattle.bn_machine.specs.Outcome.{Limits}
 use Rattle.bn_network.specs.Limits.{AreSmall}
+use Rattle.bn_rlem.specs.Elements.{IsLineCount}
+use Rattle.bn_rlem.specs.declared.element.TheConstants.{MOST_LINES}
 use Rattle.bn_words.specs.Laws.{WordsHaveAFormOrNone}
 use Rattle.bn_words.specs.Requests.{HasForm, HasNoForm, IsAllowed, IsOrdinal, Request, words_of}
 use Rattle.bn_words.specs.Requests.{Step, Back, Machine, Trace, Moments, ThreeMoments, Realise, Build, Compile, Drive}
-use Rattle.bn_words.specs.Requests.{Layout, Run, View, Session, Look, Play, Generate, EraseRun}
+use Rattle.bn_words.specs.Requests.{Layout, Run, View, Session, Look, Play, Generate, Element, EraseRun}
 use Rattle.bn_words.specs.declared.request.TheConstants.{MOST_DRIVE_STEPS}
 use Rattle.bn_words.proofs.FormLemmas.{only, only_form}
 
@@ -83,6 +85,11 @@ round_or_not k =
     (λ h. (h.some, h.few))
     (ordinal_or_not k MOST_INCREMENTS)
 
+lines_or_not : (k : ℕ) → OrNot (IsLineCount k)
+lines_or_not k =
+    through ((1 ≤ k) × (k ≤ MOST_LINES)) (IsLineCount k) (λ h. record { some = h.0; few = h.1 }) (λ h. (h.some, h.few))
+    (ordinal_or_not k MOST_LINES)
+
 allowed_or_not : (r : Request) → OrNot (IsAllowed r)
 allowed_or_not (Step e) = low_or_not e greatest
 allowed_or_not (Back e) = low_or_not e greatest
@@ -103,6 +110,7 @@ allowed_or_not (Session w l) = small_or_not l
 allowed_or_not (Look w l e) = both (AreSmall l) (e ≤ greatest) (small_or_not l) (low_or_not e greatest)
 allowed_or_not (Play w l) = small_or_not l
 allowed_or_not (Generate k) = round_or_not k
+allowed_or_not (Element k n) = both (IsLineCount k) (n ≤ greatest) (lines_or_not k) (low_or_not n greatest)
 allowed_or_not (EraseRun w n) = low_or_not n MOST_COUNT
 allowed_or_not r = inl tt
 

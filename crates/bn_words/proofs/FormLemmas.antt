@@ -12,7 +12,7 @@ use Rattle.bn_qtable.specs.TapeWords.{TapeWord, Letters, Names, TapeWords, One, 
 use Rattle.bn_words.specs.Requests.{HasForm, IsAllowed, Request, word_argument, words_of, Step, Back, Check, Machine}
 use Rattle.bn_words.specs.Requests.{Trace, Moments, ThreeMoments, Reversible, Inverse, Bennett, Realise, Standard}
 use Rattle.bn_words.specs.Requests.{Build, Compile, Drive, Layout, Run, RunAuto, View, Session, Look, Play, Plan}
-use Rattle.bn_words.specs.Requests.{Migrate, Mirror, Farm, Generate, Erase, EraseRun}
+use Rattle.bn_words.specs.Requests.{Migrate, Mirror, Farm, Generate, Element, Erase, EraseRun}
 use Rattle.bn_words.proofs.Numbers.{read-whole}
 
 -- ---- what one word would say
@@ -90,6 +90,7 @@ with_pair name a b =
     else if bytes_eq name (codes "machine") then Some (Machine (letters a) (value b))
     else if bytes_eq name (codes "trace") then Some (Trace (letters a) (value b))
     else if bytes_eq name (codes "moments") then Some (Moments (letters a) (value b))
+    else if bytes_eq name (codes "element") then Some (Element (value a) (value b))
     else Some (EraseRun (letters a) (value b))
 
 abbrev with_window : List ℕ → List ℕ → Limits → Option Request
@@ -187,6 +188,10 @@ again (Play (Three u v w) l) h =
     let window = limits_again l h in
     λ t. Some (Play (words t) (window t))
 again (Generate k) h = ap (λ n. Some (Generate n)) (value_again k (omega (arith, h.few)))
+again (Element k n) h =
+    let lines = value_again k (omega (arith, h.0.few)) in
+    let number = value_again n h.1 in
+    λ t. Some (Element (lines t) (number t))
 again (EraseRun w n) h = ap (λ m. Some (EraseRun w m)) (value_again n (omega (arith, h)))
 again r h = refl
 

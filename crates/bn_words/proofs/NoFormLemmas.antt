@@ -9,7 +9,8 @@ use Rattle.bn_gen.specs.declared.machine.TheConstants.{MOST_INCREMENTS}
 use Rattle.bn_qtable.specs.TapeWords.{One, Three}
 use Rattle.bn_words.specs.Requests.{HasForm, HasNoForm, Step, Back, Machine, Trace, Moments, ThreeMoments, Realise}
 use Rattle.bn_words.specs.Requests.{Build, Compile, Drive, Layout, Run, RunAuto, View, Session, Look, Play, Generate}
-use Rattle.bn_words.specs.Requests.{EraseRun}
+use Rattle.bn_words.specs.Requests.{Element, EraseRun}
+use Rattle.bn_rlem.specs.declared.element.TheConstants.{MOST_LINES}
 use Rattle.bn_words.specs.Words.{AreNoDriveSteps, IsCount, IsNoCount, IsNumber}
 use Rattle.bn_words.specs.declared.request.TheConstants.{MOST_DRIVE_STEPS}
 use Rattle.bn_words.proofs.FormLemmas.{only_form, value}
@@ -78,6 +79,26 @@ no_ordinals name first second q i is state line out request h =
         line in
         under p j p_is j_is k.allowed.0.0 k.allowed.1.0 out
 
+-- a number of lines that no element has
+pub no_lines : (name first second : List ℕ) (k : ℕ) → name ≡ codes "element" → IsCount first k
+    → (k < 1) ⊎ (MOST_LINES < k) → HasNoForm (name ∷ first ∷ second ∷ [])
+no_lines name first second k is lines out request h =
+    let asked = subst (λ n. HasForm (n ∷ first ∷ second ∷ []) request) is h in
+    let one : Some (Element (value first) (value second)) ≡ Some request =
+    only_form (codes "element" ∷ first ∷ second ∷ []) request asked in
+    let request_is : request ≡ Element (value first) (value second) = cc in
+    within (value first) (value second) (subst (λ r. HasForm (name ∷ first ∷ second ∷ []) r) request_is h)
+  where
+    beyond : (m : ℕ) → m ≡ k → 1 ≤ m → m ≤ MOST_LINES → (k < 1) ⊎ (MOST_LINES < k) → ⊥
+    beyond m e some few (inl low) = omega (arith, e, some, low)
+    beyond m e some few (inr high) = omega (arith, e, few, high)
+
+    within : (p j : ℕ) → HasForm (name ∷ first ∷ second ∷ []) (Element p j) → ⊥
+    within p j form =
+        let p_is = count_once first p k
+        (record { spelled = let words = form.words_are in cc; bound = omega (arith, form.allowed.0.few) }) lines in
+        beyond p p_is form.allowed.0.some form.allowed.0.few out
+
 -- ---- the words of a slice
 
 no_length : (words : List (List ℕ)) → length words ≢ 1 → length words ≢ 2 → length words ≢ 3 → length words ≢ 5
@@ -106,6 +127,7 @@ no_length words a b c k d e f g (Look (Three u v w) l n) h = g (ap length h.word
 no_length words a b c k d e f g (Play (One w) l) h = d (ap length h.words_are)
 no_length words a b c k d e f g (Play (Three u v w) l) h = f (ap length h.words_are)
 no_length words a b c k d e f g (Generate n) h = b (ap length h.words_are)
+no_length words a b c k d e f g (Element m n) h = c (ap length h.words_are)
 no_length words a b c k d e f g (EraseRun w n) h = c (ap length h.words_are)
 no_length words a b c k d e f g r h = a (ap length h.words_are)
 

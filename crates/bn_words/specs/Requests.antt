@@ -5,6 +5,7 @@ use Rattle.bn_base.specs.declared.limits.TheConstants.{MOST_COUNT}
 use Rattle.bn_machine.specs.Outcome.{Limits}
 use Rattle.bn_gen.specs.Increments.{IsRoundCount}
 use Rattle.bn_network.specs.Limits.{AreSmall}
+use Rattle.bn_rlem.specs.Elements.{IsLineCount}
 use Rattle.bn_network_assembly.specs.Assembled.{limits_of}
 use Rattle.bn_qtable.specs.TapeWords.{TapeWord, Letters, Names, TapeWords, One, Three, tape_words_of}
 use Rattle.bn_words.specs.declared.request.TheConstants.{MOST_DRIVE_STEPS}
@@ -45,6 +46,7 @@ pub data Request : Type 0 where
   Mirror : Request
   Farm : Request
   Generate : ℕ → Request
+  Element : ℕ → ℕ → Request
   Erase : Request
   EraseRun : List ℕ → ℕ → Request
 
@@ -104,6 +106,7 @@ words_of Migrate = codes "migrate" ∷ []
 words_of Mirror = codes "mirror" ∷ []
 words_of Farm = codes "farm" ∷ []
 words_of (Generate k) = codes "generate" ∷ decimal k ∷ []
+words_of (Element k n) = codes "element" ∷ decimal k ∷ decimal n ∷ []
 words_of Erase = codes "erase" ∷ []
 words_of (EraseRun word n) = codes "erase" ∷ (61 ∷ word) ∷ decimal n ∷ []
 
@@ -114,7 +117,7 @@ abbrev pub IsOrdinal : ℕ → Type 0
 IsOrdinal n = (1 ≤ n) × (n ≤ MOST_COUNT)
 
 -- each of its numbers is within its limit: a circuit's steps are at most 2^62, those of a drive 2^61, what is counted
--- of a machine at most the greatest count, and there are from 1 to 4 increments
+-- of a machine at most the greatest count, there are from 1 to 4 increments, and an element has from 1 to 10 lines
 abbrev pub IsAllowed : Request → Type 0
 IsAllowed (Step e) = e ≤ greatest
 IsAllowed (Back e) = e ≤ greatest
@@ -133,6 +136,7 @@ IsAllowed (Session word l) = AreSmall l
 IsAllowed (Look words l e) = AreSmall l × (e ≤ greatest)
 IsAllowed (Play words l) = AreSmall l
 IsAllowed (Generate k) = IsRoundCount k
+IsAllowed (Element k n) = IsLineCount k × (n ≤ greatest)
 IsAllowed (EraseRun word n) = n ≤ MOST_COUNT
 IsAllowed _ = Unit {0}
 
@@ -150,6 +154,7 @@ HasNoForm words = (request : Request) → HasForm words request → ⊥
 -- whether the command reads an input
 abbrev pub reads_input : Request → Bool
 reads_input (Generate k) = false
+reads_input (Element k n) = false
 reads_input _ = true
 
 -- what the program's request asks for: of a configuration text, of an input that is wanted whole, and in all
@@ -189,3 +194,4 @@ abbrev pub request_of : declared.Request → Request
 request_of (variants.OnConfiguration asked) = of_configuration asked
 request_of (variants.OnWhole asked) = of_whole asked
 request_of (variants.Generate k) = Generate k
+request_of (variants.Element k n) = Element k n

@@ -9,6 +9,7 @@ use crate::request::{ConfigurationRequest, Request, WholeRequest};
 use crate::word::{count_of, drive_steps_of, letters_of, number_of, tape_word, window_of};
 use bn_gen::MOST_INCREMENTS;
 use bn_qtable::TapeWords;
+use bn_rlem::MOST_LINES;
 
 /// What the words of a command line ask for; `None` exactly where no request that is allowed has these words.
 pub fn read_words(words: &[String]) -> Option<Request<'_>>
@@ -126,6 +127,7 @@ fn read_pair<'a>(name: &str, first: &'a str, second: &str) -> Option<Request<'a>
     match name {
         "realise" => read_realise(first, second),
         "run" => read_auto(first, second),
+        "element" => read_element(first, second),
         _ => read_word_and_count(name, first, second),
     }
 }
@@ -145,6 +147,7 @@ fn read_auto<'a>(first: &'a str, second: &str) -> Option<Request<'a>>
 fn read_word_and_count<'a>(name: &str, first: &'a str, second: &str) -> Option<Request<'a>>
     requires other { name.now ≢ codes "realise" }
     requires found { name.now ≢ codes "run" }
+    requires numbered { name.now ≢ codes "element" }
     ensures { AreRead (name.now ∷ first.now ∷ second.now ∷ []) result }
 {
     let word = letters_of(first)?;
@@ -168,6 +171,18 @@ fn read_realise<'a>(first: &'a str, second: &str) -> Option<Request<'a>>
         return None;
     }
     Some(Request::OnWhole(WholeRequest::Realise { state, line }))
+}
+
+// The form of `element`.
+fn read_element<'a>(first: &'a str, second: &str) -> Option<Request<'a>>
+    ensures { AreRead (codes "element" ∷ first.now ∷ second.now ∷ []) result }
+{
+    let lines = count_of(first)?;
+    let number = number_of(second)?;
+    if lines < 1 || lines > MOST_LINES {
+        return None;
+    }
+    Some(Request::Element { lines, number })
 }
 
 // The form of a name, three words and a greatest number of steps.

@@ -23,6 +23,14 @@ pub enum Request<'a> {
         /// The number of increments.
         increments: u32,
     },
+    /// `element k n`: the table of the reversible element with one bit of memory, k lines and number n. It reads no
+    /// input.
+    Element {
+        /// The number of lines.
+        lines: u32,
+        /// The number of the element.
+        number: u64,
+    },
 }
 
 /// What is asked of a configuration text, a variant a form.

@@ -1,7 +1,7 @@
 use Rattle.std.proofs.Common.{[], map, Global, refl, subst}
 use Rattle.std.specs.String.{string_bytes}
-use Rattle.bn_words.specs.Requests.{HasForm, Generate, of_configuration, of_whole, request_of}
-use Rattle.bn_reply.proofs.ReplyLemmas.{given_ends}
+use Rattle.bn_words.specs.Requests.{HasForm, Element, Generate, of_configuration, of_whole, request_of}
+use Rattle.bn_reply.proofs.ReplyLemmas.{given_ends, silent_ends}
 use Rattle.bn_top.specs.Answers.{Replies}
 use Rattle.bn_top.proofs.CallLemmas.{inputless_call, needs_some, stream_call, usage_ends}
 use Rattle.bn_top.proofs.Commands.{configuration_reads, whole_reads}
@@ -67,6 +67,28 @@ returns-in-Some-Generate-clause-ends g c =
     inputless_call words (Generate k) form refl c.give_reply.result (g.I.Input.left c.args.input.now) taken took told
     heard
     (g.I.Input.faults c.args.input.now) before now ends c.give_reply.ensures.later
+
+pub reply_element-requires : goal.reply_element-requires
+reply_element-requires g c =
+    let words = map (string_bytes {Z = Global}) c.args.words.now in
+    let form = subst (λ r. HasForm words (request_of r)) c.in-Some-Element.field-0-is c.in-Some-Element.ensures in
+    form.allowed.0
+
+pub returns-in-Some-Element-clause-ends : goal.returns-in-Some-Element-clause-ends
+returns-in-Some-Element-clause-ends g c =
+    let words = map (string_bytes {Z = Global}) c.args.words.now in
+    let form = subst (λ r. HasForm words (request_of r)) c.in-Some-Element.field-0-is c.in-Some-Element.ensures in
+    let asked = Element c.in-Some-Element.lines c.in-Some-Element.number in
+    let given = c.give_reply-in-Some-Element in
+    let taken = g.K.Sink.taken c.args.sink.now in
+    let took = g.K.Sink.taken given.new.sink in
+    let told = g.W.Watch.told c.args.watch.now in
+    let before = g.K.Sink.faults c.args.sink.now in
+    let now = g.K.Sink.faults given.new.sink in
+    let ends = silent_ends (Replies asked []) c.reply_element.result given.result taken took before now told
+    c.reply_element.ensures given.ensures.ends in
+    inputless_call words asked form refl given.result (g.I.Input.left c.args.input.now) taken took told told
+    (g.I.Input.faults c.args.input.now) before now ends given.ensures.later
 
 pub returns-in-None-clause-ends : goal.returns-in-None-clause-ends
 returns-in-None-clause-ends g c =
