@@ -79,7 +79,8 @@ module _ (uniform : TranslationsAreUniform) (entries : StatesHaveEntries) where
     -- one head a tape, for a flat's own word and limits
     own_heads : HeadsStayOne → (p : Program) (f : Flat) (cost : ℕ) → IsFlatOf p f.word f.limits f
         → IsAccepted p f.word f.limits f → HasCost f cost
-        → cost ≤ clock → (test : Situation → Bool) → NetworkReads (machine_of f) f.limits f.word f.names f.network f.layout
+        → cost ≤ clock → (test : Situation → Bool) → NetworkReads (machine_of f) f.limits f.word f.names f.network
+        f.layout
         test
         → (n : ℕ) (d : Configuration ℕ) (e : Exit) → NetworkComes f test n d e
         → (t tape p q i j : ℕ) → t ≤ cost → 0 < tape → tape ≤ 3 → p < cells_in f.limits tape

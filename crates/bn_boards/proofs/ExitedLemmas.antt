@@ -350,7 +350,8 @@ module _ (p : Program) (f : Flat) (test : Situation
       (stand p f.translation f.word accepted.standard flat.translation accepted.letters).1 f.limits n d
       (strides_run (build_of f) test n comes.first comes.moment (beginning_of f.translation f.word) d comes.strides) in
       let covers = few_steps n few in
-      with_board i n o d e (boards-come p f.word f.limits f test flat reads.modules reads.starts (agreed (build_of f) f.word test reads) n d e comes
+      with_board i n o d e (boards-come p f.word f.limits f test flat reads.modules reads.starts
+      (agreed (build_of f) f.word test reads) n d e comes
       (le_trans covers (le_of_lt in_time))) covers fits
 
   by_outcome : TranslationsStand → TranslationsHaveNoRoom → (i : ℕ) (o : Outcome) → HasOutcome p f.word f.limits i o
@@ -358,7 +359,8 @@ module _ (p : Program) (f : Flat) (test : Situation
   by_outcome stand no_room i (outcome.Halted y) own h = runs_to stand i (4 * i + 4 * length y + 5) (outcome.Halted y)
       (ending_of f.translation f.word y) Finished h (refl, refl)
   by_outcome stand no_room i (outcome.Stuck j c) own h =
-      let ran = strides_run (build_of f) test (2 * i) h.1.first h.1.moment (beginning_of f.translation f.word) h.0 h.1.strides in
+      let ran = strides_run (build_of f) test (2 * i) h.1.first h.1.moment (beginning_of f.translation f.word) h.0
+      h.1.strides in
       let stands = (stand p f.translation f.word accepted.standard flat.translation accepted.letters).0
       (rooms_of f.limits) (2 * i) h.0 ran in
       runs_to stand i (2 * i) (outcome.Stuck j c) h.0 Stopped h.1

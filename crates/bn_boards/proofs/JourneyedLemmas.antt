@@ -66,6 +66,7 @@ networks-end p word l f test flat accepted tells i o outcome =
     (subst (λ x. IsAccepted p word x f) limits_are accepted) in
     let outcome_own : HasOutcome p f.word f.limits i o = subst (λ w. HasOutcome p w f.limits i o) word_is
     (subst (λ x. HasOutcome p word x i o) limits_are outcome) in
-    let ended = (translations_end_alike p f.translation f.word accepted_own.standard flat_own.translation accepted_own.letters f.limits i
+    let ended = (translations_end_alike p f.translation f.word accepted_own.standard flat_own.translation
+    accepted_own.letters f.limits i
     o).0 outcome_own in
     ends p f test flat_own accepted_own tells i o ended

@@ -19,8 +19,7 @@ pub data EndsSo (f : Build) (s : Situation) (c : Configuration ℕ) (e : Exit) :
       → StopsAtRead f.machine f.limits f.names s c t stop.rule → EndsSo f s c e
 
 -- the network's run from a start over the machine's own to its end
-abbrev pub NetworkComes : Build → (Situation → Bool) → Situation → Configuration ℕ → ℕ → Configuration ℕ → Exit
-    → Type 0
+abbrev pub NetworkComes : Build → (Situation → Bool) → Situation → Configuration ℕ → ℕ → Configuration ℕ → Exit → Type 0
 NetworkComes f test start c n d e = ComesOver f test start c n d (λ s. EndsSo f s d e)
 
 -- and the board's

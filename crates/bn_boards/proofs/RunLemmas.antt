@@ -67,4 +67,5 @@ builds-run f is c s at_start start n d e ends room =
     record { between = read.1.between; amid = read.1.amid; loose = read.1.at_loose } in
     let net = comes f is test read.1.tells c s (at_start, start) n d e ends in
     run_of f is s at_start start.stands start.place n d e test read.1
-    (come f test read.1.modules is.is_board agree s c at_start start.stands start.fresh n d (λ t. EndsSo f t d e) net room)
+    (come f test read.1.modules is.is_board agree s c at_start start.stands start.fresh n d (λ t. EndsSo f t d e) net
+    room)

@@ -102,14 +102,16 @@ module _ (f : Flat) (board : IsBoard f.network f.circuit) (test : Situation
           + run_cost f.network (suc i - 1) comes.first = ap (λ v. run_cost f.network v start) count
           ∙ cost-joins f.network 1 (suc i - 1) start comes.first turns in
           let none : origin.steps ≡ 0 = refl in
-          let first = leg (build_of f) test read.modules board agree 1 start comes.first origin read.starts (omega arith)
+          let first = leg (build_of f) test read.modules board agree 1 start comes.first origin read.starts
+          (omega arith)
           comes.starts.path (omega arith) in
           let steps = first.1.steps in
           let on = goes_on f.network 1 (suc i) start comes.first x turns path (omega arith) in
           let walked = walk (build_of f) test read.modules board agree n comes.first comes.moment comes.last
           (beginning_of f.translation f.word) d comes.moves comes.strides comes.leaves.path comes.ended comes.quiet
           (suc i - 1) x on told first.0 first.1.stands (omega arith) in
-          let joined = tally_joins (build_of f) test read.modules board agree 1 (suc i) start comes.first origin first.0 turns
+          let joined = tally_joins (build_of f) test read.modules board agree 1 (suc i) start comes.first origin first.0
+          turns
           first.1.run (omega arith) in
           let one : tally (is_moment f.layout) f.circuit (run_cost f.network 1 start) origin ≡ 1 =
           first.1.counted ∙ one_of (test comes.first) comes.told in

@@ -134,7 +134,8 @@ module _ (f : Build) (test : Situation → Bool) (modules : AreModules f.network
             let sum : suc i ≡ stride.moves + (suc i - stride.moves) = omega arith in
             let cost = ap (λ v. run_cost f.network v s) sum ∙ cost-joins f.network stride.moves (suc i - stride.moves) s
             next turns in
-            let first = leg f test modules board agree stride.moves s next b stands stride.some stride.travels.path (omega arith) in
+            let first = leg f test modules board agree stride.moves s next b stands stride.some stride.travels.path
+            (omega arith) in
             let steps = first.1.steps in
             let rest = walk n next u last strides.0.1 d m strides.2 path ended quiet (suc i - stride.moves) x
             (goes_on f.network stride.moves (suc i) s next x turns run more) told first.0 first.1.stands

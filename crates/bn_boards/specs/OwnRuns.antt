@@ -3,7 +3,8 @@
 use Rattle.std.specs.Prelude.{◌≡◌, ℕ, ◌+◌, ◌*◌, ◌<◌, ◌^◌, List}
 use Rattle.bn_lists.specs.Runs.{Reaches}
 use Rattle.bn_machine.specs.Outcome.{Limits}
-use Rattle.bn_quad.specs.Quadruples.{Configuration, Quadruples, IsQuadMachine, QuadruplesRunTo, initial_of, final_state_of}
+use Rattle.bn_quad.specs.Quadruples.{Configuration, Quadruples, IsQuadMachine, QuadruplesRunTo, initial_of}
+use Rattle.bn_quad.specs.Quadruples.{final_state_of}
 use Rattle.bn_quad.specs.Overlap.{IsDeterministic, IsReversible, HasNoFlaw, initial_flaw}
 use Rattle.bn_bennett_laws.specs.Stages.{rooms_of}
 use Rattle.bn_bennett_laws.specs.Steps.{EndsAt, Exit}

@@ -9,7 +9,8 @@ use Rattle.bn_element.specs.Tables.{Table}
 use Rattle.bn_circuits.specs.Circuits.{target, source, same_line}
 use Rattle.bn_circuits.specs.declared.line.Line.{Line}
 use Rattle.bn_circuits.specs.declared.line.Wire.{Wire}
-use Rattle.bn_circuits.specs.Faults.{WireFault, out_of_range, second_target, second_source, fault_of, checked, IsFaultless}
+use Rattle.bn_circuits.specs.Faults.{WireFault, out_of_range, second_target, second_source, fault_of, checked}
+use Rattle.bn_circuits.specs.Faults.{IsFaultless}
 use Rattle.bn_circuits.specs.Faults.{AreFaultless, IsFirstFault, IsRefusal}
 use Rattle.bn_circuits.specs.declared.refusal.NetRefusal.{NetRefusal}
 use Rattle.bn_circuits.specs.declared.refusal.NetRefusal.TheVariants.{Range, TwoTargets, TwoSources}

@@ -33,8 +33,7 @@ use Rattle.std.proofs.lemmas.Nat.{same_from_place}
 -- ---- ends
 
 left_over : (k : Circuit) (states : List ℕ) (o : Line) (t : Situation) → Turns k (leaving states o) t → ⊥
-left_over k states o t g =
-    let place : Left o.element o.line ≡ Enter g.element g.input = g.enters in absurd (cc)
+left_over k states o t g = let place : Left o.element o.line ≡ Enter g.element g.input = g.enters in absurd (cc)
 
 loose_stops : (k : Circuit) (states : List ℕ) (l : Line) → IsLoose k states l → (t : Situation)
     → Turns k (entering states l) t → ⊥
@@ -308,7 +307,8 @@ module _ (k : Circuit) (circuit : IsCircuit k) where
         let low = known_output k.tables from output in
         let long = config.count in
         let r = get_or s.states from.element 0 in
-        let stands : slice_get s.states from.element ≡ Some r = slice_get-get_or s.states from.element 0 (omega arith) in
+        let stands : slice_get s.states from.element ≡ Some r = slice_get-get_or s.states from.element 0 (omega arith)
+        in
         let m = onto.moves from.element r from.line (config.range from.element r stands) output in
         back_by s config from came r stands m.0 m.1
 
@@ -450,7 +450,8 @@ are-left k circuit total q i are free = by (comes k circuit q i are free)
         let none : go_of k.tables l.element loose.state l.line ≡ None = loose.none in
         absurd (cc)
 
-some_steps : (k : Circuit) (q r : List ℕ) (i o : Line) (n : ℕ) → Reaches (Turns k) n (entering q i) (leaving r o) → 0 < n
+some_steps : (k : Circuit) (q r : List ℕ) (i o : Line) (n : ℕ) → Reaches (Turns k) n (entering q i) (leaving r o)
+    → 0 < n
 some_steps k q r i o zero run =
     let place : Enter i.element i.line ≡ Left o.element o.line = ap (λ (x : Situation). x.place) run in absurd (cc)
 some_steps k q r i o (suc n) run = omega arith

@@ -80,7 +80,8 @@ pub record Laws : Type 0 where
   pub behaviours_stay : BehavioursStay
   -- Two pairs of states and free input line that lead to one pair are one.
   pub behaviours_are_one_to_one : BehavioursAreOneToOne
-  -- Where a move leads to each state and output line of each element, each pair of states and free output line is led to.
+  -- Where a move leads to each state and output line of each element, each pair of states and free output line is led
+  -- to.
   pub behaviours_are_onto : BehavioursAreOnto
   -- A behaviour is the run of the circuit, where the clock has room, and that run taken back.
   pub behaviours_are_runs : BehavioursAreRuns

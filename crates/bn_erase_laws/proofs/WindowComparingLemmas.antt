@@ -36,7 +36,8 @@ use Rattle.bn_erase_laws.specs.declared.name.ErasingName.{ErasingName}
 use Rattle.bn_erase_laws.proofs.ComparedLemmas.{differing_back, stuck_back}
 use Rattle.bn_erase_laws.proofs.TurnedLemmas.{follows_turned}
 use Rattle.bn_erase_laws.specs.EraseWindows.{second_window}
-use Rattle.bn_erase_laws.proofs.WindowGoingLemmas.{EndsFrom, after_run, as_second, at_once, second_leaves, second_step, second_stops}
+use Rattle.bn_erase_laws.proofs.WindowGoingLemmas.{EndsFrom, after_run, as_second, at_once, second_leaves, second_step}
+use Rattle.bn_erase_laws.proofs.WindowGoingLemmas.{second_stops}
 
 module _ (p q : Program) (left : IsStandardMachine p) (right : IsStandardMachine q) (l : Limits) (c : Moment)
     (ns x : List ℕ) (inside : IsBetween 0 l.output c.tape.head) (in_time : length ns ≤ l.steps) where

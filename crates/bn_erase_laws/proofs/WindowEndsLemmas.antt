@@ -4,7 +4,8 @@ use Rattle.std.proofs.Common.{refl, sym, subst, arith, ◌∙◌, inl, inr}
 use Rattle.std.proofs.lemmas.Int.{ints}
 use Rattle.bn_lists.specs.Runs.{Reaches}
 use Rattle.bn_machine.specs.Machine.{Moment, Program, start}
-use Rattle.bn_machine.specs.Outcome.{ComesOut, Halted, HasOutcome, Limits, Outcome, Outside, Stuck, copied, halts, leaves}
+use Rattle.bn_machine.specs.Outcome.{ComesOut, Halted, HasOutcome, Limits, Outcome, Outside, Stuck, copied, halts}
+use Rattle.bn_machine.specs.Outcome.{leaves}
 use Rattle.bn_machine.specs.Outcome.{runs_out, sticks}
 use Rattle.bn_machine.specs.Run.{AfterWithin, Follows}
 use Rattle.bn_machine.specs.Tape.{word_tape}
@@ -142,7 +143,8 @@ module _ (p q : Program) (left : IsStandardMachine p) (right : IsStandardMachine
     abbrev most : ℕ
     most = 8 * l.steps + 4 * (l.right + l.output) + 10
 
-    from_start : (n k : ℕ) (d : Configuration Name) → n ≤ 4 * l.steps + 4 * l.output + 5 → k ≤ 2 * l.steps + (2 * l.right + 3)
+    from_start : (n k : ℕ) (d : Configuration Name) → n ≤ 4 * l.steps + 4 * l.output + 5
+        → k ≤ 2 * l.steps + (2 * l.right + 3)
         → Reaches (Steps (rooms_of l) (bennett p) (final_name p)) n (beginning p x) d → From (in_state First d) k
         → From (erasing_start p x) most
     from_start n k d short few run ends =
@@ -162,7 +164,8 @@ module _ (p q : Program) (left : IsStandardMachine p) (right : IsStandardMachine
           | inr back ↦
               (let whole = (erases-in_windows p q x l left right same letters word).0 v back.0 y
               (record { there = h; back = back.1 }) in
-              let room = (halts_at q (second_window l) back.0 back.1.moment x back.1.ends).room (length x + 1) (omega arith)
+              let room = (halts_at q (second_window l) back.0 back.1.moment x back.1.ends).room (length x + 1)
+              (omega arith)
               (omega arith) in
               let fits : length x + 1 ≤ l.right = room.output in
               let also : back.0 ≤ l.steps = back.1.in_time in

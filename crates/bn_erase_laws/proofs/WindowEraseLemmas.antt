@@ -39,7 +39,8 @@ use Rattle.bn_erase_laws.proofs.TheoremLemmas.{start_as_first, middle_as_second,
 use Rattle.bn_erase_laws.specs.EraseWindows.{BothHaltIn, EndsIn, erasing_steps, second_window}
 use Rattle.bn_erase_laws.specs.EraseWindowLaws.{ErasesInWindows}
 use Rattle.bn_erase_laws.proofs.WindowHaltLemmas.{halts_after, halts_once}
-use Rattle.bn_erase_laws.proofs.WindowHalvesLemmas.{first_forth, first_back, second_forth, second_back, first_rule, run_in_more}
+use Rattle.bn_erase_laws.proofs.WindowHalvesLemmas.{first_forth, first_back, second_forth, second_back, first_rule}
+use Rattle.bn_erase_laws.proofs.WindowHalvesLemmas.{run_in_more}
 
 at_zero : (left right : ℕ) → IsBetween left right (pos 0)
 at_zero left right = record { above = omega (arith, ints); below = omega (arith, ints) }
@@ -106,13 +107,11 @@ module _ (p : Program) (x : List ℕ) (l : Limits) (standard : IsStandardMachine
       b Finished e ended comes
 
   abbrev Halting : Type 0
-  Halting = (v : ℕ) × (y : List ℕ) × HasOutcome p x l v (Halted y) × (i ≡ 4 * v + 4 * length y + 5)
-      × (d ≡ ending p x y)
+  Halting = (v : ℕ) × (y : List ℕ) × HasOutcome p x l v (Halted y) × (i ≡ 4 * v + 4 * length y + 5) × (d ≡ ending p x y)
 
   halting_by : (v : ℕ) (o : Outcome) → HasOutcome p x l v o → EndsAs p x l v o → Halting
   halting_by v (Halted y) h ends = let same = ended_once _ _ _ ends.1 in (v, y, h, same.0, same.1)
-  halting_by v (Stuck state symbol) h ends =
-      let same : Finished ≡ Stopped = (ended_once _ _ _ ends.1).2 in absurd (cc)
+  halting_by v (Stuck state symbol) h ends = let same : Finished ≡ Stopped = (ended_once _ _ _ ends.1).2 in absurd (cc)
   halting_by v (Outside tape side) h ends =
       let same : Finished ≡ Leaving tape side = (ended_once _ _ _ ends.2).2 in absurd (cc)
 
@@ -216,8 +215,7 @@ module _ (p q : Program) (x : List ℕ) (l : Limits) (left : IsStandardMachine p
       }
 
   abbrev Erased : ℕ → Configuration ErasingName → Type 0
-  Erased n e = (v w : ℕ) × (y : List ℕ) × BothHaltIn p q x l v w y × (n ≡ erasing_steps x y v w)
-      × (e ≡ erasing_end q y)
+  Erased n e = (v w : ℕ) × (y : List ℕ) × BothHaltIn p q x l v w y × (n ≡ erasing_steps x y v w) × (e ≡ erasing_end q y)
 
   second_part : (n i j v : ℕ) (y : List ℕ) (e : Configuration ErasingName) → HasOutcome p x l v (Halted y) → n ≡ i + j
       → i ≡ 4 * v + 4 * length y + 5

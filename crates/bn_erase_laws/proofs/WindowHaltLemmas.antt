@@ -97,7 +97,8 @@ halts-greater p word a b v y inside h =
     let in_time : v ≤ a.steps = h.in_time in
     record {
       moment = h.moment;
-      run = in_more_room (within a.left a.right) (within b.left b.right) (wider a.left a.right b.left b.right left right)
+      run = in_more_room (within a.left a.right) (within b.left b.right)
+          (wider a.left a.right b.left b.right left right)
           p v (start p word) h.moment h.run;
       in_time = omega arith;
       ends = halts y at.final at.output (copied (λ j low high. more at j low high right output) refl);
@@ -135,7 +136,8 @@ windows-suffice p q x y a b v w there back from_zero = record {
 -- ---- steps
 
 module _ (p : Program) (left : ℕ) (right : ℕ) where
-  -- so many steps from a head that has so many cells before it stay in the window, where they stay right of its left end
+  -- so many steps from a head that has so many cells before it stay in the window, where they stay right of its left
+  -- end
   near_run : (i : ℕ) (c d : Moment) (other : ℕ) → (c.tape.head +ℤ pos i) ≤ℤ pos right
       → Reaches (MachineRunsTo (within left other) p) i c d → Reaches (MachineRunsTo (within left right) p) i c d
   near_run zero c d other near run = run

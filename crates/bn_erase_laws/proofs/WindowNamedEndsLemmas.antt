@@ -19,7 +19,8 @@ use Rattle.bn_machine.proofs.MachineStepLemmas.{run_follows}
 use Rattle.bn_machine.proofs.TapeLemmas.{scanned-ahead}
 use Rattle.bn_quad.specs.Quadruples.{Configuration}
 use Rattle.bn_bennett_laws.specs.Renamed.{in_state}
-use Rattle.bn_bennett_laws.specs.Stages.{IsSpelledBy, IsStandardMachine, beginning, copying, ending, retracing, rooms_of}
+use Rattle.bn_bennett_laws.specs.Stages.{IsSpelledBy, IsStandardMachine, beginning, copying, ending, retracing}
+use Rattle.bn_bennett_laws.specs.Stages.{rooms_of}
 use Rattle.bn_bennett_laws.specs.Steps.{Leaving, Steps, Stopped}
 use Rattle.bn_bennett_laws.proofs.Bounded.{bounded_forth}
 use Rattle.bn_bennett_laws.proofs.Halted.{halted_is_ready}

@@ -10,7 +10,8 @@ use Rattle.bn_bennett_laws.specs.Steps.{Exit, Finished, Leaving, Stopped}
 use Rattle.bn_erase_laws.specs.Erasing.{IsWord, erasing_end}
 use Rattle.bn_erase_laws.specs.declared.name.ErasingName.{ErasingName}
 use Rattle.bn_erase_laws.specs.ErasingLaws.{PartAt}
-use Rattle.bn_erase_laws.specs.EraseWindows.{BothHaltIn, EndsIn, HaltsRightOfStart, IsWindowIn, erasing_steps, second_window}
+use Rattle.bn_erase_laws.specs.EraseWindows.{BothHaltIn, EndsIn, HaltsRightOfStart, IsWindowIn, erasing_steps}
+use Rattle.bn_erase_laws.specs.EraseWindows.{second_window}
 use Rattle.bn_erase_laws.specs.EraseWindows.{right_window_for, window_for, window_of_both}
 
 -- In a window the erasing machine comes from x to its end with y alone where both machines halt in it, each on the

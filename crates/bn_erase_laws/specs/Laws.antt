@@ -8,7 +8,8 @@ use Rattle.bn_erase_laws.specs.ErasingLaws.{UnequalOutputsStop}
 use Rattle.bn_erase_laws.specs.ListLaws.{TurnedListsPassTests, TurnedListsRunBack, ExchangedListsPassTests}
 use Rattle.bn_erase_laws.specs.ListLaws.{ExchangedListsRun, JoinedListsPassTests, JoinedListsRun, JoinedListsHaveRun}
 use Rattle.bn_erase_laws.specs.EraseWindowLaws.{ErasesInWindows, RunsEnd, RunsEndOnce, FirstNamesEnd}
-use Rattle.bn_erase_laws.specs.EraseWindowLaws.{SecondNamesEnd, UnequalOutputsEnd, HaltsInGreaterWindows, WindowsOfBothSuffice}
+use Rattle.bn_erase_laws.specs.EraseWindowLaws.{SecondNamesEnd, UnequalOutputsEnd, HaltsInGreaterWindows}
+use Rattle.bn_erase_laws.specs.EraseWindowLaws.{WindowsOfBothSuffice}
 use Rattle.bn_erase_laws.specs.EraseWindowLaws.{StepsGiveWindow, LeastErasesIn}
 
 pub record Laws : Type 0 where

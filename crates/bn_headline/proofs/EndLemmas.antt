@@ -7,7 +7,8 @@ use Rattle.bn_machine.specs.Outcome.{Limits, Outside, Copies, copied, work_short
 use Rattle.bn_machine.specs.Outcome.{runs_out, leaves}
 use Rattle.bn_machine.specs.declared.quint.Side.{Side}
 use Rattle.bn_machine.specs.declared.quint.Side.TheVariants.{Left, Right}
-use Rattle.bn_network_assembly.specs.Widening.{first_window, IsEnd, of_work, of_history, of_output, widened, IsWhole, cells}
+use Rattle.bn_network_assembly.specs.Widening.{first_window, IsEnd, of_work, of_history, of_output, widened, IsWhole}
+use Rattle.bn_network_assembly.specs.Widening.{cells}
 use Rattle.bn_headline.specs.WindowLaws.{CellsGrow, EndsAreFour}
 
 same_tape : (t u : ℕ) (s r : Side) → Outside t s ≡ Outside u r → t ≡ u

@@ -18,7 +18,8 @@ use Rattle.bn_reply.specs.declared.limits.TheConstants.{MOST_INPUT_BYTES}
 use Rattle.bn_reply.specs.declared.status.Status.{Status}
 use Rattle.bn_reply.specs.declared.status.Status.TheVariants.{Size, Inside}
 use Rattle.bn_reply_relations.specs.Windows.{large_line}
-use Rattle.bn_reply_relations.specs.RunText.{elements_line, output_line, quadruple_line, steps_line, tape_line, tapes_text}
+use Rattle.bn_reply_relations.specs.RunText.{elements_line, output_line, quadruple_line, steps_line, tape_line}
+use Rattle.bn_reply_relations.specs.RunText.{tapes_text}
 use Rattle.bn_reply_relations.specs.ToldRuns.{IsGiven, outcome_line, outcome_status, run_words}
 use Rattle.bn_headline.specs.Elements.{elements, most_steps}
 

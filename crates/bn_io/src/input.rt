@@ -1,6 +1,6 @@
 //! What a command reads its input from.
 ghost use Rattle.std.specs.Prelude.{◌≡◌, ◌↔◌, ℕ, ◌<◌, ◌≤◌, List, [], drop, length, take, Option, Some, option_map};
-ghost use Rattle.std.specs.Prelude.{OnErr, IfOk, IfSome};
+ghost use Rattle.std.specs.Prelude.{OnErr, IfOk, IfSome, IsTrue, is_some};
 ghost use Rattle.bn_io.specs.Faults.{HasCause};
 ghost use Rattle.bn_io.specs.Told.{Loses};
 
@@ -89,7 +89,11 @@ impl Input for SliceInput<'_> {
         Ok(count)
     }
 
-    fn rest(&self) -> Option<&[u8]> {
+    fn rest(&self) -> Option<&[u8]>
+        ensures lent { IsTrue (is_some result) }
+
+        ensures lends { IfSome result (λ bytes. Unit {0} × (Some self.now.rest.now ≡ Some bytes.now)) }
+    {
         Some(self.rest)
     }
 

@@ -1,6 +1,6 @@
 //! A sink into memory that grows.
-ghost use Rattle.std.specs.Prelude.{◌≡◌, ℕ, ◌<◌, ◌≤◌, List, [], length, take, Some, IfOk, OnErr};
-ghost use Rattle.bn_io.specs.Faults.{HasCause};
+ghost use Rattle.std.specs.Prelude.{◌≡◌, ℕ, ◌<◌, ◌≤◌, List, [], length, take, Some, IfOk, OnErr, is_ok, if◌then◌else◌};
+ghost use Rattle.bn_io.specs.Faults.{HasCause, counted};
 ghost use Rattle.bn_io.specs.Told.{Grows};
 
 use crate::sinks::{Sink, SinkFailed};
@@ -45,7 +45,15 @@ impl Sink for VecSink {
 
     ghost faults = { λ s. s.1 };
 
-    fn give(&mut self, bytes: &[u8]) -> Result<usize, SinkFailed> {
+    fn give(&mut self, bytes: &[u8]) -> Result<usize, SinkFailed>
+        requires { 0 < length bytes.now }
+        ensures counts { self.new.1 ≡ (if is_ok result then self.old.1 else counted self.old.1) }
+
+        ensures bound { IfOk result (λ c. (0 < c) × (c ≤ length bytes.now)) }
+        ensures grown { IfOk result (λ c. Grows (Some self.old.0) (Some self.new.0) (take c bytes.now)) }
+        ensures kept { OnErr result (self.new.0 ≡ self.old.0) }
+        ensures cause { HasCause self.old.1 self.new.1 result }
+    {
         match self.bytes.extend_from_slice(bytes) {
             Ok(()) => Ok(bytes.len()),
             Err(_) => {

@@ -24,7 +24,8 @@ use Rattle.bn_board.specs.Flattened.{Flattened, IsBoardKept}
 use Rattle.bn_reply.specs.declared.status.Status.{Status}
 use Rattle.bn_reply.specs.declared.status.Status.TheVariants as statuses
 use Rattle.bn_reply_relations.specs.Laws.{BoardsAreSpelled}
-use Rattle.bn_reply_relations.specs.CompileReply.{CompileReplies, IsBoardSpelling, IsFlatSpelling, TellsBoard, TellsStart}
+use Rattle.bn_reply_relations.specs.CompileReply.{CompileReplies, IsBoardSpelling, IsFlatSpelling, TellsBoard}
+use Rattle.bn_reply_relations.specs.CompileReply.{TellsStart}
 use Rattle.bn_reply_relations.proofs.SpelledLemmas.{board_targets, entered_once, left_once}
 use Rattle.bn_reply_boards.specs.Opened.{IsBoardAsked, IsMade, spelling_of_board}
 use Rattle.bn_reply_circuits.specs.Unwritten.{WillReply}

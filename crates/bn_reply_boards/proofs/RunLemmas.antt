@@ -25,7 +25,8 @@ use Rattle.bn_board.specs.Flattened.{Flattened, IsSameBoard}
 use Rattle.bn_circuits.specs.Watching.{Hears}
 use Rattle.bn_reply.specs.declared.status.Status.{Status}
 use Rattle.bn_reply_relations.specs.Counts.{Counts}
-use Rattle.bn_reply_relations.specs.RunReply.{HasMoment, RunReplies, TellsRun, board_after, budget, reached, exit_status}
+use Rattle.bn_reply_relations.specs.RunReply.{HasMoment, RunReplies, TellsRun, board_after, budget, reached}
+use Rattle.bn_reply_relations.specs.RunReply.{exit_status}
 use Rattle.bn_reply_relations.specs.RunText.{run_text}
 use Rattle.bn_reply_relations.specs.Laws.{ExitsAreNamed, MomentsAreCounted, found_text}
 use Rattle.bn_reply_boards.specs.Opened.{IsBoardAsked, IsMade}

@@ -92,8 +92,7 @@ module _ (word table : List ℕ) (l : Limits) (r : QuadTable) (z : List ℕ)
       spelled_at_end p states e is (by_end why exit spelled) = spelled
       spelled_at_end p states e is (by_read t stop why line spelled) = absurd (let both = sym why ∙ is in cc)
       spelled_at_end p states e is (by_wait none why exit spelled) = absurd (let both = sym why ∙ is in cc)
-      spelled_at_end p states e is (by_window t side to step why exit spelled) =
-          absurd (let both = sym why ∙ is in cc)
+      spelled_at_end p states e is (by_window t side to step why exit spelled) = absurd (let both = sym why ∙ is in cc)
 
       spelled : exit ≡ Finished → spelled_by f.layout there.states ≡ spelled_config l d
       spelled is = spelled_at_end there.place there.states exit is ran.leaves
@@ -110,7 +109,8 @@ module _ (word table : List ℕ) (l : Limits) (r : QuadTable) (z : List ℕ)
           (reply : DriveReplies (One (Letters word)) l most table status text told) (few : count ≤ MOST_ELEMENTS)
         where
           tells : TellsDrive most r c f status text told
-          tells = ((drives-tell_boards (One (Letters word)) l most table status text told low reply r z [] [] given count
+          tells = ((drives-tell_boards (One (Letters word)) l most table status text told low reply r z [] [] given
+              count
               counts few).tells f h).0
 
           abbrev Told : Type 0

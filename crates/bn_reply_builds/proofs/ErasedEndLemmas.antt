@@ -78,8 +78,7 @@ clock_room count n few short =
     let product = mul-le (48 * count) (n + 1) 201326592 16777227 (omega arith) (omega arith) in
     omega (arith, product)
 
-cost_low : (count n cost : ℕ) → count ≤ 4194304 → n ≤ 16777226 → cost ≤ 4 * count + 48 * count * (n + 1)
-    → cost ≤ 2 ^ 52
+cost_low : (count n cost : ℕ) → count ≤ 4194304 → n ≤ 16777226 → cost ≤ 4 * count + 48 * count * (n + 1) → cost ≤ 2 ^ 52
 cost_low count n cost few short bound =
     let product = mul-le (48 * count) (n + 1) 201326592 16777227 (omega arith) (omega arith) in
     omega (arith, product)
@@ -105,8 +104,7 @@ module _ (bytes word table : List ℕ) (silent : List Place) (printed : EraseRep
   nonblank : IsWord x
   nonblank = word_nonblank j x pair.spelled.symbols_known
 
-  read : (r : QuadTable) × ReadsQuadruples table r × ReadsBack e.machine (names_of j e) r
-      × IsUniformMachine r.machine
+  read : (r : QuadTable) × ReadsQuadruples table r × ReadsBack e.machine (names_of j e) r × IsUniformMachine r.machine
   read = read_table bytes word table silent printed t u x pair e is
 
   abbrev r : QuadTable

@@ -127,7 +127,8 @@ module _ (table : List ℕ) (r : QuadTable) (reads : ReadsQuadruples table r) (u
   }
     where
       count_at : (t n : ℕ) → nth r.machine.symbols (suc t) ≡ Some n → slice_index (counts_of r.names) t ≡ n
-      count_at t n at = ap (λ zs. slice_index zs t) (sym reads.symbols) ∙ get_or_from_slice_get r.machine.symbols t n 0 at
+      count_at t n at = ap (λ zs. slice_index zs t) (sym reads.symbols)
+          ∙ get_or_from_slice_get r.machine.symbols t n 0 at
 
   module _ (p q : Program) (e : Erasure) (h : IsErasing p q e) (left : IsStandardMachine p)
       (right : IsStandardMachine q) (back : Renumbering) (is : IsRenumbering back r.machine e.machine)

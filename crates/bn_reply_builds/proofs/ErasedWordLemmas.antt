@@ -54,14 +54,16 @@ module _ (j : Joint) (joint : IsJoint j) (e : Erasure) (is : IsErasing j.first j
   known_letter : (a : ℕ) → 0 < a → a < j.first.symbols → Known a
   known_letter a some low =
       let rule : Rule ErasingName = renamed First (copies_letter (length j.first.quints) a) in
-      let listed = in_left (first_half j.first) (second_half j.first j.second) rule (in_first_half j.first a some low) in
+      let listed = in_left (first_half j.first) (second_half j.first j.second) rule (in_first_half j.first a some low)
+      in
       let numbered = from_map (renamed (name_of e)) e.machine.rules rule
       (subst (λ rs. IsIn rs rule) (sym is.rules) listed) in
       let read = from_map (renumbered_rule k) r.machine.rules numbered.0
       (subst (λ rs. IsIn rs numbered.0) (sym back.is_renumbering.rules) numbered.1) in
       let deed : renumbered_deed k.one read.0.one ≡ Rewrite a a =
       ap (λ (q : Rule ℕ). q.one) read.2 ∙ ap (λ (q : Rule ErasingName). q.one) numbered.2 in
-      let range = (in_all (IsRuleInRange r.machine.states r.machine.symbols) r.machine.rules read.0 back.machine.in_range read.1).deeds in
+      let range = (in_all (IsRuleInRange r.machine.states r.machine.symbols) r.machine.rules read.0
+      back.machine.in_range read.1).deeds in
       known_by a read.0.one deed (read.0.two ∷ read.0.three ∷ []) range
 
   -- the word by the read table's names

@@ -39,6 +39,7 @@ pub tell-their-run : DrivesTellTheirRun
 tell-their-run words l most bytes status text told low replies t one two three given =
     let run = runs-there words bytes l t one two three given in (
       run,
-      drives-tell_machine words l most bytes status text told low replies t one two three given run.steps run.last run.exit
+      drives-tell_machine words l most bytes status text told low replies t one two three given run.steps run.last
+          run.exit
           run.own,
     )

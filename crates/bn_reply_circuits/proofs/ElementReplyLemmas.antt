@@ -45,7 +45,8 @@ below k n moves is =
 
 one_element : (k n : ℕ) (a b : List RsmMove) → IsElement k n a → IsElement k n b → a ≡ b
 one_element k n a b g h =
-    g.moves_are ∙ ap (moves_from k 0) (numbered-permutations.1 (pairs_of k) n g.pairs h.pairs g.permutation h.permutation)
+    g.moves_are ∙ ap (moves_from k 0) (numbered-permutations.1 (pairs_of k) n g.pairs h.pairs g.permutation
+    h.permutation)
     ∙ sym h.moves_are
 
 element_one : (k n : ℕ) → IsOneAnswer (ElementReplies k n)

@@ -15,7 +15,8 @@ use Rattle.bn_bennett_laws.proofs.MembershipLemmas.{in_cases, not_in_empty}
 use Rattle.bn_renumbering.proofs.BackLemmas.{as_many}
 use Rattle.bn_reply_machines.specs.InverseReply.{inverse_text}
 use Rattle.bn_reply_erase.specs.PrintedSizes.{InverseTextsMayBeRead}
-use Rattle.bn_reply_erase.proofs.PrintedRowLemmas.{AreShortNames, IsShort, act_short, lines_short, name_short, read_short}
+use Rattle.bn_reply_erase.proofs.PrintedRowLemmas.{AreShortNames, IsShort, act_short, lines_short, name_short}
+use Rattle.bn_reply_erase.proofs.PrintedRowLemmas.{read_short}
 
 both_true : (a b : Bool) → (a && b) ≡ true → (a ≡ true) × (b ≡ true)
 both_true true b e = (refl, e)

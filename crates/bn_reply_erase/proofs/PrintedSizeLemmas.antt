@@ -28,7 +28,8 @@ use Rattle.bn_reply_erase.specs.EraseReply.{erase_text, erasing_of}
 use Rattle.bn_reply_erase.proofs.JudgedLemmas.{joint_of_tables}
 use Rattle.bn_reply_machines.specs.BennettReply.{bennett_text}
 use Rattle.bn_reply_erase.specs.PrintedSizes.{BennettTextsMayBeRead, EraseTextsMayBeRead}
-use Rattle.bn_reply_erase.proofs.PrintedRowLemmas.{AreShortNames, IsShort, act_short, letters_short, lines_short, numbers_short}
+use Rattle.bn_reply_erase.proofs.PrintedRowLemmas.{AreShortNames, IsShort, act_short, letters_short, lines_short}
+use Rattle.bn_reply_erase.proofs.PrintedRowLemmas.{numbers_short}
 use Rattle.bn_reply_erase.proofs.PrintedRowLemmas.{printed_short, read_short}
 
 -- a name of a machine as a table has it
@@ -103,8 +104,7 @@ module _ (j : Joint) (joint : IsJoint j) (few : length (erasing_of j) ≤ 20000)
   }
 
   erasing_short : (name : ErasingName) → IsErasingName j.first j.second name → length (erasing_text name) ≤ 8
-  erasing_short (First name) h =
-      let low = name_short j.first joint.first_machine joint.first_fits name h in omega arith
+  erasing_short (First name) h = let low = name_short j.first joint.first_machine joint.first_fits name h in omega arith
   erasing_short (Second name) h =
       let low = name_short j.second joint.second_machine joint.second_fits name h.0 in omega arith
 

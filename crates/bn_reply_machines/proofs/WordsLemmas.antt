@@ -17,7 +17,8 @@ use Rattle.bn_reply_machines.specs.NamedWords.{AreNamedBy, IsFirstUnnamed, IsNam
 use Rattle.bn_reply_machines.specs.NamedWords.{IsSymbolNamed}
 use Rattle.bn_reply_machines.specs.Opened.{AreAlphabets, IsAlphabet}
 use Rattle.bn_reply_machines.specs.WordsReply.{NamedWordReplies, WordsReplies, named, unnamed, unnamed_line}
-use Rattle.bn_reply_machines.proofs.NamedWordLemmas.{first_unnamed, named_once, named_or_unnamed, not_unnamed, one_named}
+use Rattle.bn_reply_machines.proofs.NamedWordLemmas.{first_unnamed, named_once, named_or_unnamed, not_unnamed}
+use Rattle.bn_reply_machines.proofs.NamedWordLemmas.{one_named}
 use Rattle.bn_reply_machines.proofs.NamedWordLemmas.{unnamed_once}
 
 -- ---- names between commas

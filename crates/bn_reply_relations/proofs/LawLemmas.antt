@@ -10,7 +10,8 @@ use Rattle.bn_reply_relations.proofs.OutcomeLemmas.{runs-tell_outcomes, runs-sto
 use Rattle.bn_reply_relations.proofs.RunLemmas.{exits-named, moments-counted}
 use Rattle.bn_reply_relations.proofs.SettledLemmas.{circuits_settled}
 use Rattle.bn_reply_relations.proofs.SpelledLemmas.{boards-spelled}
-use Rattle.bn_reply_relations.proofs.TellingLemmas.{boards-tell_alike, boards-have_runs, boards-tell_runs, compile_settled}
+use Rattle.bn_reply_relations.proofs.TellingLemmas.{boards-tell_alike, boards-have_runs, boards-tell_runs}
+use Rattle.bn_reply_relations.proofs.TellingLemmas.{compile_settled}
 use Rattle.bn_reply_relations.proofs.TellingLemmas.{run_settled}
 use Rattle.bn_reply_relations.proofs.ToldRunLemmas.{runs-have_one_of_each, replies-tell_outcomes, answers-tell_headline}
 use Rattle.bn_reply_relations.proofs.WindowLemmas.{given_accepted}

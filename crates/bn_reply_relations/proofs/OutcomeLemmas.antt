@@ -29,7 +29,8 @@ use Rattle.bn_boards.proofs.CountLemmas.{before_end, costs-one, places_stop}
 use Rattle.bn_boards.proofs.OutcomeLemmas.{at_cost, not_unnamed}
 use Rattle.bn_reply.specs.declared.status.Status.TheVariants as statuses
 use Rattle.bn_reply_relations.specs.Counts.{Counts}
-use Rattle.bn_reply_relations.specs.RunText.{elements_line, exit_line, output_from, output_line, quadruple_line, rest_text}
+use Rattle.bn_reply_relations.specs.RunText.{elements_line, exit_line, output_from, output_line, quadruple_line}
+use Rattle.bn_reply_relations.specs.RunText.{rest_text}
 use Rattle.bn_reply_relations.specs.RunText.{run_text, shown_lines, state_text, steps_line, stuck_line, tape_lines}
 use Rattle.bn_reply_relations.specs.RunReply.{HasMoment, TellsRun, board_after, exit_status}
 use Rattle.bn_reply_relations.specs.ToldRuns.{outcome_line, outcome_rest, outcome_status}

@@ -34,9 +34,11 @@ use Rattle.bn_reply.specs.declared.status.Status.TheVariants as statuses
 use Rattle.bn_reply_relations.specs.Counts.{Counts}
 use Rattle.bn_reply_relations.specs.Windows.{ComesTo}
 use Rattle.bn_reply_relations.specs.CompileReply.{CompileIsSettled, TellsStart}
-use Rattle.bn_reply_relations.specs.RunText.{elements_line, exit_line, output_from, output_line, quadruple_line, rest_text}
+use Rattle.bn_reply_relations.specs.RunText.{elements_line, exit_line, output_from, output_line, quadruple_line}
+use Rattle.bn_reply_relations.specs.RunText.{rest_text}
 use Rattle.bn_reply_relations.specs.RunText.{run_text, shown_lines, state_text, steps_line, stuck_line, tape_lines}
-use Rattle.bn_reply_relations.specs.RunReply.{HasMoment, RunIsSettled, TellsRun, board_after, budget, reached, exit_status}
+use Rattle.bn_reply_relations.specs.RunReply.{HasMoment, RunIsSettled, TellsRun, board_after, budget, reached}
+use Rattle.bn_reply_relations.specs.RunReply.{exit_status}
 use Rattle.bn_reply_relations.specs.ToldRuns.{IsGiven}
 use Rattle.bn_reply_relations.specs.Laws.{BoardsAreCounted, BoardsAreSpelled, BoardsHaveRuns, BoardsTellAlike}
 use Rattle.bn_reply_relations.specs.Laws.{BoardsTellRuns, ExitsAreNamed, MomentsAreCounted, found_text}

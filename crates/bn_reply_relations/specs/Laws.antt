@@ -22,7 +22,8 @@ use Rattle.bn_network.specs.Limits.{AreSmall}
 use Rattle.bn_reply_relations.specs.Windows.{ComesTo, CountsElements}
 use Rattle.bn_reply_relations.specs.CompileReply.{IsFlatSpelling}
 use Rattle.bn_reply_relations.specs.RunText.{run_text}
-use Rattle.bn_reply_relations.specs.RunReply.{reached, exit_status, HasMoment, RunReplies, TellsRun, board_after, budget}
+use Rattle.bn_reply_relations.specs.RunReply.{reached, exit_status, HasMoment, RunReplies, TellsRun, board_after}
+use Rattle.bn_reply_relations.specs.RunReply.{budget}
 use Rattle.bn_reply_relations.specs.ToldRuns.{AsksRun, ComesOutOn, IsGiven, TellsHeadline, TellsOutcome, TookOutcome}
 use Rattle.bn_reply.specs.declared.limits.TheConstants.{MOST_INPUT_BYTES}
 use Rattle.bn_reply_relations.specs.CircuitReply.{CircuitIsSettled}

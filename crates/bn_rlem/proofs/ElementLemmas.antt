@@ -30,7 +30,8 @@ moves-more k j (y ∷ p) x =
     (moves-more k (j + 1) p x ∙ ap (λ i. moves_from k (j + 1) p ++ moves_from k i (x ∷ [])) e)
 
 pub moves-taken : (k : ℕ) (p : List ℕ) (i : ℕ) (m : RsmMove) → i < length p
-    → moves_from k i (get_or p i 0 ∷ []) ≡ m ∷ [] → moves_from k 0 (take i p) ++ m ∷ [] ≡ moves_from k 0 (take (i + 1) p)
+    → moves_from k i (get_or p i 0 ∷ []) ≡ m ∷ [] → moves_from k 0 (take i p) ++ m ∷ []
+    ≡ moves_from k 0 (take (i + 1) p)
 moves-taken k p i m within is =
     let long : length (take i p) ≡ i = length-take-le i p (omega (arith, within)) in
     let at : 0 + length (take i p) ≡ i = omega (arith, long) in
@@ -142,7 +143,8 @@ apart xs n (x ∷ p) distinct h =
 range_distinct : (n : ℕ) → AreDistinct (range_with_len 0 n)
 range_distinct n i j d less within same =
     let long : length (range_with_len 0 n) ≡ n = length-range_with_len 0 n in
-    let second : get_or (range_with_len 0 n) j d ≡ 0 + j = get_or-range_with_len 0 n j d (omega (arith, long, within)) in
+    let second : get_or (range_with_len 0 n) j d ≡ 0 + j = get_or-range_with_len 0 n j d (omega (arith, long, within))
+    in
     let first : get_or (range_with_len 0 n) i d ≡ 0 + i =
     get_or-range_with_len 0 n i d (omega (arith, long, within, less)) in
     let both : 0 + i ≡ 0 + j = sym first ∙ same ∙ second in
@@ -157,51 +159,52 @@ range_low n i x e =
     sym (get_or_from_slice_get (range_with_len 0 n) i x 0 e) ∙ get_or-range_with_len 0 n i 0 low in
     omega (arith, same, low)
 
-module _ (k n : ℕ) (pairs : List ℕ) (lines : IsLineCount k) (is : IsPermutation (range_with_len 0 (2 * k)) n pairs) where
-  each : IsApart (range_with_len 0 (2 * k)) pairs
-  each = apart (range_with_len 0 (2 * k)) n pairs (range_distinct (2 * k)) is
+module _ (k n : ℕ) (pairs : List ℕ) (lines : IsLineCount k) (is : IsPermutation (range_with_len 0 (2 * k)) n pairs)
+  where
+    each : IsApart (range_with_len 0 (2 * k)) pairs
+    each = apart (range_with_len 0 (2 * k)) n pairs (range_distinct (2 * k)) is
 
-  halves : (a : ℕ) → a < 2 * k → (a / k < 2) × (a % k < k)
-  halves a low =
-      let some : 0 < k = omega (arith, lines.some) in
-      ((div-lt_iff_lt-mul some).1 low, mod-lt a some)
+    halves : (a : ℕ) → a < 2 * k → (a / k < 2) × (a % k < k)
+    halves a low =
+        let some : 0 < k = omega (arith, lines.some) in
+        ((div-lt_iff_lt-mul some).1 low, mod-lt a some)
 
-  low_pair : (i x : ℕ) → slice_get pairs i ≡ Some x → i < 2 * k
-  low_pair i x e =
-      let within = slice_get_within pairs i x e in
-      let long : length pairs ≡ 2 * k =
-      permuted_length (range_with_len 0 (2 * k)) n pairs is ∙ length-range_with_len 0 (2 * k) in
-      omega (arith, long, within)
+    low_pair : (i x : ℕ) → slice_get pairs i ≡ Some x → i < 2 * k
+    low_pair i x e =
+        let within = slice_get_within pairs i x e in
+        let long : length pairs ≡ 2 * k =
+        permuted_length (range_with_len 0 (2 * k)) n pairs is ∙ length-range_with_len 0 (2 * k) in
+        omega (arith, long, within)
 
-  low_entry : (i x : ℕ) → slice_get pairs i ≡ Some x → x < 2 * k
-  low_entry i x e = let found = each.from i x e in range_low (2 * k) found.0 x found.1
+    low_entry : (i x : ℕ) → slice_get pairs i ≡ Some x → x < 2 * k
+    low_entry i x e = let found = each.from i x e in range_low (2 * k) found.0 x found.1
 
-  pub sound : AreSound 2 k (moves_from k 0 pairs)
-  sound = record {
-    one_to_one = one_to_one (moves_from k 0 pairs) (record {
-      leaving = λ i j v w at also state line.
-          (let first = move_at k 0 pairs i v at in
-          let second = move_at k 0 pairs j w also in
-          let same : 0 + i ≡ 0 + j = same_pair k (0 + i) (0 + j) (sym first.state ∙ state ∙ second.state)
-          (sym first.line ∙ line ∙ second.line) in
-          omega (arith, same));
-      leading = λ i j v w at also next out.
-          (let first = (move_at k 0 pairs i v at).leads in
-          let second = (move_at k 0 pairs j w also).leads in
-          let same : first.to ≡ second.to = same_pair k first.to second.to (sym first.next ∙ next ∙ second.next)
-          (sym first.out ∙ out ∙ second.out) in
-          one_place pairs i j second.to each.distinct (first.has ∙ ap Some same) second.has);
-    });
-    within = within 2 k (moves_from k 0 pairs) (λ j v at.
-        (let first = move_at k 0 pairs j v at in
-        let from = halves (0 + j) (let low = low_pair j first.leads.to first.leads.has in omega (arith, low)) in
-        let to = halves first.leads.to (low_entry j first.leads.to first.leads.has) in (
-          subst (λ a. a < 2) (sym first.state) from.0,
-          subst (λ a. a < k) (sym first.line) from.1,
-          subst (λ a. a < 2) (sym first.leads.next) to.0,
-          subst (λ a. a < k) (sym first.leads.out) to.1,
-        )));
-  }
+    pub sound : AreSound 2 k (moves_from k 0 pairs)
+    sound = record {
+      one_to_one = one_to_one (moves_from k 0 pairs) (record {
+        leaving = λ i j v w at also state line.
+            (let first = move_at k 0 pairs i v at in
+            let second = move_at k 0 pairs j w also in
+            let same : 0 + i ≡ 0 + j = same_pair k (0 + i) (0 + j) (sym first.state ∙ state ∙ second.state)
+            (sym first.line ∙ line ∙ second.line) in
+            omega (arith, same));
+        leading = λ i j v w at also next out.
+            (let first = (move_at k 0 pairs i v at).leads in
+            let second = (move_at k 0 pairs j w also).leads in
+            let same : first.to ≡ second.to = same_pair k first.to second.to (sym first.next ∙ next ∙ second.next)
+            (sym first.out ∙ out ∙ second.out) in
+            one_place pairs i j second.to each.distinct (first.has ∙ ap Some same) second.has);
+      });
+      within = within 2 k (moves_from k 0 pairs) (λ j v at.
+          (let first = move_at k 0 pairs j v at in
+          let from = halves (0 + j) (let low = low_pair j first.leads.to first.leads.has in omega (arith, low)) in
+          let to = halves first.leads.to (low_entry j first.leads.to first.leads.has) in (
+            subst (λ a. a < 2) (sym first.state) from.0,
+            subst (λ a. a < k) (sym first.line) from.1,
+            subst (λ a. a < 2) (sym first.leads.next) to.0,
+            subst (λ a. a < k) (sym first.leads.out) to.1,
+          )));
+    }
 
 pub elements-reversible : ElementsAreReversible
 elements-reversible k n moves lines is =

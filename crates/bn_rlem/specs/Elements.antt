@@ -1,5 +1,5 @@
--- Reversible elements with one bit of memory and k lines (Morita 2017, where each has a number): one-to-one functions of
--- the 2k pairs of a state and a line. Pairs are numbered in rising order: pair j is line j % k in state j / k.
+-- Reversible elements with one bit of memory and k lines (Morita 2017, where each has a number): one-to-one functions
+-- of the 2k pairs of a state and a line. Pairs are numbered in rising order: pair j is line j % k in state j / k.
 use Rattle.std.specs.Prelude.{◌≡◌, ℕ, ◌+◌, ◌*◌, ◌/◌, ◌%◌, ◌≤◌, List, [], ◌∷◌}
 use Rattle.std.specs.List.{range_with_len}
 use Rattle.bn_rsm.specs.declared.rsm_move.RsmMove.{RsmMove}

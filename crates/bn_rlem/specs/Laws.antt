@@ -20,8 +20,7 @@ PermutationsAreOrdered =
 
 -- the moves of an element are those of a reversible sequential machine with two states
 abbrev pub ElementsAreReversible : Type 0
-ElementsAreReversible =
-    (k n : ℕ) (moves : List RsmMove) → IsLineCount k → IsElement k n moves → AreSound 2 k moves
+ElementsAreReversible = (k n : ℕ) (moves : List RsmMove) → IsLineCount k → IsElement k n moves → AreSound 2 k moves
 
 pub record Laws : Type 0 where
   -- Each number below the factorial of the number of entries is that of one permutation, and only one.

@@ -19,6 +19,8 @@ mod devices;
 #[cfg(test)]
 mod drives;
 #[cfg(test)]
+mod elements;
+#[cfg(test)]
 mod erased;
 #[cfg(test)]
 mod farms;

@@ -1,5 +1,6 @@
 use Rattle.bn_reply_relations.proofs.LawLemmas.{boards_are_counted, given_boards_are_accepted, boards_are_spelled}
-use Rattle.bn_reply_relations.proofs.LawLemmas.{exits_are_named, moments_are_counted, boards_tell_alike, boards_have_runs}
+use Rattle.bn_reply_relations.proofs.LawLemmas.{exits_are_named, moments_are_counted, boards_tell_alike}
+use Rattle.bn_reply_relations.proofs.LawLemmas.{boards_have_runs}
 use Rattle.bn_reply_relations.proofs.LawLemmas.{boards_tell_runs, compile_has_one_reply, texts_differ_in_words}
 use Rattle.bn_reply_relations.proofs.LawLemmas.{compiled_texts_step_back, run_has_one_reply, runs_tell_outcomes}
 use Rattle.bn_reply_relations.proofs.LawLemmas.{runs_stop_within, runs_have_one_of_each, replies_tell_outcomes}

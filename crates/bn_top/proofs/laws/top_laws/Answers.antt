@@ -5,7 +5,8 @@ use Rattle.bn_top.proofs.CommandClauseLemmas.{answers-tell_commands}
 use Rattle.bn_top.proofs.LawLemmas.{ends_give_clauses-apart}
 use Rattle.bn_top.proofs.TextLemmas.{compiled-return, realised-return, mirrored-return, farmed-return}
 use Rattle.bn_top.proofs.PrintedCompiledLemmas.{compiling-again}
-use Rattle.bn_top.proofs.PrintedErasedLemmas.{ends-tell, erased-tables, erased-tables_come_out, erased-tables_end, erased-tables_output}
+use Rattle.bn_top.proofs.PrintedErasedLemmas.{ends-tell, erased-tables, erased-tables_come_out, erased-tables_end}
+use Rattle.bn_top.proofs.PrintedErasedLemmas.{erased-tables_output}
 use Rattle.bn_top.proofs.PrintedInverseLemmas.{inversed-return}
 use Rattle.bn_top.proofs.laws.top_laws.Goals as goal
 

@@ -4,7 +4,8 @@ use Rattle.bn_circuits.specs.Circuits.{target, source, same_line}
 use Rattle.bn_circuits.specs.Parts.{Parts}
 use Rattle.bn_circuits.specs.Rows.{wires_of, IsWired}
 use Rattle.bn_circuits.specs.Faults.{fault_of}
-use Rattle.bn_circuits.proofs.WireLemmas.{IsFree, free_of, connected, connected-target, connected-source, view-IsCircuit}
+use Rattle.bn_circuits.proofs.WireLemmas.{IsFree, free_of, connected, connected-target, connected-source}
+use Rattle.bn_circuits.proofs.WireLemmas.{view-IsCircuit}
 use Rattle.bn_circuits.proofs.net.Net.connect.Given.{Over}
 use Rattle.bn_circuits.proofs.net.Net.connect.Goals as goal
 

@@ -2,7 +2,8 @@ use Rattle.std.proofs.Common.{◌≡◌, ◌+◌, map, get_or, None, Err, sym, s
 use Rattle.std.proofs.lemmas.Option.{slice_get-get_or}
 use Rattle.std.proofs.lemmas.Result.{err_from_is_err_and}
 use Rattle.bn_circuits.specs.Faults.{fault_of, checked}
-use Rattle.bn_circuits.proofs.FaultLemmas.{nothing_built, more_built, built_targets, built_sources, checked-Ok, refused_at}
+use Rattle.bn_circuits.proofs.FaultLemmas.{nothing_built, more_built, built_targets, built_sources, checked-Ok}
+use Rattle.bn_circuits.proofs.FaultLemmas.{refused_at}
 use Rattle.bn_circuits.proofs.net.Net.try_new.Goals as goal
 
 pub loop-index-init : goal.loop-index-init
