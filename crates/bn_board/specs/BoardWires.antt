@@ -1,4 +1,4 @@
--- The words in which the functions that draw a board's wires are said.
+-- The relations that the functions that draw a board's wires use.
 use Rattle.std.specs.Prelude.{◌≡◌, ℕ, ◌<◌, List, length, Some, slice_get, ◌⊎◌}
 use Rattle.bn_element.specs.Tables.{Table}
 use Rattle.bn_circuits.specs.Circuits.{Circuit, target}
@@ -46,7 +46,7 @@ pub record IsBetween (n : Circuit) (number line : ℕ) (to : Line) (w : Wire) : 
         to = bank_input_line (base n.tables to.element) to.line;
       }
 
--- a draft of so many elements has the wires of some list, which lead just where this relation holds
+-- a draft of this many elements has the wires of some list, which lead just where this relation holds
 pub record IsDrawn (Leads : Line → Line → Type 0) (count : ℕ) (draft : EndList) : Type 0 where
   pub wires : List Wire
   pub drawn : AreDrawn count wires draft

@@ -1,5 +1,5 @@
--- A board: a net of rotary elements in a configuration that was reached from its start, with the layout by which it
--- is read (this project's own profile).
+-- A board: a net of rotary elements in a configuration that was reached from its start, with the layout by which it is
+-- read (this project's own definition).
 use Rattle.std.specs.Prelude.{◌≡◌, ℕ, ◌+◌, ◌-◌, ◌<◌, ◌≤◌, ◌^◌, List, All, length, Option, Some, None, slice_get}
 use Rattle.bn_element.specs.Tables.{Table}
 use Rattle.bn_circuits.specs.Situations.{Situation}
@@ -68,8 +68,8 @@ abbrev pub IsFirstWithin : ℕ → ℕ → Option (ℕ × ℕ) → Type 0
 IsFirstWithin states lines None = Unit {0}
 IsFirstWithin states lines (Some f) = (f.0 < states) × (1 ≤ f.1) × (f.1 < lines)
 
--- The window isn't too large, each tape has a symbol and not too many, the control has a state, the board hasn't too
--- many elements, and first commands and awaited reads are within these numbers.
+-- The window is not too large, each tape has a symbol and not too many, the control has a state, the board does not
+-- have too many elements, and first commands and awaited reads are within these numbers.
 pub record IsLayoutKept (b : Layout) : Type 0 where
   pub small : AreSmall b.limits
   pub tapes : length b.symbols ≡ 3
@@ -99,7 +99,7 @@ pub record IsOnNetwork (net : Parts Rotary) (c : Config) (b : Layout) : Type 0 w
   pub bases : (t p : ℕ) → IsTape t → p < cells_in b.limits t
       → base network.tables (first_cell b.limits t + p) ≡ cell_element b t p
 
--- what every board keeps
+-- what holds of every board
 pub record IsBoardKept (b : Flattened) : Type 0 where
   pub circuit : IsCircuit (rotary_circuit b.net)
   pub order : AreInOrder b.net.wires

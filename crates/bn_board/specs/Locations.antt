@@ -1,4 +1,4 @@
--- Where the signal of a board is, by modules (this project's own profile).
+-- Where the signal of a board is, by modules (this project's own definition).
 use Rattle.std.specs.Prelude.{◌≡◌, ◌↔◌, ℕ, ◌+◌, ◌<◌, ◌≤◌, pos, ◌-ℤ◌, Option, Some}
 use Rattle.bn_circuits.specs.declared.place.Place.{Place}
 use Rattle.bn_circuits.specs.declared.place.Place.TheVariants.{Enter, Left}
@@ -9,8 +9,8 @@ use Rattle.bn_boards.specs.Layouts.{Layout, symbol_count_at, lines_at, cell_elem
 use Rattle.bn_board.specs.declared.located.Located.{Located}
 use Rattle.bn_board.specs.declared.located.Located.TheVariants.{Control, Cell, Outside}
 
--- The signal enters line l of element e: of a bank with so many lines that begins at this element it is input line
--- i, exactly where it is the west of row i of the first column.
+-- The signal enters line l of element e: of a bank with this many lines that begins at this element it is input line i,
+-- exactly where it is the west of row i of the first column.
 abbrev pub IsInputLine : ℕ → ℕ → ℕ → ℕ → Option ℕ → Type 0
 IsInputLine first lines e l line = (i : ℕ) → (line ≡ Some i) ↔ ((i < lines) × (e ≡ first + i) × (l ≡ west))
 

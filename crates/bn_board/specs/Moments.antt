@@ -10,7 +10,7 @@ use Rattle.bn_board.specs.declared.first_rows.FirstRows.{FirstRows}
 abbrev pub IsCommandTo : Layout → ℕ → Option ℕ → Type 0
 IsCommandTo b e line = (o : ℕ) → (line ≡ Some o) ↔ ((1 ≤ o) × (o < lines_at b) × (command_place b o ≡ Enter e west))
 
--- the element is one of so many from this first one on
+-- the element is one of this many from this first one on
 abbrev pub is_among : ℕ → ℕ → ℕ → Bool
 is_among first count e = not (nat_lt e first) && nat_lt (e - first) count
 

@@ -1,4 +1,4 @@
--- The words in which the functions that make a board are said.
+-- The relations that the functions that make a board use.
 use Rattle.std.specs.Prelude.{◌≡◌, ℕ, List, All, Some, slice_get}
 use Rattle.bn_element.specs.Tables.{Table}
 use Rattle.bn_circuits.specs.declared.place.Place.TheVariants.{Enter}

@@ -19,11 +19,12 @@ use bn_packed::{Direction, Packed};
 use std::alloc::Global;
 use std::marker::Model;
 
-/// A flat board (this project's own profile): one net of rotary elements for a network of modules, in a configuration
-/// that was reached from the one in which it was made; with the line by which the signal enters at the start, the line
-/// by which it leaves at the end, and the numbers by which the board is read. Elements and lines are counted from 0.
-/// Clauses see the net, the configuration, the two lines and these numbers. No call changes anything but the
-/// configuration, and what that was at the start is always as many steps back as the board has made.
+/// A flat board: a circuit of a machine (this project's own definition): one net of rotary elements for a network of
+/// modules, in a configuration that was reached from the one in which it was made; with the line by which the signal
+/// enters at the start, the line by which it leaves at the end, and the numbers by which the board is read. Elements
+/// and lines are counted from 0. Clauses see the net, the configuration, the two lines and these numbers. No call
+/// changes anything but the configuration, and what that was at the start is always as many steps back as the board has
+/// made.
 #[derive(Drop)]
 pub struct Board {
     packed: Packed,
@@ -80,7 +81,7 @@ impl Board {
         }
     }
 
-    /// The net with its configuration, packed. Its contract also tells what every board keeps.
+    /// The net with its configuration, packed. The contract also states what holds of every board afterwards.
     pub fn packed(&self) -> &Packed
         ensures net { result.now.net ≡ self.now.net }
         ensures config { result.now.config ≡ self.now.config }
@@ -89,8 +90,8 @@ impl Board {
         &self.packed
     }
 
-    /// The net with its configuration, packed, once the board isn't needed any more. Its contract also tells what every
-    /// board keeps.
+    /// The net with its configuration, packed, when the board is no longer needed. The contract also states what holds
+    /// of every board afterwards.
     pub fn into_packed(self) -> Packed
         ensures net { result.net ≡ self.net }
         ensures config { result.config ≡ self.config }
@@ -122,7 +123,7 @@ impl Board {
         self.end
     }
 
-    /// The number of elements. Its contract also tells what every board keeps.
+    /// The number of elements. The contract also states what holds of every board afterwards.
     pub fn len(&self) -> u32
         ensures number { result ≡ length self.now.net.elements }
         ensures kept { IsBoardKept self.now }
@@ -130,7 +131,7 @@ impl Board {
         self.packed.len()
     }
 
-    /// Where the signal is. Its contract also tells what every board keeps.
+    /// The place of the signal. The contract also states what holds of every board afterwards.
     pub fn place(&self) -> Place
         ensures place { result ≡ self.now.config.place }
         ensures kept { IsBoardKept self.now }
@@ -152,7 +153,7 @@ impl Board {
         self.layout.bound()
     }
 
-    /// The same board once more, in the same configuration. Its contract also tells what every board keeps.
+    /// A copy of the board, in the same configuration. The contract also states what holds of every board afterwards.
     pub fn copy(&self, alloc: Global) -> Result<Board, NoMemory>
         ensures same { IfOk result (λ b. b ≡ self.now) }
         ensures kept { IsBoardKept self.now }
@@ -167,8 +168,8 @@ impl Board {
         })
     }
 
-    /// Makes one element step. `false` exactly where none can be made, and then nothing changed: the signal has left,
-    /// or the steps are `CLOCK`. It takes no memory. Its contract also tells what every board keeps.
+    /// Makes one element step. `false` exactly if none can be made, and then nothing changed: the signal has left, or
+    /// the steps are `CLOCK`. Allocates no memory. The contract also states what holds of every board afterwards.
     pub fn step(&mut self) -> bool
         ensures made { OnTrue result (Goes (rotary_circuit self.old.net) self.old.config self.new.config) }
         ensures kept { OnFalse result (self.new ≡ self.old) }
@@ -179,8 +180,8 @@ impl Board {
         self.packed.step()
     }
 
-    /// Takes one element step back. `false` exactly where no step led here, and then nothing changed: the steps are 0,
-    /// or no wire feeds the input line. It takes no memory. Its contract also tells what every board keeps.
+    /// Undoes one element step. `false` exactly if no step led here, and then nothing changed: the steps are 0, or no
+    /// wire feeds the input line. Allocates no memory. The contract also states what holds of every board afterwards.
     pub fn back_step(&mut self) -> bool
         ensures made { OnTrue result (Goes (rotary_circuit self.old.net) self.new.config self.old.config) }
         ensures kept { OnFalse result (self.new ≡ self.old) }
@@ -191,8 +192,8 @@ impl Board {
         self.packed.back_step()
     }
 
-    /// Makes one element step in this direction, as `step` and `back_step` do. `false` exactly where none can be made,
-    /// and then nothing changed. It takes no memory. Its contract also tells what every board keeps.
+    /// Makes one element step in this direction, as `step` and `back_step` do. `false` exactly if none can be made, and
+    /// then nothing changed. Allocates no memory. The contract also states what holds of every board afterwards.
     pub fn step_along(&mut self, direction: Direction) -> bool
         ensures made { OnTrue result (GoesTo direction (rotary_circuit self.old.net) self.old.config self.new.config) }
         ensures kept { OnFalse result (self.new ≡ self.old) }
@@ -206,8 +207,8 @@ impl Board {
         }
     }
 
-    /// Makes at most `e` element steps and answers how many: fewer only where none can be made from where it ends.
-    /// Moves of banks are made at once. It takes no memory.
+    /// Makes at most `e` element steps and returns how many: fewer only if no further step can be made. Moves of banks
+    /// are made at once. Allocates no memory.
     pub fn run(&mut self, e: u64) -> u64
         ensures ran { IsLongestRun Direction.Forward (rotary_circuit self.old.net) e result self.old.config
             self.new.config }
@@ -216,8 +217,8 @@ impl Board {
         run_leaping(&mut self.packed, &self.layout, e)
     }
 
-    /// Takes at most `e` element steps back and answers how many: fewer only where no step led to where it ends. It
-    /// takes no memory.
+    /// Undoes at most `e` element steps and returns how many: fewer only if no earlier step exists. Allocates no
+    /// memory.
     pub fn run_back(&mut self, e: u64) -> u64
         ensures ran { IsLongestRun Direction.Backward (rotary_circuit self.old.net) e result self.old.config
             self.new.config }
@@ -227,7 +228,7 @@ impl Board {
     }
 
     // Makes at most `e` element steps, and stops after a step where the signal is about to enter a line of `stop`;
-    // tells the watch the place after each. Where the watch doesn't listen, moves of banks are made at once.
+    // reports the place after each to the watch. If the watch does not listen, moves of banks are made at once.
     pub(crate) fn run_until<S: Passing, W: Watch>(&mut self, e: u64, stop: &S, watch: &mut W) -> u64
         ensures ran { IsStoppedRun (rotary_circuit self.old.net) (S.stops stop.now) e result self.old.config
             self.new.config }

@@ -122,7 +122,7 @@ impl Board {
         self.marked_column(first, 2 * layout.letters(tape), layout.cell_lines(tape))
     }
 
-    // The first marked column of a bank that begins at this element, with so many columns and rows.
+    // The first marked column of a bank that begins at this element, with this many columns and rows.
     #[tactic(auto, using(crate::proofs::CellLemmas::bottom_low))]
     fn marked_column(&self, first: u32, columns: u32, rows: u32) -> Option<u32>
         requires inside { column_at first rows columns ≤ elements_of self.now.layout }

@@ -1,4 +1,4 @@
-//! Which bank of a board the signal is about to enter.
+//! The bank of a board that the signal is about to enter.
 
 ghost use Rattle.std.specs.Prelude.{◌≡◌, ◌+◌, ◌*◌, ◌<◌, ◌≤◌, IfSome};
 ghost use Rattle.bn_network.specs.Networks.{cell_size, cells_in};

@@ -19,7 +19,7 @@ use bn_element::{EAST, WEST};
 use bn_machine::Side;
 
 impl Board {
-    /// By which exit the signal left, or that it has not left. It takes no memory.
+    /// By which exit the signal left, or that it has not left. Allocates no memory.
     pub fn exit_of(&self) -> Exit
         ensures { IsExit self.now.layout self.now.config.place result }
     {

@@ -87,7 +87,7 @@ impl Layout {
         }
     }
 
-    // The same layout once more.
+    // A copy of the layout.
     pub(crate) fn copy(&self, alloc: Global) -> Result<Layout, NoMemory>
         ensures { IfOk result (λ b. b ≡ self.now) }
     {
@@ -109,7 +109,7 @@ impl Layout {
         &self.windows
     }
 
-    // How many symbols a tape has. Its contract also tells what every layout keeps.
+    // How many symbols a tape has. The contract also states what holds of every layout afterwards.
     pub(crate) fn letters(&self, tape: u32) -> u32
         requires first { 1 ≤ tape }
         requires last { tape ≤ 3 }
@@ -142,7 +142,7 @@ impl Layout {
         if tape == 1 { self.windows.left1 } else { 0 }
     }
 
-    // The states of the control. Its contract also tells what every layout keeps.
+    // The states of the control. The contract also states what holds of every layout afterwards.
     pub(crate) fn states(&self) -> u32
         ensures number { result ≡ self.now.states }
         ensures some { 0 < result }
@@ -190,7 +190,7 @@ impl Layout {
         self.lines_before(3)
     }
 
-    // The elements of the control's bank. Its contract also tells what every layout keeps.
+    // The elements of the control's bank. The contract also states what holds of every layout afterwards.
     #[tactic(auto, using(crate::proofs::LayoutLemmas::control_within))]
     pub(crate) fn control_size(&self) -> u32
         ensures number { result ≡ bank_size self.now.states (lines_at self.now) }
@@ -222,8 +222,8 @@ impl Layout {
         self.windows.cells(tape) * self.cell_size(tape)
     }
 
-    // The first element of a tape's cells; of tape 4 the number of all elements. Its contract also tells what every
-    // layout keeps.
+    // The first element of a tape's cells; of tape 4 the number of all elements. The contract also states what holds of
+    // every layout afterwards.
     #[tactic(auto, using(crate::proofs::LayoutLemmas::row_within, crate::proofs::LayoutLemmas::first_within))]
     pub(crate) fn first_element(&self, tape: u32) -> u32
         requires first { 1 ≤ tape }

@@ -1,4 +1,4 @@
-//! In which module the signal of a board is.
+//! The module that holds the signal of a board.
 
 ghost use Rattle.std.specs.Prelude.{◌≡◌, ◌+◌, ◌*◌, ◌<◌, ◌≤◌, pos, ◌-ℤ◌};
 ghost use Rattle.bn_circuits.specs.declared.place.Place.TheVariants.{Enter};
@@ -16,8 +16,8 @@ use bn_element::WEST;
 use bn_network::MOST_SYMBOLS;
 
 impl Board {
-    /// The module in whose bank the signal is, and the input line by which it enters it there. It takes no memory. Its
-    /// contract also tells what every board keeps.
+    /// The module in whose bank the signal is, and the input line by which it enters it there. Allocates no memory. The
+    /// contract also states what holds of every board afterwards.
     pub fn located(&self) -> Located
         ensures located { IsLocated self.now.layout self.now.config.place result }
         ensures kept { IsBoardKept self.now }
@@ -102,7 +102,7 @@ impl Layout {
     }
 }
 
-// The input line of a bank with so many lines that begins at this element, if this is one.
+// The input line of a bank with this many lines that begins at this element, if this is one.
 fn input_line(first: u32, lines: u32, entered: Line) -> Option<u32>
     requires { first ≤ entered.element }
     ensures { IsInputLine first lines entered.element entered.line result }

@@ -1,6 +1,6 @@
 //! Where the signal of a board is, by modules.
 
-/// The module in which the signal of a board is (this project's own profile). Lines are counted from 0.
+/// The module in which the signal of a board is (this project's own definition). Lines are counted from 0.
 #[derive(Clone, Copy, PartialEq, Eq, Debug)]
 pub enum Located {
     /// In the control.

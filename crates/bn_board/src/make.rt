@@ -1,4 +1,4 @@
-//! Boards are made here.
+//! Making boards.
 
 ghost use Rattle.std.specs.Prelude.{◌≡◌, ◌≤◌, length, IfOk};
 ghost use Rattle.bn_circuits.specs.Order.{AreInOrder};
@@ -60,7 +60,7 @@ fn packed_of(alloc: Global, assembly: &Assembly, count: u32) -> Result<Packed, N
     Ok(packed)
 }
 
-// A draft of so many elements with the wires of the board of this net of modules.
+// A draft of this many elements with the wires of the board of this net of modules.
 fn draft_of(alloc: Global, count: u32, net: &Net<Module>) -> Result<Draft, NoMemory>
     requires modules { AreModules (module_circuit net.now) }
     requires few { size (module_circuit net.now).tables ≤ MOST_ELEMENTS }

@@ -16,7 +16,8 @@ use bn_element::{HORIZONTAL, WEST};
 impl Board {
     /// The state of the machine of quadruples, counted from 0, whose moment this is: in the final state the signal has
     /// left by the end line; in another it enters the first cell of a tape with the first command of that state, and
-    /// the control waits for the answer to it. It takes no memory. Its contract also tells what every board keeps.
+    /// the control waits for the answer to it. Allocates no memory. The contract also states what holds of every board
+    /// afterwards.
     pub fn moment(&self) -> Option<u32>
         ensures moment { result ≡ moment_at self.now.layout self.now.config }
         ensures kept { IsBoardKept self.now }

@@ -8,8 +8,8 @@ use bn_circuits::{Config, Line, Net, NoMemory};
 use bn_element::Rotary;
 use std::alloc::Global;
 
-/// A copy of a board, not packed (this project's own profile): its net with the wires of the board and no others, its
-/// configuration, the line by which the signal enters at the start, and the line by which it leaves at the end.
+/// A copy of a board, not packed (this project's own definition): its net with the wires of the board and no others,
+/// its configuration, the line by which the signal enters at the start, and the line by which it leaves at the end.
 /// Elements and lines are counted from 0.
 #[derive(Debug, Drop)]
 pub struct NetParts {
@@ -24,8 +24,9 @@ pub struct NetParts {
 }
 
 impl Board {
-    /// The board as a net with its configuration, its start and its end (this project's own profile). The board stays
-    /// as it is. Elements and lines are counted from 0. Its contract also tells what every board keeps.
+    /// The board as a net with its configuration, its start and its end (this project's own definition). The board
+    /// stays as it is. Elements and lines are counted from 0. The contract also states what holds of every board
+    /// afterwards.
     pub fn net_config(&self, alloc: Global) -> Result<NetParts, NoMemory>
         ensures net { IfOk result (λ p. p.net ≡ self.now.net) }
         ensures config { IfOk result (λ p. p.config ≡ self.now.config) }

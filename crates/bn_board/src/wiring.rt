@@ -39,7 +39,8 @@ pub(crate) fn size_of(bank: &Module) -> u32
     bank.states() * (bank.lines_in() + 1)
 }
 
-// A draft of so many elements with the wires of the board of this net of modules, whose banks begin at these elements.
+// A draft of this many elements with the wires of the board of this net of modules, whose banks begin at these
+// elements.
 pub(crate) fn board_draft(
     alloc: Global,
     count: u32,
@@ -59,7 +60,7 @@ pub(crate) fn board_draft(
     Ok(draft)
 }
 
-// A draft of so many elements with the own wires of all banks.
+// A draft of this many elements with the own wires of all banks.
 fn own_wires(alloc: Global, count: u32, net: &Net<Module>, bases: &[u32]) -> Result<Draft, NoMemory>
     requires modules { AreModules (module_circuit net.now) }
     requires few { size (module_circuit net.now).tables ≤ MOST_ELEMENTS }

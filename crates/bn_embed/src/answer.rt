@@ -10,10 +10,11 @@ use bn_circuits::Quiet;
 use bn_top::{NoMemory, Reply, Status, reply_in_memory};
 use std::alloc::Global;
 
-/// Answers words, between which stands a byte 0, on an input: writes the answer's text to the front of `output`, and
-/// gives the code of its status. `taken` tells how many bytes the whole text has. Where `output` has room for fewer, it
-/// is filled with the text's front, and the code is 8; a call with so much room gives the answer. Where memory is
-/// wanting the code is 9, `taken` tells 0, and `output` is as it was. Words that aren't UTF-8 are answered as no words.
+/// Answers arguments, which bytes 0 separate, and an input: writes the answer's text to the front of `output`, and
+/// returns the code of its status. `taken` receives the length of the whole text in bytes. If `output` has room for
+/// fewer, it is filled with a prefix of the text, and the code is 8; a call with enough room returns the answer. If
+/// memory runs out, the code is 9, `taken` receives 0, and `output` is unchanged. Arguments that are not UTF-8 are
+/// answered like no arguments.
 #[unsafe(no_mangle)]
 pub extern "C" fn hithwelor_answer(
     alloc: Global,
@@ -37,7 +38,7 @@ pub extern "C" fn hithwelor_answer(
     }
 }
 
-// The reply to the words of a run of bytes, on an input.
+// The reply to the arguments in a run of bytes, and an input.
 fn reply_to(alloc: Global, words: &[u8], input: &[u8]) -> Result<Reply, NoMemory>
     ensures { IfOk result (λ r. IsReplyTo (words_of words.now) input.now r None None) }
 {
@@ -45,7 +46,7 @@ fn reply_to(alloc: Global, words: &[u8], input: &[u8]) -> Result<Reply, NoMemory
     reply_in_memory(alloc, words.as_slice(), input, &mut Quiet)
 }
 
-// Copies as much of a text to the front of an output as there is room for, and answers whether that is all of it.
+// Copies as much of a text to the front of an output as there is room for, and returns whether that is all of it.
 fn lay(text: &[u8], output: &mut [u8]) -> bool
     ensures laid { output.new ≡ take (length output.old) text.now ++ drop (length text.now) output.old }
     ensures whole { IsTrue result ↔ (length text.now ≤ length output.old) }

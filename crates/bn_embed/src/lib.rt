@@ -1,4 +1,4 @@
-//! The workbench as one call of C: words and an input in, a text and a status out, all in the caller's memory.
+//! The workbench as one call from C: arguments and an input in, a text and a status out, all in the caller's memory.
 #![tactic(auto)]
 
 mod answer;

@@ -1,4 +1,4 @@
-//! The words of a call, from one run of bytes.
+//! The arguments of a call, from one run of bytes.
 
 ghost use Rattle.std.specs.Prelude.{◌≡◌, ◌==◌, map, IfOk};
 ghost use Rattle.std.specs.List.{slice_split};
@@ -8,7 +8,7 @@ ghost use Rattle.bn_embed.specs.Words.{words_of};
 use bn_top::NoMemory;
 use std::alloc::Global;
 
-// The words of a run of bytes.
+// The arguments of a run of bytes.
 pub(crate) fn split_words(alloc: Global, bytes: &[u8]) -> Result<Vec<String>, NoMemory>
     ensures { IfOk result (λ words. map string_bytes words.items ≡ words_of bytes.now) }
 {
@@ -18,7 +18,7 @@ pub(crate) fn split_words(alloc: Global, bytes: &[u8]) -> Result<Vec<String>, No
     }
 }
 
-// What stands between the bytes 0 of a text.
+// The parts of a text between bytes 0.
 fn split_text(alloc: Global, text: &str) -> Result<Vec<String>, NoMemory>
     ensures { IfOk result (λ words. map string_bytes words.items ≡ slice_split (λ b. b == 0) text.now) }
 {

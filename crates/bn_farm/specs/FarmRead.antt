@@ -1,4 +1,4 @@
--- What is read of the bytes of a farm with a schedule, and what a refusal says of them.
+-- Reading the bytes of a farm with a schedule, and the meaning of a refusal.
 use Rattle.std.specs.Prelude.{◌≡◌, ◌≢◌, ℕ, ◌+◌, ◌<◌, ◌≤◌, List, [], ◌∷◌, ◌++◌, length}
 use Rattle.bn_lists.specs.Lists.{IsFirstWith}
 use Rattle.bn_circuits.specs.declared.net.TheConstants.{MOST_ELEMENTS}
@@ -14,26 +14,26 @@ use Rattle.bn_farm.specs.declared.farm_refusal.FarmRefusal.TheVariants.{NoSchedu
 use Rattle.bn_farm.specs.declared.farm_refusal.FarmRefusal.TheVariants.{NoMemory}
 use Rattle.bn_farm.specs.FarmTexts.{AreParts, FailsAfter, IsSchedule, SpellBoards, malformed, no_board}
 
--- the part spells no board
+-- the part is the text of no circuit
 abbrev pub IsUnspelled : List ℕ → Type 0
 IsUnspelled part = (b : FarmBoard) → IsSpelled b part → ⊥
 
 -- ---- behind the boards
 
--- what is left is the schedule of these boards, which haven't too many elements together
+-- the rest is the schedule of these circuits, which together do not have too many elements
 pub record IsRestRead (boards : List FarmBoard) (left : List ℕ) (bs : List FarmBoard) (es : List Event) : Type 0 where
   pub same : bs ≡ boards
   pub schedule : IsSchedule (length boards) left es
   pub few : elements_together boards ≤ MOST_ELEMENTS
 
--- what is left is a schedule, and the boards have so many elements together, which are too many
+-- the rest is a schedule, and the circuits together have this number of elements, which is too large
 pub record AreTooMany (boards : List FarmBoard) (left : List ℕ) (count : ℕ) : Type 0 where
   pub schedule : List Event
   pub is_schedule : IsSchedule (length boards) left schedule
   pub is : count ≡ elements_together boards
   pub great : MOST_ELEMENTS < count
 
--- what is left is no schedule of these boards, or they have too many elements together; want of memory says nothing
+-- the rest is no schedule of these circuits, or they have too many elements together; `NoMemory` says nothing
 abbrev pub IsRestRefusal : List FarmBoard → List ℕ → FarmRefusal → Type 0
 IsRestRefusal boards left NoSchedule = ⊥
 IsRestRefusal boards left (Board board fault) = ⊥
@@ -44,13 +44,13 @@ IsRestRefusal boards left NoMemory = Unit {0}
 
 -- ---- boards
 
--- one board more was read, from this part
+-- one more circuit was read, from this part
 pub record HasPushed (boards : List NetConfig) (part : List ℕ) (now : List NetConfig) : Type 0 where
   pub board : NetConfig
   pub spelled : IsSpelled (board_of board) part
   pub pushed : now ≡ boards ++ board ∷ []
 
--- the part is misspelled; want of memory says nothing
+-- the part has an error; `NoMemory` says nothing
 abbrev pub IsPartRefusal : List ℕ → ℕ → FarmRefusal → Type 0
 IsPartRefusal part number (Board board fault) =
     (board ≡ number) × (fault ≢ netlist.NoMemory) × IsTextRefusal part fault × IsUnspelled part
@@ -62,7 +62,7 @@ IsPartRefusal part number NoMemory = Unit {0}
 
 -- ---- all bytes
 
--- the bytes are the texts of these boards, each with a line `%` behind it, and then this schedule of them
+-- the bytes are the texts of these circuits, each with a line `%` after it, and then this schedule of them
 pub record IsFarmRead (bytes : List ℕ) (bs : List FarmBoard) (es : List Event) : Type 0 where
   pub parts : List (List ℕ)
   pub last : List ℕ
@@ -72,7 +72,8 @@ pub record IsFarmRead (bytes : List ℕ) (bs : List FarmBoard) (es : List Event)
   pub schedule : IsSchedule (length bs) last es
   pub few : elements_together bs ≤ MOST_ELEMENTS
 
--- this board, counted from 1, is the first that is misspelled, and this is its first fault, which isn't want of memory
+-- this circuit, counted from 1, is the first with an error, and this is its first error, which is not that memory ran
+-- out
 pub record IsFirstMisspelled (bytes : List ℕ) (board : ℕ) (fault : NetlistRefusal) : Type 0 where
   pub parts : List (List ℕ)
   pub last : List ℕ
@@ -82,7 +83,7 @@ pub record IsFirstMisspelled (bytes : List ℕ) (board : ℕ) (fault : NetlistRe
   pub faulty : IsTextRefusal part fault
   pub said : fault ≢ netlist.NoMemory
 
--- the parts spell boards, and the refusal is of what stands behind them
+-- the parts are texts of circuits, and the refusal is about the rest after them
 pub record IsRefusedBehind (bytes : List ℕ) (refusal : FarmRefusal) : Type 0 where
   pub parts : List (List ℕ)
   pub last : List ℕ
@@ -92,8 +93,8 @@ pub record IsRefusedBehind (bytes : List ℕ) (refusal : FarmRefusal) : Type 0 w
   pub spell : SpellBoards parts boards
   pub refused : IsRestRefusal boards last refusal
 
--- What a refusal says of the bytes: no line is `%`; the first board that is misspelled; what is wrong behind the
--- boards, all of which are spelled. Want of memory says nothing.
+-- The meaning of a refusal for the bytes: no line is `%`; the first circuit with an error; the error after the
+-- circuits, none of which has one. `NoMemory` says nothing.
 abbrev pub IsFarmRefusal : List ℕ → FarmRefusal → Type 0
 IsFarmRefusal bytes NoSchedule = IsUncut bytes
 IsFarmRefusal bytes (Board board fault) = IsFirstMisspelled bytes board fault

@@ -1,4 +1,4 @@
--- What the laws of this crate say, each a field of `Laws`.
+-- The statements of the laws of this crate, each a field of `Laws`.
 use Rattle.std.specs.Prelude.{◌≡◌, ℕ, List, length, Some, slice_get, option_map, true, false}
 use Rattle.bn_lists.specs.Runs.{Reaches}
 use Rattle.bn_circuits.specs.Circuits.{Goes}
@@ -11,12 +11,12 @@ use Rattle.bn_farm.specs.TextLaws.{UndoingIsASchedule, FarmsAreReadBack, FarmsHa
 use Rattle.bn_farm.specs.declared.farm_reader.TheConstants.{MOST_FARM_BYTES}
 use Rattle.std.specs.Prelude.{◌^◌}
 
--- a line of n ticks leaves its board where a run of n steps does, forward or back, and all others as they were
+-- a line of n ticks leaves its circuit where a run of n steps does, forward or backward, and changes no other
 abbrev pub LinesAreRuns : Type 0
 LinesAreRuns =
     (farm : List FarmBoard) (e : Event) → play farm (ticks_of e) ≡ at_board (after_steps e.forward e.count) e.board farm
 
--- each board ends where its own ticks alone leave it, whatever ticks of other boards come between
+-- each circuit ends where its own ticks alone leave it, for all ticks of other circuits between them
 abbrev pub BoardsAreApart : Type 0
 BoardsAreApart =
     (farm : List FarmBoard) (es : List Tick) (i : ℕ)
@@ -29,11 +29,11 @@ OrderIsFree =
     → ((i : ℕ) (b : FarmBoard) → slice_get farm i ≡ Some b → own i (ticks first) ≡ own i (ticks second))
     → farm_after farm first ≡ farm_after farm second
 
--- boards keep being boards
+-- circuits stay circuits
 abbrev pub FarmsStay : Type 0
 FarmsStay = (farm : List FarmBoard) (es : List Tick) → IsFarm farm → IsFarm (play farm es)
 
--- the number that is counted is the number of steps made, forward, and back
+-- the number that is counted is the number of steps made, forward and backward
 abbrev pub CountsAreSteps : Type 0
 CountsAreSteps =
     ((b : FarmBoard) (n : ℕ) → IsAdmitted b
@@ -43,7 +43,7 @@ CountsAreSteps =
     → Reaches (Goes (circuit_in b)) (steps_between false b.spelling.config (back (circuit_in b) b.spelling.config n))
     (back (circuit_in b) b.spelling.config n) b.spelling.config)
 
--- playing the undoing schedule restores every board
+-- playing the undoing schedule restores every circuit
 abbrev pub UndoingRestores : Type 0
 UndoingRestores =
     (farm : List FarmBoard) (schedule : List Event) → IsFarm farm
@@ -55,12 +55,12 @@ UndoingTwice =
     (farm : List FarmBoard) (schedule : List Event) → IsFarm farm
     → undoing (farm_after farm schedule) (undoing farm schedule) ≡ moving farm schedule
 
--- the undoing schedule is a schedule of the same farm, whatever the first schedule's boards are
+-- the undoing schedule is a schedule of the same farm, for all circuits in the first schedule
 abbrev pub UndoingIsLawful : Type 0
 UndoingIsLawful =
     (farm : List FarmBoard) (schedule : List Event) → IsFarm farm → AllLawful (length farm) (undoing farm schedule)
 
--- a farm keeps its boards: as many, and each with its circuit
+-- a farm keeps its circuits: as many, and each with its wires
 abbrev pub BoardsKeepCircuits : Type 0
 BoardsKeepCircuits =
     ((farm : List FarmBoard) (es : List Tick) → length (play farm es) ≡ length farm)
@@ -72,27 +72,27 @@ BoardsKeepCircuits =
 pub record Laws : Type 0 where
   -- The most bytes of a farm with a schedule are 2^28.
   pub most_farm_bytes_are_stated : MOST_FARM_BYTES ≡ 2 ^ 28
-  -- A line of n ticks is a run of n steps of its board.
+  -- A line of n ticks is a run of n steps of its circuit.
   pub lines_are_runs : LinesAreRuns
-  -- Each board ends where its own ticks alone leave it.
+  -- Each circuit ends where its own ticks alone leave it.
   pub boards_are_apart : BoardsAreApart
   -- Schedules with the same ticks for each board end in the same farm.
   pub order_is_free : OrderIsFree
-  -- Each board stays a board.
+  -- Each circuit stays a circuit.
   pub farms_stay : FarmsStay
-  -- What is counted of a line is the number of steps that it made.
+  -- The count of a line is the number of steps that it made.
   pub counts_are_steps : CountsAreSteps
-  -- The undoing schedule restores every board.
+  -- The undoing schedule restores every circuit.
   pub undoing_restores : UndoingRestores
   -- Undone twice, a schedule has the lines that made steps.
   pub undoing_twice : UndoingTwice
-  -- A farm keeps its boards and their circuits.
+  -- A farm keeps its circuits and their wires.
   pub boards_keep_circuits : BoardsKeepCircuits
   -- The undoing schedule is a schedule of the same farm.
   pub undoing_is_lawful : UndoingIsLawful
   -- The undoing schedule of a schedule of a farm is one of the farm that it leaves.
   pub undoing_is_a_schedule : UndoingIsASchedule
-  -- The text of a farm and a schedule of it is read back.
+  -- The text of a farm and a schedule of it can be read back.
   pub farms_are_read_back : FarmsAreReadBack
-  -- Each farm has a text with each schedule, and only one.
+  -- Each farm has exactly one text with each schedule.
   pub farms_have_one_text : FarmsHaveTexts × FarmTextsAreOne

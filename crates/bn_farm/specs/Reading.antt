@@ -1,4 +1,4 @@
--- Reading a line of a schedule as a function of its bytes: proofs go through it, and no public clause cites it.
+-- Reading a line of a schedule as a function of its bytes. Proofs use it, and no public clause cites it.
 use Rattle.std.specs.Prelude.{ℕ, nat_le, Bool, true, false, List, [], ◌∷◌, Option, Some, None}
 use Rattle.std.specs.Prelude.{option_map, if◌then◌else◌, codes}
 use Rattle.bn_netlist_laws.specs.Reading.{◌>>=◌, word_taken, number_taken}
@@ -12,11 +12,11 @@ sign_by None other = option_map (λ behind. (false, behind)) other
 unfoldable pub sign_taken : List ℕ → Option (Bool × List ℕ)
 sign_taken bytes = sign_by (word_taken (codes "+ ") bytes) (word_taken (codes "- ") bytes)
 
--- an order of one step at least
+-- a line with at least one step
 abbrev pub some_steps : Order → List ℕ → Option (Order × List ℕ)
 some_steps o behind = if nat_le 1 o.count then Some (o, behind) else None
 
--- a whole line, with what stands behind it
+-- a whole line, with the rest after it
 unfoldable pub order_taken : List ℕ → Option (Order × List ℕ)
 order_taken bytes = do
   sign ← sign_taken bytes

@@ -1,11 +1,11 @@
--- What the laws of this crate say of texts, each a field of `Laws`.
+-- The statements of the laws of this crate on texts, each a field of `Laws`.
 use Rattle.std.specs.Prelude.{◌≡◌, ℕ, List, length}
 use Rattle.bn_farm.specs.declared.event.Event.{Event}
 use Rattle.bn_farm.specs.Farms.{FarmBoard, IsFarm, farm_after}
 use Rattle.bn_farm.specs.Undo.{undoing}
 use Rattle.bn_farm.specs.FarmTexts.{AreEventsOf, AreParts, IsFarmText, IsSchedule, SpellBoards}
 
--- each farm has a text with each schedule, and only one
+-- each farm has exactly one text with each schedule
 abbrev pub FarmsHaveTexts : Type 0
 FarmsHaveTexts = (bs : List FarmBoard) (es : List Event) → IsFarm bs → (text : List ℕ) × IsFarmText bs es text
 
@@ -14,7 +14,7 @@ FarmTextsAreOne =
     (bs : List FarmBoard) (es : List Event) (text other : List ℕ) → IsFarmText bs es text → IsFarmText bs es other
     → text ≡ other
 
--- the text of a farm and a schedule of it is read back: its parts are the boards' texts, and then the schedule's
+-- the text of a farm and a schedule of it can be read back: its parts are the circuits' texts, and then the schedule's
 pub record IsReadBack (bs : List FarmBoard) (es : List Event) (text : List ℕ) : Type 0 where
   pub parts : List (List ℕ)
   pub last : List ℕ

@@ -1,4 +1,4 @@
-//! A farm of boards.
+//! A farm: independent circuits under a schedule.
 
 ghost use Rattle.std.specs.Prelude.{◌≡◌, length, map, IfOk, OnErr};
 ghost use Rattle.bn_farm.specs.Farms.{board_of, IsAdmitted, IsFarm, after_steps, farm_after};
@@ -12,7 +12,7 @@ use bn_netlist::NetConfig;
 use std::alloc::Global;
 use std::marker::Model;
 
-/// Several boards. Clauses see the list of the configurations that may be spelled.
+/// Several circuits. Clauses see the list of the configurations that can be written.
 #[derive(Debug, Drop)]
 pub struct Farm {
     boards: Vec<NetConfig>,
@@ -30,7 +30,7 @@ impl Model for Farm {
 }
 
 impl Farm {
-    /// The farm of these boards. It takes no memory.
+    /// The farm of these circuits. Allocates no memory.
     pub fn new(boards: Vec<NetConfig>) -> Farm
         requires { IsFarm (map board_of boards.items) }
         ensures { result ≡ map board_of boards.items }
@@ -38,7 +38,7 @@ impl Farm {
         Farm { boards }
     }
 
-    /// The boards. It takes no memory.
+    /// The circuits. Allocates no memory.
     pub fn boards(&self) -> &[NetConfig]
         ensures shown { map board_of result.now ≡ self.now }
         ensures farm { IsFarm self.now }
@@ -46,8 +46,8 @@ impl Farm {
         self.boards.as_slice()
     }
 
-    /// Plays the schedule, and answers the schedule that undoes it. It takes its memory first: after want of memory the
-    /// farm is as before. (This project's own profile.)
+    /// Plays the schedule, and returns the schedule that undoes it. It allocates its memory first: after `NoMemory` the
+    /// farm is unchanged. (This project's own definition.)
     pub fn play(&mut self, alloc: Global, schedule: &Schedule) -> Result<Schedule, NoMemory>
         requires { AreOnBoards (length self.old) schedule.now }
         ensures played { IfOk result (λ undo. self.new ≡ farm_after self.old schedule.now) }
@@ -76,7 +76,7 @@ impl Farm {
     }
 }
 
-// Makes so many steps of a board, or as many as can be made, forward or back, and answers how many.
+// Makes this many steps of a circuit, or as many as can be made, forward or backward, and returns how many.
 fn play_board(board: &mut NetConfig, forward: bool, count: u64) -> u64
     requires { IsAdmitted (board_of board.old) }
     ensures board { board_of board.new ≡ after_steps forward count (board_of board.old) }

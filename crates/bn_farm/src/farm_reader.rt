@@ -16,13 +16,13 @@ use bn_circuits::MOST_ELEMENTS;
 use bn_netlist::{NetConfig, NetlistRefusal, read_config};
 use std::alloc::Global;
 
-/// The most bytes of a farm with a schedule that are read: 256 MiB (this project's own profile).
+/// The most bytes of a farm with a schedule that are read: 256 MiB (this project's own definition).
 pub const MOST_FARM_BYTES: u64 = 268_435_456;
 
-/// Reads a farm with a schedule: what stands before each line that is exactly `%` with its byte 10 is a board, and what
-/// stands behind the last one is the schedule. A refusal names what comes first: that no line is `%`; the first faulty
-/// board, with its first fault; the first faulty line of the schedule, with its first fault; the number of all
-/// elements. (This project's own profile.)
+/// Reads a farm with a schedule: the part before each line that is exactly `%` with its byte 10 is a circuit, and the
+/// part after the last one is the schedule. A refusal names the first of these: no line is `%`; the first faulty
+/// circuit, with its first error; the first faulty line of the schedule, with its first error; the number of all
+/// elements. (This project's own definition.)
 pub fn read_farm(alloc: Global, bytes: &[u8]) -> Result<(Farm, Schedule), FarmRefusal>
     requires { length bytes.now ≤ MOST_FARM_BYTES }
     ensures read { IfOk result (λ r. IsFarmRead bytes.now r.0 r.1) }
@@ -42,7 +42,7 @@ pub fn read_farm(alloc: Global, bytes: &[u8]) -> Result<(Farm, Schedule), FarmRe
     with_schedule(alloc, boards, left)
 }
 
-// Reads one more board.
+// Reads one more circuit.
 fn push_part(alloc: Global, boards: &mut Vec<NetConfig>, part: &[u8]) -> Result<(), FarmRefusal>
     requires { length boards.old.items + 1 < 2 ^ 32 }
     ensures read { OnOk result (HasPushed boards.old.items part.now boards.new.items) }
@@ -59,7 +59,7 @@ fn push_part(alloc: Global, boards: &mut Vec<NetConfig>, part: &[u8]) -> Result<
     }
 }
 
-// The refusal of a part that is the board of this number, counted from 1.
+// The refusal of a part that is the circuit of this number, counted from 1.
 fn refusal_of(number: u32, fault: NetlistRefusal) -> FarmRefusal
     ensures { (part : List ℕ) → IsTextRefusal part fault → (fault ≢ NetlistRefusal.NoMemory → IsUnspelled part)
         → IsPartRefusal part number result }
@@ -73,7 +73,7 @@ fn refusal_of(number: u32, fault: NetlistRefusal) -> FarmRefusal
     }
 }
 
-// Reads the schedule of a farm of these boards, and counts their elements.
+// Reads the schedule of a farm of these circuits, and counts their elements.
 fn with_schedule(
     alloc: Global,
     boards: Vec<NetConfig>,
@@ -99,7 +99,7 @@ fn with_schedule(
     }
 }
 
-// The elements of some boards together.
+// The number of elements of some circuits together.
 fn count_elements(boards: &[NetConfig]) -> u64
     requires farm { IsFarm (map board_of boards.now) }
     requires few { length boards.now < 2 ^ 32 }

@@ -1,7 +1,7 @@
-//! Laws over the definitions. The function does nothing: its contract is the laws.
+//! The laws on the definitions. The function does nothing: its contract is the laws.
 ghost use Rattle.bn_farm.specs.Laws.{Laws};
 
-/// Laws over the definitions, a named field each.
+/// The laws on the definitions, a named field each.
 pub fn farm_laws()
     ensures { Laws }
 {}

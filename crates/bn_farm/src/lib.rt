@@ -1,5 +1,5 @@
-//! A farm of boards under a schedule: several circuits in one text, the events on them, and the schedule that undoes
-//! them.
+//! A farm of circuits under a schedule: several independent circuits in one text, the events on them, and the schedule
+//! that undoes them.
 #![tactic(auto)]
 
 mod event;

@@ -1,4 +1,4 @@
-//! What is refused of a schedule.
+//! Refusals of a schedule.
 
 /// Why bytes are no schedule of a farm.
 #[derive(Debug, Drop)]
@@ -8,11 +8,11 @@ pub(crate) enum ScheduleRefusal {
         /// The line, counted from 1.
         line: u64,
     },
-    /// The farm has no board of the number in this line.
+    /// The farm has no circuit of the number in this line.
     NoBoard {
         /// The line, counted from 1.
         line: u64,
     },
-    /// There was no memory.
+    /// Memory ran out.
     NoMemory,
 }

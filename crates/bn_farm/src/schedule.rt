@@ -5,7 +5,7 @@ ghost use Rattle.std.specs.Prelude.{◌≡◌};
 use crate::event::Event;
 use std::marker::Model;
 
-/// A schedule: events on the boards of a farm, the first event first. Clauses see the list of its events.
+/// A schedule: events on the circuits of a farm, the first event first. Clauses see the list of its events.
 #[derive(Debug, Drop)]
 pub struct Schedule {
     events: Vec<Event>,
@@ -21,14 +21,14 @@ impl Model for Schedule {
 }
 
 impl Schedule {
-    /// The schedule of these events. It takes no memory.
+    /// The schedule of these events. Allocates no memory.
     pub fn new(events: Vec<Event>) -> Schedule
         ensures { result ≡ events.items }
     {
         Schedule { events }
     }
 
-    /// The events, the first event first. It takes no memory.
+    /// The events, the first event first. Allocates no memory.
     pub fn events(&self) -> &[Event]
         ensures { result.now ≡ self.now }
     {

@@ -1,4 +1,4 @@
-//! What stands in a schedule, from left to right.
+//! The contents of a schedule, from left to right.
 
 ghost use Rattle.bn_netlist_laws.specs.Reading.{Takes};
 ghost use Rattle.bn_farm.specs.Reading.{order_taken, sign_taken};
@@ -18,7 +18,7 @@ fn take_sign(cursor: &mut Cursor<'_>) -> Option<bool>
     Some(false)
 }
 
-/// A whole line: its sign, a board's number and a count of steps.
+/// A whole line: its sign, a circuit's number and a number of steps.
 #[tactic(auto, unfolding(crate::specs::Reading::order_taken))]
 pub(crate) fn take_order(cursor: &mut Cursor<'_>) -> Option<Order>
     ensures { Takes result cursor.new (order_taken cursor.old) }

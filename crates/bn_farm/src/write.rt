@@ -13,8 +13,8 @@ use bn_lists::NoMemory;
 use bn_netlist::{NetConfig, write_config};
 use std::alloc::Global;
 
-/// The text of a farm and a schedule: the text of each board with a line `%` behind it, and the schedule's lines. (This
-/// project's own profile.)
+/// The text of a farm and a schedule: the text of each circuit with a line `%` after it, and the schedule's lines.
+/// (This project's own definition.)
 pub fn write_farm(alloc: Global, farm: &Farm, schedule: &Schedule) -> Result<Vec<u8>, NoMemory>
     ensures { IfOk result (λ text. IsFarmText farm.now schedule.now text.items) }
 {
@@ -24,7 +24,7 @@ pub fn write_farm(alloc: Global, farm: &Farm, schedule: &Schedule) -> Result<Vec
     Ok(text)
 }
 
-// The text of each board with a line `%` behind it.
+// The text of each circuit with a line `%` after it.
 fn push_boards(alloc: Global, text: &mut Vec<u8>, boards: &[NetConfig]) -> Result<(), NoMemory>
     requires { IsFarm (map board_of boards.now) }
     ensures { OnOk result (HasWritten text.old.items text.new.items (map board_of boards.now)) }
@@ -35,7 +35,7 @@ fn push_boards(alloc: Global, text: &mut Vec<u8>, boards: &[NetConfig]) -> Resul
     Ok(())
 }
 
-// The text of one board, and a line `%`.
+// The text of one circuit, and a line `%`.
 fn push_board(alloc: Global, text: &mut Vec<u8>, board: &NetConfig) -> Result<(), NoMemory>
     requires { IsAdmitted (board_of board.now) }
     ensures { OnOk result (HasWritten text.old.items text.new.items (board_of board.now ∷ [])) }
@@ -56,7 +56,7 @@ fn push_events(text: &mut Vec<u8>, events: &[Event]) -> Result<(), NoMemory>
     Ok(())
 }
 
-// The line of one event; boards are counted from 1 in it.
+// The line of one event, in which circuits are counted from 1.
 fn push_event(text: &mut Vec<u8>, event: Event) -> Result<(), NoMemory>
     ensures { OnOk result (text.new.items ≡ text.old.items ++ (sign_text event.forward
         ++ (decimal (event.board + 1) ++ (codes " " ++ (decimal event.count ++ 10 ∷ []))))) }

@@ -1,4 +1,4 @@
--- What is known of a table and of the symbols of a word by the time that the search begins.
+-- What is known of a table and of the symbols of a word when the search begins.
 use Rattle.std.specs.Prelude.{ℕ, List}
 use Rattle.bn_table.specs.Rows.{Named}
 use Rattle.bn_bennett.specs.Translation.{Translation, IsTranslation}
@@ -11,7 +11,8 @@ use Rattle.bn_headline.specs.FoundHeadline.{IsWordGiven}
 abbrev pub IsRead : Named → Translation → List ℕ → Type 0
 IsRead t m symbols = (bytes : List ℕ) × (letters : List ℕ) × IsMachineAsked bytes letters t m symbols
 
--- some bytes and letters are given as this table and these symbols, and there are not too many of them
+-- some bytes and letters are given as this table and these symbols, and there are at most as many symbols as a word may
+-- have
 pub record IsAsked (t : Named) (symbols : List ℕ) : Type 0 where
   pub bytes : List ℕ
   pub letters : List ℕ

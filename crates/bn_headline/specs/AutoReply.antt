@@ -1,7 +1,7 @@
--- What the command `run` answers where it is to find the window: round by round, the signal runs on the board of the
--- machine and the word in a window; where it leaves by an end of a tape, the next window has this end doubled (the
--- board, the windows and the text are this project's own profile). The circuits alone say it; the machine's own run is
--- no part of it.
+-- What the command `run` answers with the automatic window: round by round, the signal runs on the circuit of the
+-- machine and the word in a window; if it leaves by an end of a tape, the next window has this end doubled (the
+-- circuit, the windows and the text are this project's own profile). The circuits alone define it; the machine's own
+-- run is no part of it.
 use Rattle.std.specs.Prelude.{◌≡◌, ◌≢◌, ℕ, zero, suc, ◌<◌, ◌≤◌, List, [], ◌∷◌, ◌++◌, length, None, codes, decimal}
 use Rattle.bn_base.specs.declared.limits.TheConstants.{MOST_COUNT}
 use Rattle.bn_circuits.specs.Stepping.{places}
@@ -24,13 +24,13 @@ use Rattle.bn_reply.specs.Lines.{long_line}
 use Rattle.bn_reply_relations.specs.RunReply.{TellsRun, budget, reached}
 use Rattle.bn_network_assembly.specs.Widening.{first_window, widened}
 
--- the line of the window that was found
+-- the line of the automatic window
 abbrev pub found_line : Limits → List ℕ
 found_line w = line (codes "window " ∷ decimal w.left ∷ codes " " ∷ decimal w.right ∷ codes " " ∷ decimal w.steps
     ∷ codes " " ∷ decimal w.output ∷ [])
 
--- One round: on the board in w the signal leaves by this end of a tape, which v has doubled. A watch is told the place
--- after each step.
+-- One round: on the circuit in w the signal leaves by this end of a tape, which v has doubled. A watch is told the
+-- place after each step.
 pub record IsRound (p : Program) (symbols : List ℕ) (w v : Limits) (told : List Place) : Type 0 where
   pub flat : Flat
   pub comes : ComesTo p w symbols flat
@@ -40,15 +40,15 @@ pub record IsRound (p : Program) (symbols : List ℕ) (w v : Limits) (told : Lis
   pub next : v ≡ widened w tape side
   pub told_is : told ≡ places flat.circuit (budget flat None) (flat_start flat)
 
--- so many rounds lead from w to v, and a watch is told the places of each in turn
+-- this many rounds lead from w to v, and a watch is told the places of each in turn
 abbrev pub MakeRounds : Program → List ℕ → ℕ → Limits → Limits → List Place → Type 0
 MakeRounds p symbols zero w v told = (w ≡ v) × (told ≡ [])
 MakeRounds p symbols (suc n) w v told =
     (m : Limits) × (front : List Place) × (rest : List Place) × IsRound p symbols w m front
     × MakeRounds p symbols n m v rest × (told ≡ front ++ rest)
 
--- The last window: its board is too large; or the signal leaves the board by no end of a tape, and the text is the line
--- of the window and that of the run.
+-- The last window: its circuit is too large; or the signal leaves the circuit by no end of a tape, and the text is the
+-- line of the window and that of the run.
 pub data EndReplies (t : Named) (symbols : List ℕ) (w : Limits) (status : Status) (text : List ℕ)
     (told : List Place) : Type 0 where
   large : (count : ℕ) → CountsElements t.machine w count → MOST_ELEMENTS < count → text ≡ large_line count
@@ -67,14 +67,14 @@ pub record SearchReplies (t : Named) (symbols : List ℕ) (status : Status) (tex
   pub ends : EndReplies t symbols last status text behind
   pub told_is : told ≡ before ++ behind
 
--- What is answered to a word of these symbols: it has too many letters, or that.
+-- The answer to a word of these symbols: it has too many letters, or that.
 pub data FindReplies (t : Named) (symbols : List ℕ) (status : Status) (text : List ℕ) (told : List Place) : Type 0 where
   long : MOST_COUNT < length symbols → text ≡ long_line (length symbols) → status ≡ statuses.Size → told ≡ []
       → FindReplies t symbols status text told
   searched : length symbols ≤ MOST_COUNT → SearchReplies t symbols status text told
       → FindReplies t symbols status text told
 
--- what is answered to a word and these bytes
+-- the answer to a word and these bytes
 abbrev pub AutoReplies : List ℕ → List ℕ → Status → List ℕ → List Place → Type 0
 AutoReplies word = StandardReplies (λ t. WordReplies (FindReplies t) t word)
 

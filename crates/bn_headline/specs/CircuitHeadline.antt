@@ -1,5 +1,5 @@
--- The headline by the circuit, which stands beside that by the machine alone: the signal of the board comes in
--- exactly its cost to the exit that the text tells, and steps back lead back.
+-- The headline by the circuit, beside that by the machine alone: the signal leaves the circuit in exactly its cost by
+-- the exit that the text reports, and steps back restore the start.
 use Rattle.std.specs.Prelude.{ℕ, ◌≤◌, List, length, Option}
 use Rattle.bn_machine.specs.Outcome.{Limits, Outcome}
 use Rattle.bn_table.specs.Rows.{Named}
@@ -10,9 +10,9 @@ use Rattle.bn_reply_relations.specs.ToldRuns.{AsksRun, ComesOutOn, TookOutcome}
 use Rattle.bn_reply_relations.specs.Windows.{ComesTo}
 use Rattle.bn_headline.specs.HeadlineLaws.{RunsBack}
 
--- Where the words ask for a run whose board isn't too large, the text tells the run of the board, which comes to the
--- exit of the outcome in exactly its cost and is inside before; and so many steps back lead back, from the exit to
--- the start.
+-- If the arguments ask for a run whose circuit is not too large, the text reports the run of the circuit, which leaves
+-- by the exit of the outcome in exactly its cost and is inside before; and as many steps back lead back, from the exit
+-- to the start.
 unfoldable pub CircuitHeadline : List (List ℕ) → List ℕ → Status → Option (List ℕ) → Option (List ℕ) → Type 0
 CircuitHeadline words bytes status taken took =
     length bytes ≤ MOST_INPUT_BYTES

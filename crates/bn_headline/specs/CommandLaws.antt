@@ -1,4 +1,4 @@
--- What the replies of further commands tell of an input that has a reading.
+-- What the replies of further commands report of an input that has a reading.
 use Rattle.std.specs.Prelude.{◌≡◌, ℕ, List}
 use Rattle.bn_circuits.specs.Stepping.{back, run}
 use Rattle.bn_circuits.specs.declared.place.Place.{Place}
@@ -14,7 +14,7 @@ use Rattle.bn_reply_machines.specs.BennettReply.{BennettReplies, bennett_text}
 use Rattle.bn_reply_machines.specs.MachineReply.{MachineReplies, ending_status, ending_text}
 use Rattle.bn_table.specs.Rows.{Named}
 
--- the reply of `machine` tells how the machine's own run comes out
+-- the reply of `machine` reports how the machine's own run ends
 abbrev pub MachineRepliesTell : Type 0
 MachineRepliesTell =
     (word : List ℕ) (n : ℕ) (bytes : List ℕ) (status : Status) (text : List ℕ) (told : List Place)

@@ -25,13 +25,13 @@ never_entered p =
     count_by (λ j. not (j == start_of p.quints) && not (list_any (λ q. q.next == j) p.quints))
     (range_with_len 0 p.states)
 
--- how many states other than the final are no quintuple's state
+-- how many states other than the final one are no quintuple's state
 abbrev pub never_left : Program → ℕ
 never_left p =
     count_by (λ j. not (j == final_of p.quints) && not (list_any (λ q. q.state == j) p.quints))
     (range_with_len 0 p.states)
 
--- the states of the control of a machine's translation are so many
+-- the control of a machine's translation has this many states
 abbrev pub ControlsAreCounted : Type 0
 ControlsAreCounted =
     (p : Program) (t : Translation) (names : List ControlState)

@@ -1,4 +1,4 @@
--- From a board that was flattened to the headline.
+-- From a circuit that was flattened to the headline.
 use Rattle.std.specs.Prelude.{◌≡◌, ◌≢◌, ℕ, ◌≤◌, List, All, length}
 use Rattle.bn_circuits.specs.declared.place.Place.TheVariants.{Enter, Left}
 use Rattle.bn_circuits.specs.RotaryNets.{rotary_circuit}
@@ -14,7 +14,8 @@ use Rattle.bn_network.specs.Limits.{AreSmall}
 use Rattle.bn_network_assembly.specs.Assembled.{Assembled, IsAssembled, network_of}
 use Rattle.bn_board.specs.Flattened.{Flattened, IsFlattened}
 
--- what may be assembled: a machine in standard form, a word of its letters that fits, and a window that isn't too large
+-- what may be assembled: a machine in standard form, a word of its letters that fits, and a window that is not too
+-- large
 pub record MayBeAssembled (p : Program) (l : Limits) (word : List ℕ) : Type 0 where
   pub standard : IsStandardMachine p
   pub letters : IsSpelledBy p word
@@ -22,7 +23,7 @@ pub record MayBeAssembled (p : Program) (l : Limits) (word : List ℕ) : Type 0 
   pub fits : length word ≤ l.right
   pub small : AreSmall l
 
--- the board is that of f, at its start, with the lines by which the signal enters and leaves
+-- the circuit is that of f, at its start, with the lines by which the signal enters and leaves
 pub record IsBoardAtStart (f : Flat) (b : Flattened) : Type 0 where
   pub circuit : f.circuit ≡ rotary_circuit b.net
   pub layout : f.layout ≡ b.layout
@@ -30,7 +31,7 @@ pub record IsBoardAtStart (f : Flat) (b : Flattened) : Type 0 where
   pub start : Enter b.start.element b.start.line ≡ (flat_start f).place
   pub end : Left b.end.element b.end.line ≡ end_place f.layout
 
--- the board that is flattened from the network that is assembled for a translation, a window and a word
+-- the circuit that is flattened from the network that is assembled for a translation, a window and a word
 pub record IsFlattenedFor (p : Program) (l : Limits) (word : List ℕ) (t : Translation) (a : Assembled)
     (b : Flattened) : Type 0 where
   pub translates : IsTranslation p t
@@ -38,7 +39,7 @@ pub record IsFlattenedFor (p : Program) (l : Limits) (word : List ℕ) (t : Tran
   pub assembled : IsAssembled t.machine l word names a
   pub flattened : IsFlattened a b
 
--- what is translated, assembled and flattened is a board as it is defined, and one that may be compiled
+-- what is translated, assembled and flattened is a circuit as it is defined, and one that may be compiled
 abbrev pub FlattenedBoardsAreFlats : Type 0
 FlattenedBoardsAreFlats =
     (p : Program) (l : Limits) (word : List ℕ) (t : Translation) (a : Assembled) (b : Flattened)

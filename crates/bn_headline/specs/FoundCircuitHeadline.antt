@@ -1,4 +1,4 @@
--- The headline where the window is found, by the circuit, which stands beside that by the machine alone.
+-- The headline of the automatic window by the circuit, beside that by the machine alone.
 use Rattle.std.specs.Prelude.{◌≡◌, ℕ, ◌≤◌, List, length, Option}
 use Rattle.bn_machine.specs.Outcome.{Limits}
 use Rattle.bn_table.specs.Rows.{Named}
@@ -10,9 +10,9 @@ use Rattle.bn_headline.specs.FoundHeadline.{IsWordGiven, TookFinding, auto_words
 use Rattle.bn_headline.specs.Searches.{Found, HasFinding}
 use Rattle.bn_headline.specs.HeadlineLaws.{RunsBack}
 
--- Whatever word the words ask for, on an input within the limit, and whatever window the search finds: the text tells
--- the run of the board in this window, which is there and comes to the exit of the outcome in exactly its cost; and so
--- many steps back lead back, from the exit to the start.
+-- For every word in the arguments, on an input within the limit, and every window that the search finds: the text
+-- reports the run of the circuit in this window, which exists and leaves by the exit of the outcome in exactly its
+-- cost; and as many steps back lead back, from the exit to the start.
 unfoldable pub FoundCircuitHeadline : List (List ℕ) → List ℕ → Status → Option (List ℕ) → Option (List ℕ) → Type 0
 FoundCircuitHeadline words bytes status taken took =
     length bytes ≤ MOST_INPUT_BYTES → (letters : List ℕ) → words ≡ auto_words letters

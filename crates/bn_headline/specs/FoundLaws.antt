@@ -1,5 +1,5 @@
--- What the answers of `run` with `auto` tell of the machine alone and of the circuit; and the search by the machine
--- alone, which is that of the boards.
+-- What the answers of `run` with `auto` imply by the machine alone and by the circuit; and the search by the machine
+-- alone, which is that of the circuits.
 use Rattle.std.specs.Prelude.{ℕ, ◌<◌, ◌≤◌, List, Option, ◌⊎◌}
 use Rattle.bn_lists.specs.Runs.{Reaches}
 use Rattle.bn_machine.specs.Machine.{Program}
@@ -14,13 +14,13 @@ use Rattle.bn_headline.specs.Elements.{elements}
 use Rattle.bn_headline.specs.FoundCircuitHeadline.{FoundCircuitHeadline}
 use Rattle.bn_headline.specs.FoundMachineHeadline.{EndsInside, FoundMachineHeadline, WidensTo}
 
--- what tells the window that is found tells it by the machine alone, and by the circuit
+-- what reports the automatic window reports it by the machine alone, and by the circuit
 abbrev pub FoundTellsMachine : Type 0
 FoundTellsMachine = (words : List (List ℕ)) (bytes : List ℕ) (status : Status) (taken took : Option (List ℕ))
     → TellsFoundWindow words bytes status taken took
     → FoundMachineHeadline words bytes status taken took × FoundCircuitHeadline words bytes status taken took
 
--- The search comes to w, and ends there: the circuit is too large, or the bounded run halts or is stuck.
+-- The search reaches w and ends there: the circuit is too large, or the bounded run halts or is stuck.
 pub record EndsAt (p : Program) (word : List ℕ) (n : ℕ) (w : Limits) : Type 0 where
   pub rounds : Reaches (WidensTo p word) n (first_window word) w
   pub ends : (MOST_ELEMENTS < elements p w)

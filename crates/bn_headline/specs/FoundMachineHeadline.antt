@@ -1,6 +1,6 @@
--- The headline where the window is found, by the machine alone: what `run` with `auto` prints is the window that the
--- machine's own bounded runs name, and then what its run in this window names (Bennett 1973 for the machine; window and
--- text are this project's own profile).
+-- The headline of the automatic window by the machine alone: `run` with `auto` prints the window that the machine's own
+-- bounded runs name, and then what its run in this window names (Bennett 1973 for the machine; window and text are this
+-- project's own profile).
 use Rattle.std.specs.Prelude.{◌≡◌, ℕ, ◌<◌, ◌≤◌, List, ◌++◌, length, Option}
 use Rattle.bn_io.specs.Told.{Grows}
 use Rattle.bn_lists.specs.Runs.{Reaches}
@@ -19,7 +19,7 @@ use Rattle.bn_headline.specs.FoundHeadline.{IsWordGiven, auto_words}
 use Rattle.bn_headline.specs.Elements.{elements, most_steps}
 use Rattle.bn_headline.specs.MachineHeadline.{TellsExit, TookRun, least_steps}
 
--- One round of the search leads from w to v: the circuit in w isn't too large, the machine's own bounded run in w has
+-- One round of the search leads from w to v: the circuit in w is not too large, the machine's own bounded run in w has
 -- no room at an end of a tape, and v has the number of this end doubled.
 pub record WidensTo (p : Program) (word : List ℕ) (w v : Limits) : Type 0 where
   pub few : elements p w ≤ MOST_ELEMENTS
@@ -34,7 +34,7 @@ abbrev pub EndsInside : Outcome → Type 0
 EndsInside (Outside tape side) = ⊥
 EndsInside _ = Unit {0}
 
--- The line of the window, and behind it what is told of a signal that came after so many steps to the exit that the
+-- The line of the window, followed by the report of a signal that left after this many steps by the exit that the
 -- outcome of the bounded run in this window names.
 pub record TellsFoundExit (t : Named) (w : Limits) (symbols : List ℕ) (i : ℕ) (o : Outcome) (cost : ℕ)
     (status : Status) (text : List ℕ) : Type 0 where
@@ -42,9 +42,9 @@ pub record TellsFoundExit (t : Named) (w : Limits) (symbols : List ℕ) (i : ℕ
   pub text_is : text ≡ found_line w ++ ran
   pub exit : TellsExit t w symbols i o cost status ran
 
--- The search ends at w. A circuit that is too large is refused with the number of its elements; else, where the bounded
--- run halts or is stuck, the sink took what tells it, and the signal makes as many element steps as two bounds by the
--- machine allow.
+-- The search ends at w. A circuit that is too large is refused with the number of its elements; otherwise, if the
+-- bounded run halts or is stuck, the sink received the report, and the signal makes as many element steps as two bounds
+-- by the machine allow.
 pub record TookFound (t : Named) (w : Limits) (symbols : List ℕ) (status : Status) (taken took : Option (List ℕ)) :
     Type 0 where
   pub large : MOST_ELEMENTS < elements t.machine w
@@ -53,8 +53,8 @@ pub record TookFound (t : Named) (w : Limits) (symbols : List ℕ) (status : Sta
       → (i : ℕ) (o : Outcome) → HasOutcome t.machine symbols w i o → EndsInside o
       → TookRun (TellsFoundExit t w symbols i o) (least_steps i o) (most_steps t.machine w) status taken took
 
--- Whatever word the words ask for, on an input within the limit: to whatever window the search comes from the first
--- one.
+-- For every word in the arguments, on an input within the limit: for every window that the search reaches from the
+-- first one.
 unfoldable pub FoundMachineHeadline : List (List ℕ) → List ℕ → Status → Option (List ℕ) → Option (List ℕ) → Type 0
 FoundMachineHeadline words bytes status taken took =
     length bytes ≤ MOST_INPUT_BYTES → (letters : List ℕ) → words ≡ auto_words letters

@@ -12,7 +12,7 @@ use Rattle.bn_headline.specs.MachineHeadline.{TellsExit, TookRun, least_steps}
 abbrev pub binary : ℕ → List ℕ
 binary n = map (λ place. 1 + n / place % 2) (8 ∷ 4 ∷ 2 ∷ 1 ∷ [])
 
--- The text is the line `increments k`, and behind it that of a run of the machine of k increments from 11 on: it halts
+-- The text is the line `increments k`, followed by that of a run of the machine of k increments from 11 on: it halts
 -- after 10k + 1 steps with 11 + k.
 pub record TellsIncrements (k cost : ℕ) (status : Status) (text : List ℕ) : Type 0 where
   pub ran : List ℕ
@@ -20,7 +20,7 @@ pub record TellsIncrements (k cost : ℕ) (status : Status) (text : List ℕ) : 
   pub tells : TellsExit (increments_table k) (window k) (binary 11) (10 * k + 1) (Halted (binary (11 + k))) cost status
       ran
 
--- Where the words are `generate` and a number of increments, from 1 to 4, the sink took such a text.
+-- If the arguments are `generate` and a number of increments, from 1 to 4, the sink received such a text.
 unfoldable pub GeneratedHeadline : List (List ℕ) → Status → Option (List ℕ) → Option (List ℕ) → Type 0
 GeneratedHeadline words status taken took =
     (k : ℕ) → IsRoundCount k → words ≡ codes "generate" ∷ decimal k ∷ []

@@ -1,4 +1,4 @@
--- How the run of the machine of k increments on 1011 comes out (this project's own example).
+-- How the run of the machine of k increments on 1011 ends (this project's own example).
 use Rattle.std.specs.Prelude.{ℕ, zero, suc, ◌+◌, ◌*◌, List, [], ◌∷◌}
 use Rattle.bn_machine.specs.Outcome.{HasOutcome, Halted}
 use Rattle.bn_gen.specs.Increments.{IsRoundCount, incrementer}

@@ -1,4 +1,4 @@
--- What the laws of this crate say.
+-- The statements of this crate's laws.
 use Rattle.std.specs.Prelude.{◌≡◌, ◌≢◌, ℕ, ◌+◌, ◌*◌, ◌<◌, ◌≤◌, List, [], ◌++◌, length, Option, Some, ◌⊎◌}
 use Rattle.bn_io.specs.Told.{Grows}
 use Rattle.bn_machine.specs.Machine.{Program}
@@ -27,14 +27,14 @@ use Rattle.bn_headline.specs.Elements.{elements, most_steps}
 use Rattle.bn_headline.specs.Generated.{TellsIncrements, binary}
 use Rattle.bn_headline.specs.MachineHeadline.{IsOwnRun, MachineHeadline, MachineHeadlineWithin, TookRun, least_steps}
 
--- the network of a machine has so many elements
+-- the network of a machine has this many elements
 abbrev pub ElementsAreCounted : Type 0
 ElementsAreCounted =
     (p : Program) (l : Limits) (t : Translation) (names : List ControlState)
     → IsStandardMachine p → FitsTable p → IsTranslation p t → IsNumbering t.machine names
     → elements_by t.machine l (length names) ≡ elements p l
 
--- A table whose machine is in standard form, a word of its letters that fits and limits that may be asked for have an
+-- A table whose machine is in standard form, a word of its letters that fits, and limits within their bounds have an
 -- own run, and only one: so the headline speaks of each, and says one thing.
 pub record HasOneRun (bytes word : List ℕ) (l : Limits) (t : Named) (symbols : List ℕ) : Type 0 where
   pub steps : ℕ
@@ -47,7 +47,7 @@ OwnRunsAreOne =
     (bytes word : List ℕ) (l : Limits) (t : Named) (symbols : List ℕ) → IsGiven bytes word l t symbols
     → length symbols ≤ l.right → HasOneRun bytes word l t symbols
 
--- where the sink took the reply to a run, it took what the machine's own run names
+-- if the sink received the reply to a run, it received what the machine's own run names
 abbrev pub RepliesTellMachine : Type 0
 RepliesTellMachine =
     (words : List (List ℕ)) (bytes : List ℕ) (status : Status) (taken took : Option (List ℕ))
@@ -56,7 +56,7 @@ RepliesTellMachine =
 
 -- ---- what the headline leaves open
 
--- Two texts are one, or they differ at most in the number of element steps.
+-- Two texts are equal, or they differ at most in the number of element steps.
 pub record DifferInSteps (text other : List ℕ) : Type 0 where
   pub front : List ℕ
   pub behind : List ℕ
@@ -65,8 +65,8 @@ pub record DifferInSteps (text other : List ℕ) : Type 0 where
   pub one : text ≡ front ++ (steps_line cost ++ behind)
   pub two : other ≡ front ++ (steps_line second ++ behind)
 
--- Two answers of which the headline holds, to the same words and bytes from the same sink on, have one status, and one
--- text, or two that differ in the number of element steps alone.
+-- Two answers for which the headline holds, to the same arguments and bytes from the same sink on, have one status, and
+-- one text, or two that differ in the number of element steps alone.
 abbrev pub AgreeAs : List ℕ → List ℕ → Type 0
 AgreeAs text other = (text ≡ other) ⊎ DifferInSteps text other
 
@@ -81,8 +81,8 @@ HeadlinesAgree =
 
 -- ---- the machines of increments
 
--- Each has a number of elements that is small enough, and its own run halts after 10k + 1 steps with 11 + k in binary;
--- so there are 40k + 25 steps of the reversible machine.
+-- Each has few enough elements, and its own run halts after 10k + 1 steps with 11 + k in binary; so there are 40k + 25
+-- steps of the reversible machine.
 pub record RunsOfIncrements (k : ℕ) : Type 0 where
   pub own : IsOwnRun (increments_text k) number (window k) (increments_table k) (binary 11) (10 * k + 1)
       (Halted (binary (11 + k)))
@@ -98,7 +98,7 @@ IncrementsAreCounted =
     (elements (incrementer 1) (window 1) ≡ 14136) × (elements (incrementer 2) (window 2) ≡ 55078)
     × (elements (incrementer 3) (window 3) ≡ 144476) × (elements (incrementer 4) (window 4) ≡ 301770)
 
--- what tells the outcome of such a run tells this one
+-- what reports the outcome of such a run reports this one
 abbrev pub GeneratedTellsMachine : Type 0
 GeneratedTellsMachine =
     (k : ℕ) (status : Status) (text : List ℕ) (taken took : Option (List ℕ)) → IsRoundCount k
@@ -108,8 +108,8 @@ GeneratedTellsMachine =
 
 -- ---- the circuit
 
--- A board's signal is inside at each step below its cost, and outside at its cost; and from each of these steps so many
--- steps back lead to where it was so many steps before: from the exit to the start.
+-- A circuit's signal is inside at each step below its cost, and outside at its cost; and from each of these steps as
+-- many steps back lead back: from the exit to the start.
 pub record RunsBack (f : Flat) : Type 0 where
   pub cost : ℕ
   pub has_cost : HasCost f cost

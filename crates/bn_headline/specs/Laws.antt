@@ -29,13 +29,13 @@ use Rattle.bn_headline.specs.Rounds.{LeavesBy}
 use Rattle.bn_table.specs.Rows.{Named}
 use Rattle.std.specs.Prelude.{List, length, ℕ, ◌++◌, ◌+◌, ◌≡◌, ◌≤◌}
 
--- where the signal of the board in this window leaves by an end of a tape, this end may be doubled
+-- if the signal of the circuit in this window leaves by an end of a tape, this end may be doubled
 pub record MayWiden (w : Limits) (tape : ℕ) (side : Side) : Type 0 where
   pub end : IsEnd tape side
   pub some : 1 ≤ number_at w tape side
   pub low : number_at w tape side ≤ 524288
 
--- so many rounds aren't too many, the window to which they lead may be asked for, the word fits in it, and it may be
+-- there are not too many rounds, the window that they reach is within the limits, the word fits in it, and it may be
 -- widened
 pub record GoesOn (p : Program) (symbols : List ℕ) (rounds : ℕ) (w : Limits) : Type 0 where
   pub few : rounds ≤ MOST_ELEMENTS + 1
@@ -49,7 +49,7 @@ RoundsGoOn =
     → (n : ℕ) (w : Limits) (told : List Place) → MakeRounds t.machine symbols n (first_window symbols) w told
     → GoesOn t.machine symbols n w
 
--- whatever rounds are made, their places begin those of an answer to the search
+-- whatever rounds are made, their places are the first of those of an answer to the search
 pub record BeginsSearch (t : Named) (symbols : List ℕ) (front : List Place) : Type 0 where
   pub status : Status
   pub text : List ℕ
@@ -68,8 +68,8 @@ RoundsBeginSearches =
 
 pub record Laws : Type 0 where
   -- The replies of `machine` and `bennett` to a table whose machine is in standard form, and those of `step` and `back`
-  -- to a text that spells a configuration: how the machine's own run comes out, the table of its reversible machine,
-  -- and the text of the configuration to which, or from which, the circuit goes.
+  -- to a text that spells a configuration: how the machine's own run ends, the table of its reversible machine, and the
+  -- text of the configuration to which, or from which, the circuit goes.
   pub commands_tell : MachineRepliesTell × BennettRepliesTell × StepRepliesTell × BackRepliesTell
   -- The control of Bennett's reversible machine has 12N - 2N' + 4(f - 1) + 8z + 16 states, for N quintuples, N' of them
   -- without a shift, f states and z symbols, less one for each state other than the start that is no quintuple's next,
@@ -77,77 +77,77 @@ pub record Laws : Type 0 where
   pub controls_are_counted : ControlsAreCounted
   -- The elements of a machine's network are counted by the machine and its limits alone.
   pub elements_are_counted : ElementsAreCounted
-  -- Where the sink took the reply to a run, it took what the machine's own bounded run names.
+  -- If the sink received the reply to a run, it received what the machine's own bounded run names.
   pub replies_tell_machine : RepliesTellMachine
-  -- The circuits of one to four increments have so many elements.
+  -- The circuits of one to four increments have this many elements.
   pub increments_are_counted : IncrementsAreCounted
-  -- The machine of k increments has such a run, and its circuit isn't too large.
+  -- The machine of k increments has such a run, and its circuit is not too large.
   pub increments_run : IncrementsRun
-  -- What tells the outcome of the run of k increments tells that it halts after 10k + 1 steps with 11 + k.
+  -- What reports the outcome of the run of k increments reports that it halts after 10k + 1 steps with 11 + k.
   pub generated_tells_machine : GeneratedTellsMachine
-  -- A table in standard form, a word that fits and limits that may be asked for have an own run, and only one.
+  -- A table in standard form, a word that fits and limits within their bounds have an own run, and only one.
   pub own_runs_are_one : OwnRunsAreOne
   -- The signal is inside below the cost and outside at it, and steps back lead back, from the exit to the start.
   pub boards_return : BoardsReturn
-  -- Two answers to the same words and bytes, which ask for a run without a greatest number of steps and have an own
-  -- run, have one status, where the headline holds of both, and one text, or two that differ in the number of element
+  -- Two answers to the same arguments and bytes, which ask for a run without a greatest number of steps and have an own
+  -- run, have one status, if the headline holds for both, and one text, or two that differ in the number of element
   -- steps alone.
   pub headlines_agree : HeadlinesAgree
-  -- What tells the headline of the boards tells that by the circuit.
+  -- The headline of the circuits implies the headline by the circuit.
   pub headline_tells_circuit : HeadlineTellsCircuit
-  -- What tells the headline where the window is found tells it by the machine alone, and by the circuit; and the search
-  -- by the machine alone ends.
+  -- What reports the automatic window reports it by the machine alone, and by the circuit; and the search by the
+  -- machine alone ends.
   pub found_tells_machine : FoundTellsMachine × OwnSearchEnds
-  -- The board that is flattened from the network of a translation is the machine's board, at its start.
+  -- The circuit that is flattened from the network of a translation is the machine's circuit, at its start.
   pub flattened_boards_are_flats : FlattenedBoardsAreFlats
-  -- The board that is flattened from the network of a translation runs to the exit that the one-tape machine's own run
-  -- names.
+  -- The circuit that is flattened from the network of a translation runs to the exit that the one-tape machine's own
+  -- run names.
   pub flattened_boards_run_to_their_exit : FlattenedBoardsRunToTheirExit
-  -- Where the run of an assembled network stops, `stuck_of` names the machine's state and the symbol.
+  -- If the run of an assembled network stops, `stuck_of` names the machine's state and the symbol.
   pub stops_are_named : StopsAreNamed × NamedStopsAreEnds × StuckRunsAreNamed
   -- The machine of a translation meets the control's condition, in standard form or not.
   pub translations_have_controls : TranslationsHaveControls
-  -- The boards of the machine of k increments on 1011 have so many elements, which aren't too many, and are there.
+  -- The circuits of the machine of k increments on 1011 have this many elements, which are not too many, and exist.
   pub generated_boards_are_there : GeneratedControlsAreCounted × GeneratedBoardsAreCounted × GeneratedBoardsAreThere
   -- The machine of k increments halts on 1011 after 10k + 1 steps, with k more.
   pub generated_runs_halt : GeneratedRunsHalt
-  -- A bounded run comes out at one of four ends alone.
+  -- A bounded run ends in one of four ways alone.
   pub ends_are_four : EndsAreFour
   -- Each doubling adds at least one cell.
   pub cells_grow : CellsGrow
-  -- A board has at least 22 elements for each of its cells, and each doubling adds at least 22.
+  -- A circuit has at least 22 elements for each of its cells, and each doubling adds at least 22.
   pub elements_grow : ElementsGrow
-  -- A window whose board isn't too large can be widened at each end.
+  -- A window whose circuit is not too large can be widened at each end.
   pub numbers_stay_low : NumbersStayLow
   -- The search for a window ends.
   pub search_ends : SearchEnds
   -- The search for a window makes at most one round more than the greatest number of elements.
   pub search_is_short : SearchIsShort
-  -- The search for a window has one finding, after one number of rounds.
+  -- The search for a window has one result, after one number of rounds.
   pub search_is_one : SearchIsOne
-  -- Each window on the way has numbers from 1 on and room for the word, and may be asked for where the word is no
+  -- Each window on the way has numbers from 1 on and room for the word, and is within the limits if the word is no
   -- longer than a number may be.
   pub windows_are_whole : WindowsAreWhole
-  -- A window that is found is one in which the machine halts or is stuck.
+  -- In the window that is found the machine halts or is stuck.
   pub found_comes_out : FoundComesOut
-  -- Where no window is found, the last board is too large.
+  -- If no window is found, the last circuit is too large.
   pub large_is_too_large : LargeIsTooLarge
-  -- The rounds on the boards are those of the search by the machine's own bounded runs.
+  -- The rounds on the circuits are those of the search by the machine's own bounded runs.
   pub rounds_are_the_searchs : RoundsAreTheSearchs
-  -- To all words and bytes `run =W auto` has an answer, and only one.
+  -- For all words and bytes `run =W auto` has an answer, and only one.
   pub auto_has_one_reply : AutoIsSettled
-  -- What is answered tells what the search by the machine's own bounded runs finds.
+  -- The answer reports what the search by the machine's own bounded runs finds.
   pub autos_tell_findings : AutosTellFindings
-  -- The places told are those of the board in each window of the search in turn, up to its cost.
+  -- The places are those of the circuit in each window of the search in turn, up to its cost.
   pub autos_tell_places : AutosTellPlaces
   -- The status is never that of a window, and never that of a run cut short.
   pub autos_end_inside : AutosEndInside
-  -- The headline for a window that is found follows from the answer, where the sink takes it whole.
+  -- The headline of the automatic window follows from the answer, if the sink receives it whole.
   pub answers_tell_found_window : AnswersTellFoundWindow
-  -- Whatever rounds are made from the first window on, their places begin what is told in the answer.
+  -- Whatever rounds are made from the first window on, their places are the first of those in the answer.
   pub rounds_begin_answers : RoundsBeginAnswers
-  -- Whatever rounds are made, there are not too many of them, the window to which they lead may be asked for, and where
-  -- the signal of its board leaves by an end of a tape, this end may be doubled.
+  -- Whatever rounds are made, there are not too many of them, the window that they reach is within the limits, and if
+  -- the signal of its circuit leaves by an end of a tape, this end may be doubled.
   pub rounds_go_on : RoundsGoOn
   -- Whatever rounds are made, there is an answer to the search whose places begin with theirs.
   pub rounds_begin_searches : RoundsBeginSearches

@@ -26,7 +26,8 @@ use Rattle.bn_headline.specs.Elements.{elements, most_steps}
 -- ---- what the machine does
 
 -- The bytes read as a table whose machine is in standard form, the word is made of its letters and fits the window, the
--- limits may be asked for, and after i steps the machine's own run from the word in that window comes out so.
+-- limits are within their bounds, and after i steps the machine's own run from the word in that window has this
+-- outcome.
 pub record IsOwnRun (bytes word : List ℕ) (l : Limits) (t : Named) (symbols : List ℕ) (i : ℕ) (o : Outcome) :
     Type 0 where
   pub given : IsGiven bytes word l t symbols
@@ -42,9 +43,9 @@ AreTapes t l text = (one : SpelledTape) × (two : SpelledTape) × (three : Spell
     × Spans l.left l.right t.machine.symbols one × Spans 0 l.steps (length t.machine.quints + 1) two
     × Spans 0 l.output t.machine.symbols three × (text ≡ tape_line t 1 one ++ tape_line t 2 two ++ tape_line t 3 three)
 
--- The lines behind that of the steps. Where the machine halts after i steps with the output y, they are 4i + 4L + 5
--- steps of the reversible machine, for the L letters of y; the word again on tape 1, a blank history, y alone on tape
--- 3, each head at cell 0; and the output. Where it is stuck or has no room, they are the tapes then.
+-- The lines after that of the steps. If the machine halts after i steps with the output y, they are 4i + 4L + 5 steps
+-- of the reversible machine, for the L letters of y; the word again on tape 1, a blank history, y alone on tape 3, each
+-- head at cell 0; and the output. If it is stuck or has no room, they are the tapes then.
 abbrev pub AreLastLines : Named → Limits → List ℕ → ℕ → Outcome → List ℕ → Type 0
 AreLastLines t l symbols i (Halted y) text =
     text ≡ quadruple_line (4 * i + 4 * length y + 5)
@@ -52,13 +53,13 @@ AreLastLines t l symbols i (Halted y) text =
 AreLastLines t l symbols i o text =
     (x : Tape × Tape × Tape) × HasEndTapes t.machine symbols l i o x × (text ≡ tapes_text t l x)
 
--- The signal makes at least so many element steps: where the machine halts, one for each step of the reversible
--- machine; elsewhere at least 0, which says nothing.
+-- The signal makes at least this many element steps: if the machine halts, one for each step of the reversible machine;
+-- otherwise at least 0, which says nothing.
 abbrev pub least_steps : ℕ → Outcome → ℕ
 least_steps i (Halted y) = 4 * i + 4 * length y + 5
 least_steps i _ = 0
 
--- The text and the status of a signal that came after so many steps to the exit that the outcome names.
+-- The text and the status of a signal that left after this many steps by the exit that the outcome names.
 pub record TellsExit (t : Named) (l : Limits) (symbols : List ℕ) (i : ℕ) (o : Outcome) (cost : ℕ) (status : Status)
     (text : List ℕ) : Type 0 where
   pub last : List ℕ
@@ -66,8 +67,8 @@ pub record TellsExit (t : Named) (l : Limits) (symbols : List ℕ) (i : ℕ) (o 
   pub text_is : text ≡ elements_line (elements t.machine l) ++ (outcome_line t o ++ (steps_line cost ++ last))
   pub status_is : status ≡ outcome_status o
 
--- The text and the status of a signal that is still inside after e steps: about to enter one of the four lines of one
--- of the elements. Which one it is, is open here, and so is what the three tapes show.
+-- The text and the status of a signal that is still inside after e steps: about to enter one of the four ports of one
+-- of the elements. Which one it is, is left open here, and so is what the three tapes show.
 pub record TellsInside (t : Named) (l : Limits) (e : ℕ) (status : Status) (text : List ℕ) : Type 0 where
   pub place : Line
   pub element : place.element < elements t.machine l
@@ -78,7 +79,7 @@ pub record TellsInside (t : Named) (l : Limits) (e : ℕ) (status : Status) (tex
       ++ (steps_line e ++ last))
   pub status_is : status ≡ Inside
 
--- With a greatest number e of steps: the exit, where the signal comes to it in so many, and else where it is then.
+-- With a greatest number e of steps: the exit, if the signal reaches it in e steps, and otherwise where it is then.
 pub record TellsExitWithin (e : ℕ) (t : Named) (l : Limits) (symbols : List ℕ) (i : ℕ) (o : Outcome) (cost : ℕ)
     (status : Status) (text : List ℕ) : Type 0 where
   pub ended : cost ≤ e → TellsExit t l symbols i o cost status text
@@ -86,8 +87,8 @@ pub record TellsExitWithin (e : ℕ) (t : Named) (l : Limits) (symbols : List �
 
 -- ---- what the sink took
 
--- The sink took a text, and it and the status tell the run of a signal that makes `cost` element steps to its exit,
--- which are from `fewest` to `most`.
+-- The sink received a text, and it and the status report the run of a signal that makes `cost` element steps to its
+-- exit, from `fewest` to `most`.
 pub record TookRun (tells : ℕ → Status → List ℕ → Type 0) (fewest most : ℕ) (status : Status)
     (taken took : Option (List ℕ)) : Type 0 where
   pub cost : ℕ
@@ -97,8 +98,8 @@ pub record TookRun (tells : ℕ → Status → List ℕ → Type 0) (fewest most
   pub told : tells cost status text
   pub grows : Grows taken took text
 
--- A circuit with too many elements is refused with their number and the status of a size, and any other is run, which
--- is told as `tells` says.
+-- A circuit with too many elements is refused with their number and the status of a size; any other is run, and
+-- reported as `tells` says.
 pub record TookAnswer (tells : ℕ → Status → List ℕ → Type 0) (p : Program) (l : Limits) (i : ℕ) (o : Outcome)
     (status : Status) (taken took : Option (List ℕ)) : Type 0 where
   pub large : MOST_ELEMENTS < elements p l → (status ≡ Size) × Grows taken took (large_line (elements p l))
@@ -106,18 +107,17 @@ pub record TookAnswer (tells : ℕ → Status → List ℕ → Type 0) (p : Prog
 
 -- ---- the headline
 
--- Where the words are `run`, a word and four limits, and the bytes are within the limit of an input: however the
--- machine's own bounded run comes out, the answer tells it.
+-- If the arguments are `run`, a word and four limits, and the bytes are within the limit of an input, then however the
+-- machine's own bounded run ends, the answer reports it.
 unfoldable pub MachineHeadline : List (List ℕ) → List ℕ → Status → Option (List ℕ) → Option (List ℕ) → Type 0
 MachineHeadline words bytes status taken took =
     (word : List ℕ) (l : Limits) → words ≡ run_words word l [] → length bytes ≤ MOST_INPUT_BYTES
     → (t : Named) (symbols : List ℕ) (i : ℕ) (o : Outcome) → IsOwnRun bytes word l t symbols i o
     → TookAnswer (TellsExit t l symbols i o) t.machine l i o status taken took
 
--- Where the words are `run`, a word, four limits and a greatest number of element steps, e, which is none above the
--- greatest number that may be asked for, and the bytes are within the limit of an input: the answer tells how the
--- machine's own bounded run comes out, where the signal comes to its exit in e steps or fewer, and else where it is
--- after e steps.
+-- If the arguments are `run`, a word, four limits and a greatest number e of element steps within its bound, and the
+-- bytes are within the limit of an input, the answer reports how the machine's own bounded run ends if the signal
+-- reaches its exit in e steps or fewer, and otherwise where it is after e steps.
 unfoldable pub MachineHeadlineWithin : List (List ℕ) → List ℕ → Status → Option (List ℕ) → Option (List ℕ) → Type 0
 MachineHeadlineWithin words bytes status taken took =
     (word : List ℕ) (l : Limits) (e : ℕ) → words ≡ run_words word l (decimal e ∷ []) → e ≤ greatest

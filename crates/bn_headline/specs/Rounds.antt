@@ -1,4 +1,4 @@
--- What comes of a round of the search, and of the rounds made so far.
+-- The result of a round of the search, and of the rounds made so far.
 use Rattle.std.specs.Prelude.{◌≡◌, ◌≢◌, ℕ, List, ◌++◌, Option, None, Result, IfOk, OnErr}
 use Rattle.bn_circuits.specs.Stepping.{places}
 use Rattle.bn_circuits.specs.declared.place.Place.{Place}
@@ -22,7 +22,7 @@ use Rattle.bn_headline.specs.AutoReply.{MakeRounds, found_line}
 use Rattle.bn_headline.specs.declared.round.Round.{Round}
 use Rattle.bn_headline.specs.declared.round.Round.TheVariants.{Ended, Short}
 
--- The board in this window: its signal leaves by this end of a tape. A watch is told the place after each step.
+-- The circuit in this window: its signal leaves by this end of a tape. A watch is told the place after each step.
 pub record LeavesBy (p : Program) (symbols : List ℕ) (w : Limits) (tape : ℕ) (side : Side)
     (told : List Place) : Type 0 where
   pub flat : Flat
@@ -30,7 +30,7 @@ pub record LeavesBy (p : Program) (symbols : List ℕ) (w : Limits) (tape : ℕ)
   pub leaves : IsNamedExit flat.layout (reached flat None).place (exits.Window tape side)
   pub told_is : told ≡ places flat.circuit (budget flat None) (flat_start flat)
 
--- the same of a board, as its layout tells it
+-- the same for a circuit, by its layout
 pub record RanBy (f : Flat) (tape : ℕ) (side : Side) (told : List Place) : Type 0 where
   pub leaves : IsExit f.layout (reached f None).place (exits.Window tape side)
   pub told_is : told ≡ places f.circuit (budget f None) (flat_start f)
@@ -51,13 +51,13 @@ IsRoundOf tells leaves (Ended reply) told heard = IsReplied tells reply told hea
 IsRoundOf tells leaves (Short tape side) told heard =
     (places : List Place) × leaves tape side places × Hears told places heard
 
--- and where memory was wanting, no place was heard, or places of an answer from the first on
+-- and if memory ran out, no place was heard, or the first places of an answer
 pub record IsRun (tells : Status → List ℕ → List Place → Type 0) (leaves : ℕ → Side → List Place → Type 0)
     (result : Result Round NoMemory) (told heard : Option (List Place)) : Type 0 where
   pub came : IfOk result (λ r. IsRoundOf tells leaves r told heard)
   pub interrupted : OnErr result (IsUnfinished tells told heard)
 
--- so many rounds have led from the first window to this one, and a watch has heard the places of all of them
+-- this many rounds have led from the first window to this one, and a watch has heard the places of all of them
 pub record HasCome (p : Program) (symbols : List ℕ) (rounds : ℕ) (w : Limits)
     (told heard : Option (List Place)) : Type 0 where
   pub before : List Place

@@ -30,8 +30,8 @@ pub record IsNamedStop (v : Controlled) (s : Situation) (a c : ℕ) : Type 0 whe
   pub stuck : IsStuckAt v number line a c
   pub only : (b d : ℕ) → IsStuckAt v number line b d → (b ≡ a) × (d ≡ c)
 
--- where an assembled network has come to its end because the machine is stuck, this names the machine's state and the
--- symbol of the tape that it reads first
+-- if an assembled network has ended because the machine is stuck, this names the machine's state and the symbol of the
+-- tape that it reads first
 abbrev pub StopsAreNamed : Type 0
 StopsAreNamed =
     (m : Quadruples) (l : Limits) (word : List ℕ) (names : List ControlState) (a : Assembled) → IsQuadMachine m
@@ -46,8 +46,8 @@ NamedStopsAreEnds =
     → (is : IsAssembled m l word names a) → (s : Situation) (b c : ℕ) → IsNamedStop is.control s b c
     → IsAtEnd (network_of a) s
 
--- Where the one-tape machine's own run is stuck in state j at symbol c, the network that is assembled for its
--- translation runs from its start to a pair of which it says: stuck in the state that computes in j, at c.
+-- If the one-tape machine's own run is stuck in state j at symbol c, the network that is assembled for its translation
+-- runs from its start to a pair of which it says: stuck in the state that computes in j, at c.
 abbrev pub StuckRunsAreNamed : Type 0
 StuckRunsAreNamed =
     (p : Program) (l : Limits) (word : List ℕ) (t : Translation) (names : List ControlState) (a : Assembled)

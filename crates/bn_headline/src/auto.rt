@@ -1,4 +1,4 @@
-//! The command `run` where the program is to find the window.
+//! The command `run` with the automatic window.
 
 ghost use Rattle.std.specs.Prelude.{◌≢◌, IfOk, OnErr};
 ghost use Rattle.bn_reply.specs.Replying.{IsReplied, IsUnfinished};
@@ -16,11 +16,11 @@ use bn_reply_boards::{OpenedMachine, open_machine};
 use bn_table::Table;
 use std::alloc::Global;
 
-/// What `run` answers to a word and some bytes where it is to find the window: whether they are a table with a machine
-/// in standard form, the word is one of its letters, and there aren't too many; and then, from the first window on, how
-/// the signal runs on the board of each window to its exit, until it leaves by no end of a tape, or the next board
-/// would have too many elements. The watch is told the places of all rounds one after another. The answer tells what
-/// the search by the machine's own bounded runs finds.
+/// What `run` with `auto` answers to a word and some bytes: whether they are a table with a machine in standard form,
+/// the word is one of its letters, and it does not have too many; and then, from the first window on, how the signal
+/// runs on the circuit of each window to its exit, until it leaves by no end of a tape, or the next circuit would have
+/// too many elements. The watch is told the places of all rounds one after another. The answer reports what the search
+/// by the machine's own bounded runs finds.
 pub fn reply_run_auto<W: Watch>(
     alloc: Global,
     word: &[u8],
@@ -58,7 +58,7 @@ fn answer_auto<W: Watch>(
     }
 }
 
-// What is answered of a table's machine, by its translation, and a word of these symbols.
+// The answer for a table's machine, by its translation, and a word of these symbols.
 fn auto_symbols<W: Watch>(
     alloc: Global,
     table: &Table,

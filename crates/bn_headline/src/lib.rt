@@ -1,5 +1,5 @@
-//! The headline by the machine alone: what `run` and `generate` print is what the machine's own bounded run names, in
-//! a window that is given or that the search finds. Definitions and laws; no code.
+//! The headline by the machine alone: what `run` and `generate` print is what the machine's own bounded run names, in a
+//! given window or in the automatic one; and `run =W auto` itself.
 #![tactic(auto)]
 
 mod auto;

@@ -23,16 +23,16 @@ use bn_reply_boards::{OpenedWindow, Ran, open_window, run_to_exit, status_of, te
 use bn_table::Table;
 use std::alloc::Global;
 
-/// What comes of a round.
+/// The result of a round.
 #[derive(Drop)]
 pub(crate) enum Round {
-    /// The answer: the board would be too large, or its signal left by no end of a tape.
+    /// The answer: the circuit would be too large, or its signal left by no end of a tape.
     Ended(Reply),
     /// The signal left by this end of a tape.
     Short(u32, Side),
 }
 
-// The board in this window runs to its exit, where it isn't too large. The watch is told the place after each step.
+// The circuit in this window runs to its exit, unless it is too large. The watch is told the place after each step.
 pub(crate) fn run_round<W: Watch>(
     alloc: Global,
     table: &Table,
@@ -57,7 +57,7 @@ pub(crate) fn run_round<W: Watch>(
     }
 }
 
-// What comes of a board at its start in this window.
+// The result for a circuit at its start in this window.
 fn run_window<W: Watch>(
     alloc: Global,
     table: &Table,
@@ -87,7 +87,7 @@ fn run_window<W: Watch>(
     }
 }
 
-// The text where the window was found: its line, and the text of the run.
+// The text if the window is found: its line, and the text of the run.
 fn found_text(
     alloc: Global,
     table: &Table,
@@ -116,7 +116,7 @@ fn found_text(
     Ok(text)
 }
 
-// The line of the window that was found.
+// The line of the automatic window.
 fn found_line(alloc: Global, windows: &Windows) -> Result<Vec<u8>, NoMemory>
     ensures { IfOk result (λ text. text.items ≡ found_line (limits_of windows.now)) }
 {

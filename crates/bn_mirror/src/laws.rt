@@ -1,7 +1,7 @@
-//! Laws on mirrors. The function does nothing: its contract is the laws.
+//! The laws on inverse circuits. The function does nothing: its contract is the laws.
 ghost use Rattle.bn_mirror.specs.Laws.{Laws};
 
-/// Laws on mirrors, a named field each.
+/// The laws on inverse circuits, a named field each.
 pub fn mirror_laws()
     ensures { Laws }
 {}

@@ -1,4 +1,4 @@
-//! The mirror of a circuit of rotary elements: a circuit whose steps are the steps back of the first.
+//! The inverse circuit (`mirror`) of a circuit of rotary elements: a circuit whose steps undo the steps of the first.
 #![tactic(auto)]
 
 mod laws;

@@ -1,4 +1,4 @@
-//! The mirror of a net in a configuration.
+//! The inverse circuit of a circuit in a configuration.
 
 ghost use Rattle.std.specs.Prelude.{◌≡◌, ◌+◌, ◌*◌, ◌<◌, ◌≤◌, length, IfOk, OnOk};
 ghost use Rattle.bn_element.specs.Inverse.{exchanged};
@@ -17,9 +17,9 @@ use bn_lists::NoMemory;
 use bn_netlist::NetConfig;
 use std::alloc::Global;
 
-/// The mirror of a net in a configuration that may be spelled in its version: a net of the same elements whose steps
-/// are the steps back of the first, at the place that mirrors the first's, with no steps counted. It has the same
-/// version, and may be spelled in it. (This project's own profile.)
+/// The inverse circuit of a circuit in a configuration that can be written in its version: a circuit of the same
+/// elements whose steps undo the steps of the first, at the place that corresponds to the first's, with no steps
+/// counted. It has the same version, and can be written in it. (This project's own definition.)
 pub fn mirror(alloc: Global, config: &NetConfig) -> Result<NetConfig, NoMemory>
     requires { Admits config.now.version (spelling_of config.now) }
     ensures mirrored { IfOk result (λ m. IsMirror (spelling_of config.now) (spelling_of m)) }
@@ -42,7 +42,7 @@ pub fn mirror(alloc: Global, config: &NetConfig) -> Result<NetConfig, NoMemory>
     })
 }
 
-// The wires of the mirror.
+// The wires of the inverse circuit.
 fn mirrored_wires(alloc: Global, net: &Net<Rotary>) -> Result<Vec<Wire>, NoMemory>
     requires { length net.now.elements ≤ MOST_ELEMENTS }
     ensures wires { IfOk result (λ listed. AreWiresOf (IsMirroredWire net.now.wires) listed.items) }
@@ -55,7 +55,7 @@ fn mirrored_wires(alloc: Global, net: &Net<Rotary>) -> Result<Vec<Wire>, NoMemor
     Ok(wires)
 }
 
-// The wires of the four outputs of an element, mirrored.
+// The wires of the four outputs of an element, inverted.
 fn push_wires(wires: &mut Vec<Wire>, net: &Net<Rotary>, element: u32) -> Result<(), NoMemory>
     requires there { element < length net.now.elements }
     requires listed { IsListing net.now.wires (4 * element) wires.old.items }
@@ -67,7 +67,7 @@ fn push_wires(wires: &mut Vec<Wire>, net: &Net<Rotary>, element: u32) -> Result<
     push_wire(wires, net, element, WEST)
 }
 
-// The wire of one output, mirrored, where it has one.
+// The wire of one output, inverted, if it has one.
 fn push_wire(
     wires: &mut Vec<Wire>,
     net: &Net<Rotary>,
@@ -92,7 +92,7 @@ fn push_wire(
     }
 }
 
-// Where the signal is in the mirror.
+// The place of the signal in the inverse circuit.
 fn mirrored_place(net: &Net<Rotary>, place: Place) -> Place
     requires { IsPlace (rotary_circuit net.now) place }
     ensures { result ≡ mirrored_place net.now.wires place }

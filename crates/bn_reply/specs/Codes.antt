@@ -18,14 +18,14 @@ code_of Stuck = 10
 code_of Window = 11
 code_of Inside = 12
 
--- the status of an answer: neither a fault of the outside nor want of memory
+-- the status of an answer: neither a failure of the outside nor out of memory
 abbrev pub IsAnswer : Status → Type 0
 IsAnswer ReadFault = ⊥
 IsAnswer WriteFault = ⊥
 IsAnswer NoMemory = ⊥
 IsAnswer _ = Unit {0}
 
--- the status of a command's own answer: besides, the words have a form
+-- the status of a command's own answer: besides, the arguments have a form
 abbrev pub IsReplyStatus : Status → Type 0
 IsReplyStatus Usage = ⊥
 IsReplyStatus status = IsAnswer status

@@ -31,7 +31,7 @@ fault_line (faults.TooMany i) = record_line i (codes "too many")
 fault_line faults.Empty = empty_line
 fault_line faults.NoMemory = []
 
--- the line of a demand of standard form that isn't met: S1 to S5 in their order, with the numbers of the quintuples
+-- the line of a condition of standard form that is not met: S1 to S5 in their order, with the numbers of the quintuples
 -- that show it, counted from 1
 abbrev pub why_line : Why → List ℕ
 why_line (whys.Repeat i j) = line (codes "machine: S1 " ∷ decimal i ∷ codes " " ∷ decimal j ∷ [])
@@ -45,11 +45,11 @@ why_line whys.NoMemory = []
 abbrev pub foreign_line : ℕ → List ℕ
 foreign_line p = line (codes "word: " ∷ decimal p ∷ [])
 
--- the line of a word of so many letters that is too long
+-- the line of a word of this many letters that is too long
 abbrev pub long_line : ℕ → List ℕ
 long_line count = line (codes "size: word needs " ∷ decimal count ∷ [])
 
--- the line of a machine's run that goes on after so many steps
+-- the line of a machine's run that goes on after this many steps
 abbrev pub running_line : ℕ → List ℕ
 running_line n = line (codes "running " ∷ decimal n ∷ [])
 

@@ -1,4 +1,4 @@
--- What comes of bytes that are to be a table, of a machine that is to be in standard form, and of a word.
+-- The results of opening bytes as a table, a machine as one in standard form, and a word.
 use Rattle.std.specs.Prelude.{◌≡◌, ℕ, List}
 use Rattle.bn_table.specs.Reading.{Reads}
 use Rattle.bn_table.specs.Rows.{Named}
@@ -15,24 +15,24 @@ use Rattle.bn_reply.specs.declared.opening.Judged.TheVariants as judged
 use Rattle.bn_reply.specs.declared.opening.OpenedWord.{OpenedWord}
 use Rattle.bn_reply.specs.declared.opening.OpenedWord.TheVariants as spelling
 
--- the bytes' table, or what is answered where there is none
+-- the bytes' table, or the answer if there is none
 abbrev pub IsOpenedTable : List ℕ → OpenedTable → Type 0
 IsOpenedTable bytes (table.Read t) = Reads bytes t
 IsOpenedTable bytes (table.Refused reply) = (reply.status ≡ statuses.Text) × TellsFault bytes reply.text.items
 
--- the table's machine, which is in standard form, or what is answered where it isn't
+-- the table's machine, which is in standard form, or the answer if it is not
 abbrev pub IsJudged : Named → Judged → Type 0
 IsJudged t (judged.Standard s) = (s ≡ t.machine) × IsStandard t.machine.quints
 IsJudged t (judged.Refused reply) = (reply.status ≡ statuses.Machine) × TellsWhy t reply.text.items
 
--- the answer tells the first place of the word that is foreign
+-- the answer names the first place of the word that is foreign
 pub record IsForeign (t : Named) (word : List ℕ) (reply : Reply) : Type 0 where
   pub refused : reply.status ≡ statuses.Word
   pub place : ℕ
   pub first : IsFirstForeign t word place
   pub told : reply.text.items ≡ foreign_line place
 
--- the symbols of the word, or what is answered where it has none
+-- the symbols of the word, or the answer if it has none
 abbrev pub IsOpenedWord : Named → List ℕ → OpenedWord → Type 0
 IsOpenedWord t word (spelling.Symbols symbols) = IsSpelledBy t word symbols.items
 IsOpenedWord t word (spelling.Refused reply) = IsForeign t word reply

@@ -1,12 +1,12 @@
--- The outside of a command as one thing: what a source, a sink and a watch tell at a moment.
+-- The outside of a command as one value: what a source, a sink and a watch hold.
 use Rattle.std.specs.Prelude.{◌≡◌, ℕ, ◌+◌, List, [], length, Option, Some, IfSome}
 use Rattle.bn_io.specs.Faults.{CountsUnless}
 use Rattle.bn_circuits.specs.declared.place.Place.{Place}
 use Rattle.bn_io.specs.Told.{Loses, Grows}
 use Rattle.bn_circuits.specs.Watching.{Hears}
 
--- What the source has left and the sink has taken, where they tell it; the places that the watch tells; and how often
--- reading and writing failed so far.
+-- What the source has left and the sink has received, if they hold it; the places that the watch has heard; and how
+-- often reading and writing failed so far.
 pub record Outside : Type 0 where
   pub left : Option (List ℕ)
   pub taken : Option (List ℕ)
@@ -24,12 +24,12 @@ outside left taken told read_faults write_faults = record {
   write_faults = write_faults;
 }
 
--- In between, the sink took this text, and the watch heard these places.
+-- In between, the sink received this text, and the watch heard these places.
 pub record Gave (before after : Outside) (text : List ℕ) (places : List Place) : Type 0 where
   pub grows : Grows before.taken after.taken text
   pub hears : Hears before.told places after.told
 
--- No count of faults falls, and each is what it was unless the call fails for it: in reading, or in writing.
+-- No count of failures falls, and each is what it was unless the call fails for it: in reading, or in writing.
 pub record IsLater (fails_reading fails_writing : Type 0) (before after : Outside) : Type 0 where
   pub read : CountsUnless fails_reading before.read_faults after.read_faults
   pub write : CountsUnless fails_writing before.write_faults after.write_faults

@@ -1,4 +1,4 @@
--- What a command's reply is, for any answers of a command.
+-- The reply of a command, for any answers of a command.
 use Rattle.std.specs.Prelude.{◌≡◌, ℕ, List, [], ◌++◌, Option}
 use Rattle.bn_circuits.specs.declared.place.Place.{Place}
 use Rattle.bn_circuits.specs.Watching.{Hears}
@@ -12,7 +12,7 @@ pub record IsReplied (replies : Status → List ℕ → List Place → Type 0) (
   pub right : replies reply.status reply.text.items places
   pub hears : Hears told places heard
 
--- no reply for want of memory: nothing was told, or places of the answer from the first on
+-- no reply, since memory ran out: no place was told, or the first places of the answer
 pub data IsUnfinished (replies : Status → List ℕ → List Place → Type 0)
     (told heard : Option (List Place)) : Type 0 where
   untold : Hears told [] heard → IsUnfinished replies told heard

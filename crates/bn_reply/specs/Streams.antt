@@ -1,5 +1,5 @@
--- How a command ends that gives its answer to a sink, whole or in pieces, and how one does that reads its input from a
--- source besides. Here `replies` is what the command answers to an input.
+-- How a command ends that gives its answer to a sink, whole or in pieces, and how one does that also reads its input
+-- from a source. Here `replies` is what the command answers to an input.
 use Rattle.std.specs.Prelude.{◌≡◌, ℕ, ◌≤◌, List, [], ◌∷◌, ◌++◌, length, Option, codes}
 use Rattle.bn_circuits.specs.declared.place.Place.{Place}
 use Rattle.bn_io.specs.Faults.{Rose}
@@ -18,7 +18,7 @@ size_text = codes "size: input" ++ 10 ∷ []
 abbrev pub read_fault_text : List ℕ
 read_fault_text = codes "read fault" ++ 10 ∷ []
 
--- An answer was begun: the sink took a front of its text, and the watch heard a front of its places.
+-- An answer was begun: the sink received a prefix of its text, and the watch heard a prefix of its places.
 pub record IsBegun (replies : Status → List ℕ → List Place → Type 0) (taken took : Option (List ℕ))
     (told heard : Option (List Place)) : Type 0 where
   pub status : Status
@@ -37,8 +37,8 @@ pub data IsBroken (replies : Status → List ℕ → List Place → Type 0) (tak
   unbegun : Grows taken took [] → Hears told [] heard → IsBroken replies taken took told heard
   begun : IsBegun replies taken took told heard → IsBroken replies taken took told heard
 
--- How the answer of a command to its input ends: given whole; cut short by the sink; or not given, or not whole, for
--- want of memory.
+-- How the answer of a command to its input ends: given whole; cut short by the sink; or not given, or not whole, since
+-- memory ran out.
 pub data AnswerEnds (replies : Status → List ℕ → List Place → Type 0) (result : Status) (taken took : Option (List ℕ))
     (before now : ℕ) (told heard : Option (List Place)) : Type 0 where
   whole : (text : List ℕ) (places : List Place) → replies result text places → Grows taken took text →
@@ -48,7 +48,7 @@ pub data AnswerEnds (replies : Status → List ℕ → List Place → Type 0) (r
   wanting : result ≡ statuses.NoMemory → IsBroken replies taken took told heard →
       AnswerEnds replies result taken took before now told heard
 
--- What reading an input came to: all its bytes; more of them than the limit; a failure of the source; or want of
+-- The result of reading an input: all its bytes; more of them than the limit; a failure of the source; or out of
 -- memory.
 pub data Input : Type 0 where
   Whole : List ℕ → Input
@@ -63,13 +63,13 @@ Gives TooLong before after = GaveMore before.left after.left MOST_INPUT_BYTES
 Gives Failed before after = Rose before.read_faults after.read_faults
 Gives Unread before after = Unit {0}
 
--- this line was given, with this status, or the sink failed in it; and nothing was told
+-- this line was given, with this status, or the sink failed in it; and no place was told
 abbrev pub TellsLine : Status → List ℕ → Status → Outside → Outside → Type 0
 TellsLine status text result before after =
     Finishes status result before.taken after.taken before.write_faults after.write_faults text
     × Hears before.told [] after.told
 
--- how the command ends then: in its answer to the bytes; in the line that says why they weren't read; or before
+-- how the command ends then: in its answer to the bytes; in the line that says why they were not read; or before
 -- anything was given
 abbrev pub EndsAfter : Input → (List ℕ → Status → List ℕ → List Place → Type 0) → Status → Outside → Outside → Type 0
 EndsAfter (Whole bytes) replies result before after =
@@ -80,8 +80,8 @@ EndsAfter Failed replies result before after = TellsLine statuses.ReadFault read
 EndsAfter Unread replies result before after =
     (result ≡ statuses.NoMemory) × Grows before.taken after.taken [] × Hears before.told [] after.told
 
--- How a command ends that reads its input from a source and gives its answer to a sink: what reading came to, what the
--- source gave for it, what the sink took and the watch heard after it, and that no other failure was counted.
+-- How a command ends that reads its input from a source and gives its answer to a sink: the result of reading, what the
+-- source gave for it, what the sink received and the watch heard after it, and that no other failure was counted.
 pub record StreamEnds (replies : List ℕ → Status → List ℕ → List Place → Type 0) (result : Status)
     (before after : Outside) : Type 0 where
   pub input : Input

@@ -1,5 +1,5 @@
--- What the commands answer that take a table of quintuples in standard form, and those that take a word of its letters
--- as well (this project's own profile).
+-- The answers of commands that take a table of quintuples in standard form, and of those that also take a word of its
+-- letters (this project's own profile).
 use Rattle.std.specs.Prelude.{◌≡◌, ◌≢◌, ℕ, List, [], Option, Some}
 use Rattle.bn_circuits.specs.declared.place.Place.{Place}
 use Rattle.bn_csv.specs.Entries.{entries_of}
@@ -15,7 +15,7 @@ use Rattle.bn_reply.specs.Words.{IsFirstForeign, IsSpelledBy}
 use Rattle.bn_reply.specs.declared.status.Status.{Status}
 use Rattle.bn_reply.specs.declared.status.Status.TheVariants as statuses
 
--- There is no reading, and the text tells the first fault. Here T are the tables, and F the faults, each with its line.
+-- There is no reading, and the text names the first fault. Here T are the tables, and F the faults, each with its line.
 pub record TellsFirst {T F : Type 0} (IsReading : T → Type 0) (found : Option F) (line_of : F → List ℕ)
     (text : List ℕ) : Type 0 where
   pub unread : (t : T) → IsReading t → ⊥
@@ -23,18 +23,17 @@ pub record TellsFirst {T F : Type 0} (IsReading : T → Type 0) (found : Option 
   pub first : found ≡ Some fault
   pub told : text ≡ line_of fault
 
--- the bytes have no reading as a table of quintuples, and the text tells their first fault
+-- the bytes have no reading as a table of quintuples, and the text names their first fault
 abbrev pub TellsFault : List ℕ → List ℕ → Type 0
 TellsFault bytes text = TellsFirst (Reads bytes) (table_fault (entries_of bytes)) fault_line text
 
--- What is answered to these bytes, where `tells` is what is answered to a table: the fault of bytes that are no table,
--- or that.
+-- The answer to these bytes, where `tells` is the answer to a table: the fault of bytes that are no table, or that.
 pub data TableReplies (tells : Named → Status → List ℕ → List Place → Type 0) (bytes : List ℕ) (status : Status)
     (text : List ℕ) (told : List Place) : Type 0 where
   faulty : TellsFault bytes text → status ≡ statuses.Text → told ≡ [] → TableReplies tells bytes status text told
   read : (t : Named) → Reads bytes t → tells t status text told → TableReplies tells bytes status text told
 
--- the table's machine isn't in standard form, and the text tells the first demand that it doesn't meet
+-- the table's machine is not in standard form, and the text names the first condition that it does not meet
 pub record TellsWhy (t : Named) (text : List ℕ) : Type 0 where
   pub unfit : IsStandard t.machine.quints → ⊥
   pub why : Why
@@ -42,20 +41,20 @@ pub record TellsWhy (t : Named) (text : List ℕ) : Type 0 where
   pub said : why ≢ whys.NoMemory
   pub told : text ≡ why_line why
 
--- What is answered to a table, where `tells` is what is answered where its machine is in standard form: the demand that
--- it doesn't meet, or that.
+-- The answer to a table, where `tells` is the answer if its machine is in standard form: the condition that it does not
+-- meet, or that.
 pub data JudgedReplies (tells : Status → List ℕ → List Place → Type 0) (t : Named) (status : Status) (text : List ℕ)
     (told : List Place) : Type 0 where
   unfit : TellsWhy t text → status ≡ statuses.Machine → told ≡ [] → JudgedReplies tells t status text told
   fit : IsStandard t.machine.quints → tells status text told → JudgedReplies tells t status text told
 
--- what is answered to these bytes, where `tells` is what is answered to a table with a machine in standard form
+-- the answer to these bytes, where `tells` is the answer to a table with a machine in standard form
 abbrev pub StandardReplies : (Named → Status → List ℕ → List Place → Type 0) → List ℕ → Status → List ℕ → List Place →
     Type 0
 StandardReplies tells = TableReplies (λ t. JudgedReplies (tells t) t)
 
--- What is answered to a word, where `tells` is what is answered to the symbols that spell it: the first place that is
--- foreign, or that.
+-- The answer to a word, where `tells` is the answer to the symbols that spell it: the first place that is foreign, or
+-- that.
 pub data WordReplies (tells : List ℕ → Status → List ℕ → List Place → Type 0) (t : Named) (word : List ℕ)
     (status : Status) (text : List ℕ) (told : List Place) : Type 0 where
   foreign : (p : ℕ) → IsFirstForeign t word p → text ≡ foreign_line p → status ≡ statuses.Word → told ≡ [] →

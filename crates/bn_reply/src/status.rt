@@ -1,16 +1,16 @@
-//! How a command came out.
+//! How a command ended.
 
 ghost use Rattle.std.specs.Prelude.{◌≡◌};
 ghost use Rattle.bn_reply.specs.Codes.{code_of};
 
-/// How a command of the workbench came out.
+/// How a command of the workbench ended.
 #[derive(Clone, Copy, PartialEq, Eq, Debug)]
 pub enum Status {
     /// The command's text was written.
     Done,
-    /// The words have none of the forms.
+    /// The arguments have none of the forms.
     Usage,
-    /// The input has no reading.
+    /// The input cannot be read as what the command takes.
     Text,
     /// The input's machine is not one that the command takes.
     Machine,
@@ -22,7 +22,7 @@ pub enum Status {
     ReadFault,
     /// The sink failed.
     WriteFault,
-    /// There was no memory.
+    /// Memory ran out.
     NoMemory,
     /// The run is stuck.
     Stuck,

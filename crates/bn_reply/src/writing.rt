@@ -10,7 +10,7 @@ use crate::status::Status;
 use bn_io::{Sink, write_all};
 use bn_lists::NoMemory;
 
-/// Writes a text and answers the status, or `WriteFault` where the sink failed.
+/// Writes a text and returns the status, or `WriteFault` if the sink failed.
 pub fn finish<K: Sink>(sink: &mut K, text: &[u8], status: Status) -> Status
     ensures ends { Finishes status result (K.taken sink.old) (K.taken sink.new) (K.faults sink.old)
         (K.faults sink.new) text.now }
@@ -22,8 +22,8 @@ pub fn finish<K: Sink>(sink: &mut K, text: &[u8], status: Status) -> Status
     }
 }
 
-/// Gives a reply and answers its status, or `WriteFault` where the sink failed; where there is no reply, gives nothing
-/// and answers `NoMemory`.
+/// Gives a reply and returns its status, or `WriteFault` if the sink failed; if there is no reply, gives nothing and
+/// returns `NoMemory`.
 pub fn give_reply<K: Sink>(sink: &mut K, reply: Result<Reply, NoMemory>) -> Status
     ensures ends { FinishesReply reply result (K.taken sink.old) (K.taken sink.new) (K.faults sink.old)
         (K.faults sink.new) }
@@ -35,7 +35,7 @@ pub fn give_reply<K: Sink>(sink: &mut K, reply: Result<Reply, NoMemory>) -> Stat
     }
 }
 
-/// Tells that the source failed.
+/// Reports that the source failed.
 pub fn tell_read_fault<K: Sink>(sink: &mut K) -> Status
     ensures ends { Finishes Status.ReadFault result (K.taken sink.old) (K.taken sink.new) (K.faults sink.old)
         (K.faults sink.new) read_fault_text }
@@ -44,7 +44,7 @@ pub fn tell_read_fault<K: Sink>(sink: &mut K) -> Status
     finish(sink, b"read fault\n", Status::ReadFault)
 }
 
-/// Tells that the input is longer than `MOST_INPUT_BYTES`.
+/// Reports that the input is longer than `MOST_INPUT_BYTES`.
 pub fn tell_long_input<K: Sink>(sink: &mut K) -> Status
     ensures ends { Finishes Status.Size result (K.taken sink.old) (K.taken sink.new) (K.faults sink.old)
         (K.faults sink.new) size_text }

@@ -1,4 +1,4 @@
--- What the laws of this crate say, each a field of `Laws`.
+-- The statements of this crate's laws, each a field of `Laws`.
 use Rattle.std.specs.Prelude.{◌≡◌, ℕ, List, ◌++◌}
 use Rattle.bn_circuits.specs.declared.place.Place.{Place}
 use Rattle.bn_machine.specs.Outcome.{Outcome}
@@ -17,15 +17,15 @@ use Rattle.bn_reply_boards.specs.GenerateReply.{GenerateReplies, digits, number,
 abbrev pub GenerateIsSettled : Type 0
 GenerateIsSettled = (k : ℕ) → IsRoundCount k → IsSettled (GenerateReplies k)
 
--- the text whose run it tells is that of the machine of k increments, in standard form, and the number is a word of its
--- letters
+-- the text whose run it reports is that of the machine of k increments, in standard form, and the number is a word of
+-- its letters
 abbrev pub GeneratedTablesAreGiven : Type 0
 GeneratedTablesAreGiven =
     (k : ℕ) → IsRoundCount k → IsGiven (increments_text k) number (window k) (increments_table k) digits
 
--- The text tells the run of the machine of k increments: whatever its own bounded run comes to, the signal comes in
--- exactly its cost to the exit of this outcome on every board of the machine, the number and the window, and the text
--- behind the first line tells this.
+-- The text reports the run of the machine of k increments: whatever the outcome of its own bounded run, the signal
+-- leaves in exactly its cost by the exit of this outcome on every circuit of the machine, the number and the window,
+-- and the text after the first line reports this.
 pub record TellsGenerated (k : ℕ) (status : Status) (text : List ℕ) : Type 0 where
   pub ran : List ℕ
   pub text_is : text ≡ title k ++ ran
@@ -40,7 +40,7 @@ pub record TellsGenerated (k : ℕ) (status : Status) (text : List ℕ) : Type 0
       → (f : Flat) → ComesTo (incrementer k) (window k) digits f
       → TellsOutcome (increments_table k) (window k) digits f i o status ran
 
--- what `generate` answers tells the outcome of the machine's own bounded run
+-- the answer of `generate` reports the outcome of the machine's own bounded run
 abbrev pub GeneratedRunsTellOutcomes : Type 0
 GeneratedRunsTellOutcomes =
     (k : ℕ) (status : Status) (text : List ℕ) (told : List Place) → IsRoundCount k

@@ -16,7 +16,7 @@ abbrev pub digits : List ℕ
 digits = 2 ∷ 1 ∷ 2 ∷ 2 ∷ []
 
 -- the window: no cell left of cell 0, five right of it, room for the machine's 10k + 1 steps, and an output of four
--- letters with the blank behind it
+-- letters followed by the blank
 abbrev pub window : ℕ → Limits
 window k = record { left = 0; right = 5; steps = 10 * k + 1; output = 5 }
 
@@ -24,7 +24,7 @@ window k = record { left = 0; right = 5; steps = 10 * k + 1; output = 5 }
 abbrev pub title : ℕ → List ℕ
 title k = line (codes "increments " ∷ decimal k ∷ [])
 
--- the first line, and behind it what `run` answers to the machine's table, that number and that window
+-- the first line, followed by what `run` answers to the machine's table, that number and that window
 pub record GenerateReplies (k : ℕ) (status : Status) (text : List ℕ) (told : List Place) : Type 0 where
   pub ran : List ℕ
   pub runs : RunReplies None number (window k) (increments_text k) status ran told

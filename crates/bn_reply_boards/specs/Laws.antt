@@ -2,10 +2,10 @@
 use Rattle.bn_reply_boards.specs.GenerateLaws.{GenerateIsSettled, GeneratedTablesAreGiven, GeneratedRunsTellOutcomes}
 
 pub record Laws : Type 0 where
-  -- To each number of increments `generate` has an answer, and only one.
+  -- For each number of increments `generate` has an answer, and only one.
   pub generate_has_one_reply : GenerateIsSettled
-  -- The text whose run is told is that of the machine of k increments, in standard form, and the number is a word of
-  -- its letters.
+  -- The text whose run is reported is that of the machine of k increments, in standard form, and the number is a word
+  -- of its letters.
   pub generated_tables_are_given : GeneratedTablesAreGiven
-  -- What `generate` answers tells the outcome of the machine's own bounded run.
+  -- The answer of `generate` reports the outcome of the machine's own bounded run.
   pub generated_runs_tell_outcomes : GeneratedRunsTellOutcomes

@@ -1,4 +1,4 @@
--- What comes of bytes, a word and limits that are to be made into a board.
+-- The result of opening bytes, a word and limits as a circuit.
 use Rattle.std.specs.Prelude.{◌≡◌, ℕ, ◌<◌, ◌≤◌, List, [], length}
 use Rattle.bn_circuits.specs.Circuits.{Circuit}
 use Rattle.bn_circuits.specs.declared.place.Place.TheVariants.{Enter, Left}
@@ -33,8 +33,8 @@ use Rattle.bn_reply_boards.specs.declared.opening.OpenedInput.TheVariants as inp
 use Rattle.bn_reply_boards.specs.declared.opening.OpenedWindow.{OpenedWindow}
 use Rattle.bn_reply_boards.specs.declared.opening.OpenedWindow.TheVariants as windows
 
--- This is the board of this network, which is that of the machine in these limits with these states of its control, at
--- the start of this configuration; and it hasn't too many elements.
+-- This is the circuit of this network, which is that of the machine in these limits with these states of its control,
+-- at the start of this configuration; and it does not have too many elements.
 pub record IsBoardFor (m : Quadruples) (l : Limits) (c : Configuration ℕ) (names : List ControlState)
     (network : Circuit) (b : Flattened) : Type 0 where
   pub numbering : IsNumbering m names
@@ -47,7 +47,7 @@ pub record IsBoardFor (m : Quadruples) (l : Limits) (c : Configuration ℕ) (nam
   pub end : b.end ≡ end_line b.layout
   pub kept : IsBoardKept b
 
--- the board of the machine in these limits would have too many elements, and the reply says so
+-- the circuit of the machine in these limits would have too many elements, and the reply says so
 pub record IsTooLarge (m : Quadruples) (l : Limits) (reply : Reply) : Type 0 where
   pub count : ℕ
   pub counts : assembled.CountsElements m l count
@@ -55,14 +55,14 @@ pub record IsTooLarge (m : Quadruples) (l : Limits) (reply : Reply) : Type 0 whe
   pub text : reply.text.items ≡ large_line count
   pub status : reply.status ≡ statuses.Size
 
--- the board of a machine at the start of a configuration, or what is answered where it is too large
+-- the circuit of a machine at the start of a configuration, or the answer if it is too large
 abbrev pub IsOpenedBoard : Quadruples → Limits → Configuration ℕ → OpenedWindow → Type 0
 IsOpenedBoard m l c (windows.Made b) =
     (names : List ControlState) × (network : Circuit) × IsBoardFor m l c names network b
 IsOpenedBoard m l c (windows.Refused reply) = IsTooLarge m l reply
 
--- The machine, the word of these symbols and the limits come to f, whose reversible machine is this translation; and
--- this is its board, at the start.
+-- The machine, the word of these symbols and the limits have the network f, whose reversible machine is this
+-- translation; and this is its circuit, at the start.
 pub record IsMade (p : Program) (l : Limits) (symbols : List ℕ) (f : Flat) (t : Translation)
     (b : Flattened) : Type 0 where
   pub comes : ComesTo p l symbols f
@@ -74,7 +74,7 @@ pub record IsMade (p : Program) (l : Limits) (symbols : List ℕ) (f : Flat) (t 
   pub end : Left b.end.element b.end.line ≡ end_place f.layout
   pub kept : IsBoardKept b
 
--- the board would have too many elements, and the reply says so
+-- the circuit would have too many elements, and the reply says so
 pub record IsLarge (p : Program) (l : Limits) (reply : Reply) : Type 0 where
   pub count : ℕ
   pub counts : CountsElements p l count
@@ -82,7 +82,7 @@ pub record IsLarge (p : Program) (l : Limits) (reply : Reply) : Type 0 where
   pub text : reply.text.items ≡ large_line count
   pub status : reply.status ≡ statuses.Size
 
--- the board of a translation that is there, or what is answered where it is too large
+-- the circuit of a given translation, or the answer if it is too large
 abbrev pub IsOpenedWindow : Program → Limits → List ℕ → Translation → OpenedWindow → Type 0
 IsOpenedWindow p l symbols t (windows.Made b) = (f : Flat) × IsMade p l symbols f t b
 IsOpenedWindow p l symbols t (windows.Refused reply) = IsLarge p l reply
@@ -96,13 +96,13 @@ pub record IsMachineAsked (bytes word : List ℕ) (t : Named) (m : Translation) 
   pub within : IsWithinLimits m.machine
   pub is_word : IsWordOf m.machine symbols
 
--- the machine and the symbols, or what is answered whatever is told of them
+-- the machine and the symbols, or the answer for every report on them
 abbrev pub IsOpenedMachine : List ℕ → List ℕ → OpenedMachine → Type 0
 IsOpenedMachine bytes word (machines.Made t m symbols) = IsMachineAsked bytes word t m symbols.items
 IsOpenedMachine bytes word (machines.Refused reply) =
     StandardReplies (λ t. WordReplies (λ symbols status text told. ⊥) t word) bytes reply.status reply.text.items []
 
--- the bytes, the word and the limits come to this board, by this table and its machine's translation
+-- the bytes, the word and the limits have this circuit, by this table and its machine's translation
 pub record IsBoardAsked (bytes word : List ℕ) (l : Limits) (t : Named) (m : Translation)
     (b : Flattened) : Type 0 where
   pub symbols : List ℕ
@@ -110,13 +110,13 @@ pub record IsBoardAsked (bytes word : List ℕ) (l : Limits) (t : Named) (m : Tr
   pub given : IsGiven bytes word l t symbols
   pub made : IsMade t.machine l symbols flat m b
 
--- the board, or what is answered whatever is told of boards
+-- the circuit, or the answer for every report on circuits
 abbrev pub IsOpenedInput : List ℕ → List ℕ → Limits → OpenedInput → Type 0
 IsOpenedInput bytes word l (inputs.Made t m b) = IsBoardAsked bytes word l t m b
 IsOpenedInput bytes word l (inputs.Refused reply) =
     WindowReplies (λ t f status text told. ⊥) word l bytes reply.status reply.text.items []
 
--- a board as it is spelled
+-- a circuit as it is spelled
 abbrev pub spelling_of_board : Flattened → Spelling
 spelling_of_board b = record {
   elements = length b.net.elements;

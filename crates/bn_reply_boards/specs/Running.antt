@@ -1,4 +1,4 @@
--- What comes of a board that runs, as the layout tells it.
+-- The results of running a circuit, as the layout gives them.
 use Rattle.std.specs.Prelude.{◌≡◌, ℕ, ◌-◌, List, Option, Some, None, Result, IfOk, OnErr}
 use Rattle.bn_circuits.specs.Stepping.{run, places}
 use Rattle.bn_circuits.specs.declared.place.Place.{Place}
@@ -20,13 +20,13 @@ use Rattle.bn_reply_relations.specs.RunReply.{budget, reached, exit_status}
 use Rattle.bn_reply_relations.specs.Laws.{found_text}
 use Rattle.bn_reply_boards.specs.Shown.{IsShown}
 
--- this translation and this board, which is at its start, are those of f
+-- this translation and this circuit, which is at its start, are those of f
 pub record IsAtStart (f : Flat) (m : Translation) (b : Flattened) : Type 0 where
   pub shown : IsShown f m b
   pub circuit : f.circuit ≡ rotary_circuit b.net
   pub config : b.config ≡ flat_start f
 
--- the greatest number of steps, and where a board comes to by it
+-- the greatest number of steps, and where a circuit is after it
 abbrev pub steps_for : Layout → Option ℕ → ℕ
 steps_for b None = bound_of b
 steps_for b (Some e) = e
@@ -34,8 +34,8 @@ steps_for b (Some e) = e
 abbrev pub end_by : Flattened → Option ℕ → Config
 end_by b given = run (rotary_circuit b.net) b.config (steps_for b.layout given)
 
--- where a board that was at the start of f has come to, in the words of f: its exit, the steps of the machine of
--- quadruples, and what a watch has heard
+-- where a circuit that was at the start of f is, in the terms of f: its exit, the steps of the machine of quadruples,
+-- and what a watch has heard
 pub record HasRun (given : Option ℕ) (f : Flat) (m : Translation) (d : Flattened) (e : Exit) (steps : ℕ)
     (told heard : Option (List Place)) : Type 0 where
   pub shown : IsShown f m d
@@ -53,7 +53,7 @@ pub record TellsFound (given : Option ℕ) (t : Named) (f : Flat) (status : Stat
   pub text_is : text ≡ found_text given t f exit
   pub told_is : told ≡ places f.circuit (budget f given) (flat_start f)
 
--- the reply of a command, or none for want of memory, and what a watch has heard then
+-- the reply of a command, or none since memory ran out, and what a watch has heard then
 pub record IsAnswered (replies : Status → List ℕ → List Place → Type 0) (result : Result Reply NoMemory)
     (told heard : Option (List Place)) : Type 0 where
   pub replied : IfOk result (λ r. IsReplied replies r told heard)

@@ -1,4 +1,4 @@
--- What the text of a run is made of: a table's names and letters, a translation's states, and what a board shows.
+-- The parts of the text of a run: a table's names and letters, a translation's states, and what a circuit shows.
 use Rattle.std.specs.Prelude.{◌≡◌, ◌≢◌, ℕ, ◌<◌, ◌++◌, List, All, length, Option, Some, None, codes}
 use Rattle.bn_table.specs.Rows.{Named}
 use Rattle.bn_bennett.specs.Translation.{Translation, name_of}
@@ -13,7 +13,7 @@ use Rattle.bn_board.specs.Flattened.{Flattened}
 use Rattle.bn_reply.specs.Lines.{position_text}
 use Rattle.bn_reply_relations.specs.RunText.{head_text}
 
--- this translation and this board are those of f
+-- this translation and this circuit are those of f
 pub record IsShown (f : Flat) (m : Translation) (b : Flattened) : Type 0 where
   pub translation : f.translation ≡ m
   pub layout : f.layout ≡ b.layout

@@ -21,8 +21,8 @@ use bn_reply_circuits::Unwritten;
 use std::alloc::Global;
 
 /// Answers `compile` to a word, a window and some bytes: whether they are a table with a machine in standard form, the
-/// word is one of its letters and fits, and the board hasn't too many elements; and then gives the sink the
-/// configuration text of the board at its start, in version 2 and in pieces.
+/// word is one of its letters and fits, and the circuit does not have too many elements; and then gives the sink the
+/// configuration text of the circuit at its start, in version 2 and in pieces.
 pub fn answer_compile<K: Sink>(
     alloc: Global,
     word: &[u8],
@@ -42,7 +42,7 @@ pub fn answer_compile<K: Sink>(
     }
 }
 
-// What `compile` answers, before it is written.
+// The answer of `compile`, before it is written.
 fn start_of(
     alloc: Global,
     word: &[u8],
@@ -58,7 +58,7 @@ fn start_of(
     }
 }
 
-/// A board as a configuration whose text is of version 2.
+/// A circuit as a configuration whose text is of version 2.
 pub fn board_config(board: Board) -> PackedConfig
     ensures version { result.version ≡ Version.Two }
     ensures spelling { spelling_of_packed result ≡ spelling_of_board board }

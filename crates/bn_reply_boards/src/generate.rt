@@ -19,7 +19,7 @@ use std::alloc::Global;
 const NUMBER: &[u8] = b"1011";
 
 /// What `generate` answers to a number of increments, from 1 to 4: a line with it, and then how the signal runs on the
-/// board of the machine of k increments and the word 1011, in a window of no cell left of cell 0, five right of it,
+/// circuit of the machine of k increments and the word 1011, in a window of no cell left of cell 0, five right of it,
 /// 10k + 1 steps, and an output of five cells. The watch is told the place after each step.
 pub fn reply_generate<W: Watch>(alloc: Global, k: u32, watch: &mut W) -> Result<Reply, NoMemory>
     requires { IsRoundCount k }
@@ -51,7 +51,7 @@ fn window_of(k: u32) -> Windows
     }
 }
 
-// The first line and the run behind it.
+// The first line, and the run after it.
 fn run_behind<W: Watch>(
     alloc: Global,
     first_line: Vec<u8>,

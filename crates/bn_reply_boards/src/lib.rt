@@ -1,4 +1,4 @@
-//! What the commands answer that make a machine, a word and a window into a board: `compile`, `run` and
+//! The answers of the commands that turn a machine, a word and a window into a circuit: `compile`, `run` and
 //! `generate`; and the pieces of their texts that other commands share.
 #![tactic(auto)]
 

@@ -11,7 +11,7 @@ use bn_network::CellLine;
 use bn_reply::{NoMemory, push};
 use bn_table::Table;
 
-/// Appends the name of a cell's line. After `NoMemory` a front of the name may stand behind the text.
+/// Appends the name of a cell's line. After `NoMemory` a prefix of the name may follow the text.
 pub fn push_cell_line(text: &mut Vec<u8>, line: CellLine) -> Result<(), NoMemory>
     ensures added { OnOk result (text.new.items ≡ text.old.items ++ cell_line_text line) }
     ensures refused { OnErr result (GrewInPart text.old.items text.new.items (cell_line_text line)) }
@@ -61,8 +61,8 @@ pub fn counts_of_table(table: &Table) -> SymbolCounts
     }
 }
 
-/// Appends the name of an input line of the control of a machine whose tapes have so many symbols, counted from 0.
-/// After `NoMemory` a front of the name may stand behind the text.
+/// Appends the name of an input line of the control of a machine whose tapes have this many symbols, counted from 0.
+/// After `NoMemory` a prefix of the name may follow the text.
 pub fn push_control_line(
     text: &mut Vec<u8>,
     counts: SymbolCounts,
@@ -85,7 +85,7 @@ pub fn push_control_line(
     }
 }
 
-// Appends the name of the line by which a tape of so many symbols gives its answer at this place.
+// Appends the name of the line by which a tape with this many symbols gives its answer at this place.
 fn push_answer(text: &mut Vec<u8>, symbols: u32, place: u32, tape: u32) -> Result<(), NoMemory>
     requires { symbols < 4294967295 }
     ensures added { OnOk result (text.new.items ≡ text.old.items ++ answer_text (answer_line symbols place) tape) }
@@ -97,7 +97,7 @@ fn push_answer(text: &mut Vec<u8>, symbols: u32, place: u32, tape: u32) -> Resul
     push_u64(text, u64::from(tape))
 }
 
-// The answer at this place among those of a tape of so many symbols.
+// The answer at this place among those of a tape with this many symbols.
 fn answer_line(symbols: u32, place: u32) -> CellLine
     requires { symbols < 4294967295 }
     ensures { result ≡ answer_line symbols place }

@@ -1,4 +1,4 @@
-//! From bytes, a word and a window to a board, or to what is answered where there is none.
+//! From bytes, a word and a window to a circuit, or to the answer if there is none.
 
 ghost use Rattle.std.specs.Prelude.{◌≡◌, ◌≤◌, length, IfOk};
 ghost use Rattle.bn_machine.specs.Machine.{Program};
@@ -21,35 +21,34 @@ use bn_reply::{
 use bn_table::Table;
 use std::alloc::Global;
 
-/// What bytes and a word are opened as, or the answer where they can't be.
+/// What bytes and a word are opened as, or the answer if they cannot be.
 #[derive(Drop)]
 pub enum OpenedMachine {
     /// The bytes' table, whose machine is in standard form; this machine's translation; and the symbols of the word.
     Made(Table, Translated, Vec<u32>),
-    /// What is answered where there is no table, its machine isn't in standard form, or the word has another letter.
+    /// The answer if there is no table, its machine is not in standard form, or the word has another letter.
     Refused(Reply),
 }
 
-/// What bytes, a word and a window are opened as, or the answer where they can't be.
+/// What bytes, a word and a window are opened as, or the answer if they cannot be.
 #[derive(Drop)]
 pub enum OpenedInput {
-    /// The bytes' table, its machine's translation, and the board of the word's symbols in the window, at its start.
+    /// The bytes' table, its machine's translation, and the circuit of the word's symbols in the window, at its start.
     Made(Table, Translated, Board),
-    /// What is answered where there is no machine and word, the word is too long, or the board would have too many
-    /// elements.
+    /// The answer if there is no machine and word, the word is too long, or the circuit would have too many elements.
     Refused(Reply),
 }
 
-/// A board of a translation that is there, or the answer where there is none.
+/// A circuit of a given translation, or the answer if there is none.
 #[derive(Drop)]
 pub enum OpenedWindow {
-    /// The board at its start.
+    /// The circuit at its start.
     Made(Board),
-    /// What is answered where the board would have too many elements.
+    /// The answer if the circuit would have too many elements.
     Refused(Reply),
 }
 
-/// Reads the bytes as a table, whose machine is translated where it is in standard form, and a word of its letters.
+/// Reads the bytes as a table, whose machine is translated if it is in standard form, and a word of its letters.
 pub fn open_machine(alloc: Global, word: &[u8], bytes: &[u8]) -> Result<OpenedMachine, NoMemory>
     ensures { IfOk result (IsOpenedMachine bytes.now word.now) }
 {
@@ -67,8 +66,8 @@ pub fn open_machine(alloc: Global, word: &[u8], bytes: &[u8]) -> Result<OpenedMa
     }
 }
 
-/// Opens bytes and a word as `open_machine` does, and makes their board in a window, at its start; or what is answered
-/// where the word is too long for the window, or else the board would have too many elements.
+/// Opens bytes and a word as `open_machine` does, and makes their circuit in a window, at its start; or gives the
+/// answer if the word is too long for the window, or else the circuit would have too many elements.
 pub fn open_input(
     alloc: Global,
     word: &[u8],
@@ -92,8 +91,8 @@ pub fn open_input(
     }
 }
 
-/// The board of a translation's machine for a word of these symbols, which fits, and a window, at its start; or what is
-/// answered where the board would have too many elements.
+/// The circuit of a translation's machine for a word of these symbols, which fits, and a window, at its start; or the
+/// answer if the circuit would have too many elements.
 pub fn open_window(
     alloc: Global,
     translated: &Translated,
@@ -115,8 +114,8 @@ pub fn open_window(
     open_board(alloc, translated.machine(), &words, windows)
 }
 
-/// The board of any uniform machine of quadruples for words of these symbols on the three tapes, which fit, and a
-/// window, at its start; or what is answered where the board would have too many elements.
+/// The circuit of any uniform machine of quadruples for words of these symbols on the three tapes, which fit, and a
+/// window, at its start; or the answer if the circuit would have too many elements.
 pub fn open_board(
     alloc: Global,
     machine: &Uniform,
@@ -143,7 +142,7 @@ pub fn open_board(
     }
 }
 
-// The answer that a board would have so many elements, which are too many.
+// The answer that a circuit would have this many elements, which are too many.
 fn too_large(alloc: Global, elements: u64) -> Result<Reply, NoMemory>
     ensures status { IfOk result (λ r. r.status ≡ Status.Size) }
     ensures text { IfOk result (λ r. r.text.items ≡ large_line elements) }

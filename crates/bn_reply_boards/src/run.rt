@@ -23,10 +23,10 @@ use bn_reply::{NoMemory, Reply, Status};
 use bn_table::Table;
 use std::alloc::Global;
 
-/// What `run` answers to a word, a window, a greatest number of steps if there is one, and some bytes: whether they
-/// are a table with a machine in standard form, the word is one of its letters and fits, and the board hasn't too many
-/// elements; and then how the signal runs on the board, for at most so many steps, or else for as many as its bound
-/// allows. The watch is told the place after each step.
+/// What `run` answers to a word, a window, a greatest number of steps if there is one, and some bytes: whether they are
+/// a table with a machine in standard form, the word is one of its letters and fits, and the circuit does not have too
+/// many elements; and then how the signal runs on the circuit, for at most this many steps, or else for as many as its
+/// bound allows. The watch is told the place after each step.
 pub fn reply_run<W: Watch>(
     alloc: Global,
     word: &[u8],
@@ -49,7 +49,7 @@ pub fn reply_run<W: Watch>(
     }
 }
 
-// What is answered of a board at its start.
+// The answer for a circuit at its start.
 fn run_board<W: Watch>(
     alloc: Global,
     table: &Table,
@@ -80,7 +80,7 @@ fn run_board<W: Watch>(
     })
 }
 
-/// Where a run of a board came to.
+/// Where the run of a circuit ended.
 #[derive(Clone, Copy, PartialEq, Eq, Debug)]
 pub struct Ran {
     /// By which exit the signal left, or that it has not left.
@@ -89,8 +89,8 @@ pub struct Ran {
     pub quadruple_steps: u64,
 }
 
-/// Runs a board that is at its start for at most so many steps, or else for as many as its bound allows. The watch is
-/// told the place after each step. It takes no memory.
+/// Runs a circuit that is at its start for at most this many steps, or else for as many as its bound allows. The watch
+/// is told the place after each step. It takes no memory.
 pub fn run_to_exit<W: Watch>(board: &mut Board, given: Option<u64>, watch: &mut W) -> Ran
     ensures ran { (f : Flat) (m : Translation) → IsAtStart f m board.old
         → HasRun given f m board.new result.exit result.quadruple_steps (W.told watch.old) (W.told watch.new) }
@@ -108,7 +108,7 @@ pub fn run_to_exit<W: Watch>(board: &mut Board, given: Option<u64>, watch: &mut 
     }
 }
 
-// The greatest number of steps: the one that is given, or else the board's bound.
+// The greatest number of steps: the given one, or else the circuit's bound.
 fn budget_of(board: &Board, given: Option<u64>) -> u64
     ensures { result ≡ steps_for board.now.layout given }
 {

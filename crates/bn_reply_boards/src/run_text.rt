@@ -1,4 +1,4 @@
-//! The text of a run of a board.
+//! The text of a run of a circuit.
 
 ghost use Rattle.std.specs.Prelude.{◌≡◌, ℕ, ◌<◌, ◌≤◌, ◌++◌, ◌∷◌, [], codes, drop, length, IfOk, OnOk, OnErr};
 ghost use Rattle.bn_netlist_laws.specs.Sentences.{line_of_place, line_text};
@@ -24,8 +24,8 @@ use bn_reply::{NoMemory, push, push_counted, push_letters};
 use bn_table::Table;
 use std::alloc::Global;
 
-/// The text of a run that has come to where this board is, by this exit, over so many steps of the machine of
-/// quadruples. The table has names for what it names.
+/// The text of a run that has reached the configuration of this circuit, by this exit, after this many steps of the
+/// machine of quadruples. The table has names for what it names.
 pub fn text_of_run(
     alloc: Global,
     table: &Table,
@@ -48,8 +48,8 @@ pub fn text_of_run(
     Ok(text)
 }
 
-/// Appends the line that says where the signal of a board is: inside, about to enter a line of an element, or by which
-/// exit it has left. The table has names for what it names. After `NoMemory` a front of the line may stand behind the
+/// Appends the line that says where the signal of a circuit is: inside, about to enter a port of an element, or by
+/// which exit it has left. The table has names for what it names. After `NoMemory` a prefix of the line may follow the
 /// text.
 pub fn push_exit(
     text: &mut Vec<u8>,
@@ -83,8 +83,8 @@ fn line_of(place: Place) -> Line
     }
 }
 
-/// Appends the line of a signal that is inside, about to enter this line. After `NoMemory` a front of what is
-/// appended may stand behind the text.
+/// Appends the line of a signal that is inside, about to enter this port. After `NoMemory` a prefix of what is appended
+/// may follow the text.
 pub fn push_inside(text: &mut Vec<u8>, line: Line) -> Result<(), NoMemory>
     requires { line.line < 4 }
     ensures added { OnOk result (text.new.items ≡ text.old.items ++ (codes "inside " ++ (line_text line ++ 10 ∷ []))) }
@@ -122,7 +122,7 @@ fn push_stuck(
     push(text, b"\n")
 }
 
-// Appends the name of the table's state of which a state of the machine of quadruples tells.
+// Appends the name of the table's state that a state of the machine of quadruples stands for.
 fn push_state(
     text: &mut Vec<u8>,
     table: &Table,
@@ -142,8 +142,8 @@ fn push_state(
     }
 }
 
-/// Appends the line of a head that would leave a tape's window. After `NoMemory` a front of the line may stand behind
-/// the text.
+/// Appends the line of a head that would leave a tape's window. After `NoMemory` a prefix of the line may follow the
+/// text.
 pub fn push_window(text: &mut Vec<u8>, tape: u32, side: Side) -> Result<(), NoMemory>
     ensures added { OnOk result (text.new.items ≡ text.old.items ++ window_line tape side) }
     ensures refused { OnErr result (GrewInPart text.old.items text.new.items (window_line tape side)) }
@@ -156,7 +156,7 @@ pub fn push_window(text: &mut Vec<u8>, tape: u32, side: Side) -> Result<(), NoMe
     }
 }
 
-// Appends the lines behind that of the steps.
+// Appends the lines after that of the steps.
 fn push_rest(
     alloc: Global,
     text: &mut Vec<u8>,
@@ -177,7 +177,7 @@ fn push_rest(
     }
 }
 
-// Appends the lines behind that of the steps, where the machine has halted.
+// Appends the lines after that of the steps, if the machine has halted.
 fn push_end(
     alloc: Global,
     text: &mut Vec<u8>,

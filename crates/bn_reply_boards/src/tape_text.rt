@@ -1,4 +1,4 @@
-//! The lines of a board's tapes, and the output.
+//! The lines of a circuit's tapes, and the output.
 
 ghost use Rattle.std.specs.Prelude.{◌≡◌, ◌≢◌, ◌<◌, ◌≤◌, ◌++◌, ◌∷◌, [], drop, length, Some, IfOk, OnOk, OnErr};
 ghost use Rattle.bn_reply.specs.Fronts.{GrewInPart};
@@ -13,8 +13,8 @@ use bn_table::Table;
 use std::alloc::Global;
 
 /// Appends the lines of three tapes: of each the position of its first cell, of its head, and its cells from left to
-/// right. On tapes 1 and 3 the table has a letter for each symbol that is shown. After `NoMemory` a front of the
-/// lines may stand behind the text.
+/// right. On tapes 1 and 3 the table has a letter for each symbol that is shown. After `NoMemory` a prefix of the lines
+/// may follow the text.
 pub fn push_tapes(text: &mut Vec<u8>, table: &Table, shown: &Spelled) -> Result<(), NoMemory>
     requires one { HaveLetters table.now 1 shown.now.one.cells }
     requires three { HaveLetters table.now 3 shown.now.three.cells }
@@ -46,8 +46,8 @@ fn push_tape(
     push(text, b"\n")
 }
 
-/// Appends the position of a tape's first cell, and of its head. After `NoMemory` a front of what is appended may stand
-/// behind the text.
+/// Appends the position of a tape's first cell, and of its head. After `NoMemory` a prefix of what is appended may
+/// follow the text.
 pub fn push_bounds(text: &mut Vec<u8>, shown: &SpelledTape) -> Result<(), NoMemory>
     ensures added { OnOk result (text.new.items ≡ text.old.items ++ bounds_text shown.now) }
     ensures refused { OnErr result (GrewInPart text.old.items text.new.items (bounds_text shown.now)) }
@@ -59,7 +59,7 @@ pub fn push_bounds(text: &mut Vec<u8>, shown: &SpelledTape) -> Result<(), NoMemo
     push(text, b":")
 }
 
-// Appends the position of a head, or a question mark where no cell shows it.
+// Appends the position of a head, or a question mark if no cell shows it.
 fn push_head(text: &mut Vec<u8>, head: Option<i64>) -> Result<(), NoMemory>
     ensures added { OnOk result (text.new.items ≡ text.old.items ++ head_text head) }
     ensures refused { OnErr result (GrewInPart text.old.items text.new.items (head_text head)) }

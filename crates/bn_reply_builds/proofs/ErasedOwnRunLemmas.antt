@@ -62,8 +62,9 @@ module _ (p q : Program) (e : Erasure) (h : IsErasing p q e) (left : IsStandardM
   ends_numbered l x n d exit run =
       let alike = erasing_numbers_run_alike p q left right (name_of e) e.machine h.rules (names_apart p q e h)
       (rooms_of l) in
+      let start = sym (start_named x) in
       let found = (alike (start_of e x) (begins_in e.machine h.machine)).1 n d
-      (subst (λ b. Reaches (Steps (rooms_of l) (erasing p q) (erasing_final q)) n b d) (sym (start_named x)) run.run) in (
+      (subst (λ b. Reaches (Steps (rooms_of l) (erasing p q) (erasing_final q)) n b d) start run.run) in (
         found.0,
         record {
           run = run_of_goes (rooms_of l) e.machine n (start_of e x) found.0 found.1;

@@ -4,10 +4,9 @@ use Rattle.bn_bennett_laws.specs.Stages.{rooms_of}
 use Rattle.bn_bennett_laws.proofs.NumberLemmas.{run_of_goes}
 use Rattle.bn_bennett_laws.proofs.StageStepLemmas.{exits_once}
 use Rattle.bn_network.specs.Starts.{words_on}
-use Rattle.bn_reply_builds.specs.DriveHeadline.{IsGiven}
 use Rattle.bn_reply_builds.proofs.HeadlineLemmas.{inputs, can_build, drives-tell_machine}
 use Rattle.bn_boards.proofs.OwnRunLemmas.{own-runs-words}
-use Rattle.bn_reply_builds.specs.OwnDrives.{HasOwnRun, OwnRunsAreThere, OwnRunsAreOne, DrivesTellTheirRun}
+use Rattle.bn_reply_builds.specs.OwnDrives.{OwnRunsAreThere, OwnRunsAreOne, DrivesTellTheirRun}
 
 pub runs-there : OwnRunsAreThere
 runs-there words bytes l t one two three given =

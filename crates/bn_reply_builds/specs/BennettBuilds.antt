@@ -1,5 +1,5 @@
--- What is built of the table of Bennett's machine is what the one-tape machine is compiled to (Bennett 1973 for the
--- machine; the board and the texts are this project's own profile).
+-- The circuit built from the table of Bennett's machine is the one that the one-tape machine is compiled to (Bennett
+-- 1973 for the machine; the circuit and the texts are this project's own profile).
 use Rattle.std.specs.Prelude.{◌≡◌, ℕ, List, []}
 use Rattle.bn_circuits.specs.declared.place.Place.{Place}
 use Rattle.bn_machine.specs.Outcome.{Limits}
@@ -19,8 +19,8 @@ use Rattle.bn_reply_relations.specs.Windows.{ComesTo}
 use Rattle.bn_reply_builds.specs.BuildReply.{BuildReplies, IsBuiltFor}
 use Rattle.bn_reply_machines.specs.BennettReply.{bennett_text}
 
--- The table that `bennett` writes is read as Bennett's machine itself, with each number and name; what it is built to
--- is the board that the one-tape machine is compiled to; and both start alike.
+-- The table that `bennett` writes reads as Bennett's machine itself, with each number and name; its circuit is the one
+-- that the one-tape machine is compiled to; and both start alike.
 pub record IsOneBoard (t : Named) (l : Limits) (symbols : List ℕ) (f : Flat) : Type 0 where
   pub reads : ReadsQuadruples (bennett_text t) (table_of f.translation.machine (translation_names t f.translation))
   pub built : IsBuiltFor f.translation.machine l (build_of f)
@@ -31,7 +31,7 @@ abbrev pub BoardsAreOne : Type 0
 BoardsAreOne = (bytes word : List ℕ) (l : Limits) (t : Named) (symbols : List ℕ) (f : Flat)
     → IsGiven bytes word l t symbols → ComesTo t.machine l symbols f → IsOneBoard t l symbols f
 
--- The text that `compile` prints is the one that `build` prints of the table that `bennett` prints, byte for byte.
+-- The text that `compile` prints is the one that `build` prints for the table that `bennett` prints, byte for byte.
 abbrev pub CompilingIsBuilding : Type 0
 CompilingIsBuilding = (bytes word : List ℕ) (l : Limits) (text : List ℕ) (told : List Place)
     → CompileReplies word l bytes Done text told → (t : Named) → ReadsStandard bytes t

@@ -1,7 +1,7 @@
--- What the command `build` answers: the configuration text of the board of a uniform machine of quadruples in a window,
--- at its start with a word on tape 1, or on each tape (Morita 2017 for the elements; the board, the window and the text
--- are this project's own profile). What is wrong with the bytes comes first, then with the machine, the words' letters,
--- the tapes' symbols, the words' lengths, and the number of elements.
+-- What the command `build` answers: the configuration text of the circuit of a uniform machine of quadruples in a
+-- window, at its start with a word on tape 1, or on each tape (Morita 2017 for the elements; the circuit, the window
+-- and the text are this project's own profile). What is wrong with the bytes comes first, then with the machine, the
+-- words' letters, the tapes' symbols, the words' lengths, and the number of elements.
 use Rattle.std.specs.Prelude.{◌≡◌, ℕ, ◌<◌, ◌≤◌, List, [], ◌∷◌, length, codes, decimal}
 use Rattle.bn_circuits.specs.declared.place.Place.{Place}
 use Rattle.bn_machine.specs.Outcome.{Limits}
@@ -43,7 +43,7 @@ IsUncrowded m = (t : ℕ) → IsTape t → symbol_count m t ≤ MOST_SYMBOLS
 abbrev pub crowded_line : ℕ → ℕ → List ℕ
 crowded_line t z = line (codes "size: symbols " ∷ decimal t ∷ codes " " ∷ decimal z ∷ [])
 
--- this is what the machine is built to in these limits, and its board hasn't too many elements
+-- this is the build of the machine in these limits, and its circuit does not have too many elements
 pub record IsBuiltFor (m : Quadruples) (l : Limits) (f : Build) : Type 0 where
   pub machine : f.machine ≡ m
   pub limits : f.limits ≡ l
@@ -67,14 +67,14 @@ pub record HaveRoom (l : Limits) (one two three : List ℕ) : Type 0 where
 abbrev pub tape_long_line : ℕ → ℕ → List ℕ
 tape_long_line t n = line (codes "size: word " ∷ decimal t ∷ codes " needs " ∷ decimal n ∷ [])
 
--- the tape is told where there is a word on each
+-- the tape is named if there is a word on each
 abbrev pub long_word_line : TapeWords → ℕ → ℕ → List ℕ
 long_word_line (One word) t n = long_line n
 long_word_line (Three first second third) t n = tape_long_line t n
 
--- What is answered to words of these symbols on the tapes, where `tells` is what is answered of what the machine is
--- built to: a tape has too many symbols; none has, and a word is too long; none is, and the board would have too many
--- elements; or that.
+-- The answer to words of these symbols on the tapes, where `tells` is the answer for the build of the machine: a tape
+-- has too many symbols; none has, and a word is too long; none is, and the circuit would have too many elements; or
+-- that.
 pub data SizedReplies (words : TapeWords) (tells : Build → Status → List ℕ → List Place → Type 0) (m : Quadruples)
     (l : Limits) (one two three : List ℕ) (status : Status) (text : List ℕ) (told : List Place) : Type 0 where
   many : (t z : ℕ) → IsCrowded m t z → text ≡ crowded_line t z → status ≡ statuses.Size → told ≡ []
@@ -89,15 +89,14 @@ pub data SizedReplies (words : TapeWords) (tells : Build → Status → List ℕ
 
 -- ---- the answer
 
--- What is answered to words, limits and bytes, where `tells` is what is answered of a table, the words' symbols and
--- what its machine is built to: the first thing that is wrong with the bytes, the machine, the words or the sizes, or
--- that.
+-- The answer to words, limits and bytes, where `tells` is the answer for a table, the words' symbols and the build of
+-- its machine: the first thing that is wrong with the bytes, the machine, the words or the sizes, or that.
 abbrev pub BuiltReplies : (QuadTable → List ℕ → List ℕ → List ℕ → Build → Status → List ℕ → List Place → Type 0)
     → TapeWords → Limits → List ℕ → Status → List ℕ → List Place → Type 0
 BuiltReplies tells words l = QuadReplies (UniformReplies (λ t. WordsReplies words (λ one two three.
     SizedReplies words (tells t one two three) t.machine l one two three) t.names))
 
--- the text is that of the board at the start of this configuration
+-- the text is that of the circuit at the start of this configuration
 abbrev pub TellsBuild : Configuration ℕ → Build → Status → List ℕ → List Place → Type 0
 TellsBuild c f = TellsBoard f.network f.layout (board_start f.network.tables (start_from f.machine f.limits c))
 

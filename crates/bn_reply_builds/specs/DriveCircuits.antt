@@ -1,6 +1,5 @@
--- What `build` and `drive` print, by the circuit: the run of what they build comes in exactly its cost to the exit that
--- the machine's own run names, and steps taken back restore (Bennett 1973 and Morita 2017; the texts are this project's
--- own profile).
+-- What `build` and `drive` print, by the circuit: its run leaves in exactly its cost by the exit that the machine's own
+-- run names, and steps back restore (Bennett 1973 and Morita 2017; the texts are this project's own profile).
 use Rattle.std.specs.Prelude.{◌≡◌, ℕ, ◌+◌, ◌*◌, ◌≤◌, List}
 use Rattle.bn_lists.specs.Runs.{Reaches}
 use Rattle.bn_circuits.specs.Circuits.{Circuit, Goes, clock}
@@ -24,33 +23,33 @@ use Rattle.bn_reply_builds.specs.DriveReply.{DriveReplies}
 use Rattle.bn_reply_builds.specs.Driven.{TellsDrive}
 use Rattle.bn_words.specs.declared.request.TheConstants.{MOST_DRIVE_STEPS}
 
--- from c, where r + j steps are made and j taken back, the circuit is where it was after r: after none at c
+-- from c, if r + j steps are made and j undone, the circuit is where it was after r; after none it is at c
 abbrev pub Returns : Circuit → Config → Type 0
 Returns k c = (r j : ℕ) → Reaches (Goes k) (r + j) c (run k c (r + j)) → back k (run k c (r + j)) j ≡ run k c r
 
--- However the machine's own run from c in the window ends, the board of f runs from its start in exactly its cost to
--- that exit, where the clock has room; and what steps it makes can be taken back.
+-- However the machine's own run from c in the window ends, the circuit of f runs from its start in exactly its cost to
+-- that exit, if the clock has room; and the steps that it makes can be undone.
 pub record RunsAndReturns (f : Build) (c : Configuration ℕ) : Type 0 where
   pub runs : (n : ℕ) (d : Configuration ℕ) (e : Exit) → EndsInWindow f c n d e
       → 4 * build_elements f + 48 * build_elements f * (n + 1) ≤ clock
       → BuildRunsTo f (start_from f.machine f.limits c) (start_of f c) n d e
   pub returns : Returns f.circuit (start_of f c)
 
--- There is a build of the table's machine in the window, and of each the text is that of its board at the start.
+-- There is a build of the table's machine in the window, and for each the text is that of its circuit at the start.
 pub record TellsBoards (t : QuadTable) (l : Limits) (c : Configuration ℕ) (status : Status) (text : List ℕ)
     (told : List Place) : Type 0 where
   pub build : Build
   pub built : IsBuiltFor t.machine l build
   pub tells : (f : Build) → IsBuiltFor t.machine l f → TellsBuild c f status text told × RunsAndReturns f c
 
--- There is a build of the table's machine in the window, and of each the text is that of its run.
+-- There is a build of the table's machine in the window, and for each the text is that of its run.
 pub record TellsRuns (most : ℕ) (t : QuadTable) (l : Limits) (c : Configuration ℕ) (status : Status) (text : List ℕ)
     (told : List Place) : Type 0 where
   pub build : Build
   pub built : IsBuiltFor t.machine l build
   pub tells : (f : Build) → IsBuiltFor t.machine l f → TellsDrive most t c f status text told × RunsAndReturns f c
 
--- Where the circuit hasn't too many elements, `build` answers its text.
+-- If the circuit does not have too many elements, `build` answers its text.
 abbrev pub BuildsTellTheirBoards : Type 0
 BuildsTellTheirBoards =
     (words : TapeWords) (l : Limits) (bytes : List ℕ) (status : Status) (text : List ℕ) (told : List Place)
@@ -59,7 +58,7 @@ BuildsTellTheirBoards =
     → (count : ℕ) → CountsElements t.machine l count → count ≤ MOST_ELEMENTS
     → TellsBoards t l (words_on t.machine one two three) status text told
 
--- Where the circuit hasn't too many elements, `drive` answers its run.
+-- If the circuit does not have too many elements, `drive` answers its run.
 abbrev pub DrivesTellTheirBoards : Type 0
 DrivesTellTheirBoards =
     (words : TapeWords) (l : Limits) (most : ℕ) (bytes : List ℕ) (status : Status) (text : List ℕ) (told : List Place)

@@ -1,6 +1,6 @@
--- The headline of a drive by the machine of quadruples alone: what `drive` prints of a table, words and a window is
--- what the machine's own run in the window names. No circuit stands in it (Bennett 1973 for the quadruples; the window
--- and the text are this project's own profile).
+-- The headline of `drive` by the machine of quadruples: what `drive` prints for a table, words and a window is what the
+-- machine's own run in the window names (Bennett 1973 for the quadruples; the window and the text are this project's
+-- own profile). Of the circuit it uses the number of elements alone.
 use Rattle.std.specs.Prelude.{◌≡◌, ℕ, ◌+◌, ◌*◌, ◌<◌, ◌≤◌, List, [], ◌∷◌, ◌++◌, codes, Some}
 use Rattle.bn_lists.specs.Runs.{Reaches}
 use Rattle.bn_circuits.specs.Circuits.{clock}
@@ -58,10 +58,10 @@ pub record IsOwnRun (t : QuadTable) (l : Limits) (one two three : List ℕ) (n :
 
 -- ---- what is printed
 
--- The tapes that are shown where the run has ended so at d. At the end they are those of d; at a read at which the
--- machine is stuck, those of d without what it has read there, that tape's symbol included; in a state that no
--- quadruple leaves, those without the scanned symbol of tape 1; and where a head leaves a tape's window, as they are
--- within the step that would leave it.
+-- The tapes that are shown if the run has ended so at d. At the end they are those of d; at a read at which the machine
+-- is stuck, those of d without what it has read there, that tape's symbol included; in a state that no quadruple
+-- leaves, those without the scanned symbol of tape 1; and if a head leaves a tape's window, as they are within the step
+-- that would leave it.
 pub data ShowsEnd (m : Quadruples) (d : Configuration ℕ) (e : Exit) (shown : Configuration ℕ) : Type 0 where
   finished : e ≡ Finished → shown ≡ d → ShowsEnd m d e shown
   at_read : (tape : ℕ) (stop : IsStuckAtRead m d tape) → e ≡ Stopped → shown ≡ taken_to stop.rule d tape
@@ -75,7 +75,7 @@ abbrev pub drive_lines : QuadTable → ℕ → List ℕ → ℕ → ℕ → Spel
 drive_lines t count place cost steps tapes =
     elements_line count ++ (place ++ (steps_line cost ++ (quadruple_line steps ++ drive_tape_lines t tapes)))
 
--- The text and the status of a signal that came after so many element steps to the exit.
+-- The text and the status of a signal that left after this many element steps by the exit.
 pub record TellsEnd (t : QuadTable) (l : Limits) (count n : ℕ) (d : Configuration ℕ) (e : Exit) (cost : ℕ)
     (status : Status) (text : List ℕ) : Type 0 where
   pub shown : Configuration ℕ
@@ -83,9 +83,9 @@ pub record TellsEnd (t : QuadTable) (l : Limits) (count n : ℕ) (d : Configurat
   pub text_is : text ≡ drive_lines t count (drive_exit_line t d e) cost n (spelled_config l shown)
   pub status_is : status ≡ drive_status (Some e)
 
--- The text and the status of a signal that is still inside after so many element steps: about to enter one of the four
--- lines of one of the elements, while the machine, whose whole run has n steps, has made some of them, where the clock
--- has room for the whole run. Which line it is, and what the cells of the window show, is open here.
+-- The text and the status of a signal that is still inside after this many element steps: about to enter one of the
+-- four ports of one of the elements, while the machine, whose whole run has n steps, has made some of them, if the
+-- clock has room for the whole run. Which port it is, and what the cells of the window show, is left open here.
 pub record TellsInside (t : QuadTable) (l : Limits) (count n most : ℕ) (status : Status) (text : List ℕ) :
     Type 0 where
   pub place : Line
@@ -100,9 +100,9 @@ pub record TellsInside (t : QuadTable) (l : Limits) (count n most : ℕ) (status
   pub text_is : text ≡ drive_lines t count (line (codes "inside " ∷ line_text place ∷ [])) most steps tapes
   pub status_is : status ≡ Inside
 
--- The signal comes to the exit in some number of element steps, which is at least that of the machine's steps and at
--- most a bound that grows with it: where that is within the greatest number, the exit is told; elsewhere the signal is
--- still inside.
+-- The signal leaves by the exit after some number of element steps, which is at least that of the machine's steps and
+-- at most a bound that grows with it. If that is within the greatest number, the exit is reported; otherwise the signal
+-- is still inside.
 pub record TellsOwnRun (most : ℕ) (t : QuadTable) (l : Limits) (count n : ℕ) (d : Configuration ℕ) (e : Exit)
     (status : Status) (text : List ℕ) : Type 0 where
   pub cost : ℕ
@@ -111,8 +111,8 @@ pub record TellsOwnRun (most : ℕ) (t : QuadTable) (l : Limits) (count n : ℕ)
   pub ended : cost ≤ most → TellsEnd t l count n d e cost status text
   pub inside : most < cost → TellsInside t l count n most status text
 
--- A circuit with too many elements is refused with their number, which the machine and the window give; any other is
--- driven.
+-- A circuit with too many elements is refused with their number, which the machine and the window determine; any other
+-- is driven.
 pub record TellsDriven (most : ℕ) (t : QuadTable) (l : Limits) (n : ℕ) (d : Configuration ℕ) (e : Exit)
     (status : Status) (text : List ℕ) : Type 0 where
   pub large : (count : ℕ) → CountsElements t.machine l count → MOST_ELEMENTS < count
@@ -122,7 +122,7 @@ pub record TellsDriven (most : ℕ) (t : QuadTable) (l : Limits) (n : ℕ) (d : 
 
 -- ---- the headline
 
--- Whatever is given, and however the machine's own run ends, what `drive` answers tells it.
+-- Whatever is given, and however the machine's own run ends, the answer of `drive` reports it.
 abbrev pub DrivesTellTheirMachine : Type 0
 DrivesTellTheirMachine =
     (words : TapeWords) (l : Limits) (most : ℕ) (bytes : List ℕ) (status : Status) (text : List ℕ) (told : List Place)

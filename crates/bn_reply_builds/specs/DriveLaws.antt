@@ -1,4 +1,4 @@
--- What holds of drives. `Laws` at the end is the contract of this crate's one function.
+-- Laws on drives. `Laws` at the end is the contract of `drive_laws`.
 use Rattle.std.specs.Prelude.{◌≡◌, ℕ, ◌+◌, ◌*◌, ◌≤◌, List, [], map, Option}
 use Rattle.bn_lists.specs.Runs.{Reaches}
 use Rattle.bn_circuits.specs.Circuits.{clock, Goes, IsStuck}
@@ -29,7 +29,7 @@ DrivesHaveOneAnswer =
     × ((exit other : Option Exit) (text again : List ℕ) → Drives t f c s at_start most exit text
     → Drives t f c s at_start most other again → (exit ≡ other) × (text ≡ again))
 
--- the board stops at z after t steps
+-- the circuit stops at z after t steps
 abbrev pub RenumberedBuildsTell : Type 0
 RenumberedBuildsTell =
     (k : Renumbering) (f : Build) (m : Quadruples) → IsBuild f → IsRenumbering k f.machine m → IsDeterministic m.rules
@@ -55,16 +55,16 @@ ErasingBoardsErase =
     → ErasingBoardTells back.renumbering j e f (words_on f.machine z [] []) s at_start x n d
 
 pub record Laws : Type 0 where
-  -- To a table, a build, a start and a greatest number of element steps for which the clock has room there is an
+  -- For a table, a build, a start and a greatest number of element steps for which the clock has room there is an
   -- answer, an exit or none and a text, and only one.
   pub drives_have_one_answer : DrivesHaveOneAnswer
-  -- Where the board of a build stops whose machine is another one but for its numbers, as the machine that is read of
-  -- what was written of that one is, it tells how that one's run has ended.
+  -- If the circuit stops whose machine is another one with other numbers, as the machine is that is read of what was
+  -- written of that one, it reports how that one's run has ended.
   pub renumbered_builds_tell : RenumberedBuildsTell
   -- Three words are, with the other numbers, three words: the starts differ in the numbers alone.
   pub words_are_renumbered : WordsAreRenumbered
-  -- The circuit that erases: of the machine that is read of what `erase` writes of two machines in standard form,
-  -- started with the word x, a board that has stopped was left by the end only where each machine halts on the other's
-  -- word, and then its tapes are blank but for the output on tape 3; where both halt so, it was left by the end or by a
+  -- The circuit that erases: for the machine that is read of what `erase` writes of two machines in standard form,
+  -- started with the word x, a circuit that has stopped was left by the end only if each machine halts on the other's
+  -- word, and then its tapes are blank but for the output on tape 3; if both halt so, it was left by the end or by a
   -- window's end.
   pub erasing_boards_erase : ErasingBoardsErase

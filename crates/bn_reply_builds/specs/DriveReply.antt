@@ -1,6 +1,6 @@
--- What the command `drive` answers: the run of the board of a uniform machine of quadruples in a window from its start
--- with words on the tapes, within a greatest number of element steps (Morita 2017 for the elements; the board, the
--- window and the text are this project's own profile). What is refused is refused as `build` does it.
+-- What the command `drive` answers: the run of the circuit of a uniform machine of quadruples in a window from its
+-- start with words on the tapes, within a greatest number of element steps (Morita 2017 for the elements; the circuit,
+-- the window and the text are this project's own profile). Refusals are those of `build`.
 use Rattle.std.specs.Prelude.{ℕ, ◌≤◌, List}
 use Rattle.bn_circuits.specs.declared.place.Place.{Place}
 use Rattle.bn_machine.specs.Outcome.{Limits}

@@ -1,5 +1,5 @@
--- The text of a drive (this project's own profile): by which exit the board was left, or where its signal is, the
--- element steps, the steps of the machine of quadruples, and what the cells show.
+-- The text of a drive (this project's own profile): by which exit the signal left, or where it is, the element steps,
+-- the steps of the machine of quadruples, and what the cells show.
 use Rattle.std.specs.Prelude.{ℕ, List, [], ◌∷◌, ◌++◌, Option, Some, None, codes, decimal, slice_index_or}
 use Rattle.bn_circuits.specs.declared.config.Config.{Config}
 use Rattle.bn_circuits.specs.declared.place.Place.{Place}
@@ -43,8 +43,8 @@ drive_tape_line names tape s =
     line (codes "tape " ∷ decimal tape ∷ codes " from " ∷ position_text s.first ∷ codes " head " ∷ head_text s.head
     ∷ codes ":" ∷ drive_cells_text names s.cells ∷ [])
 
--- the whole: of a table's machine that is built so, with this line for the exit, after so many steps of the machine,
--- where the board is at this configuration
+-- the whole: for a table's machine that is built so, with this line for the exit, after this many steps of the machine,
+-- in this configuration of the circuit
 abbrev pub drive_text : QuadTable → Build → List ℕ → ℕ → Config → List ℕ
 drive_text t f exit quadruple_steps d =
     elements_line (build_elements f) ++ (exit ++ (steps_line d.steps ++ (quadruple_line quadruple_steps

@@ -1,4 +1,4 @@
--- What is told of a board that is driven (this project's own profile).
+-- What is reported of a circuit that is driven (this project's own profile).
 use Rattle.std.specs.Prelude.{◌≡◌, ℕ, List, length, Option, Some, None}
 use Rattle.bn_circuits.specs.Stepping.{places}
 use Rattle.bn_circuits.specs.declared.place.Place.{Place}
@@ -39,8 +39,8 @@ pub record TellsDrive (most : ℕ) (t : QuadTable) (c : Configuration ℕ) (f : 
 
 -- ---- a board
 
--- What is told of a table's board that has come to where it is: by which exit it was left, whatever the run of the
--- machine that it is built of, or where its signal is inside.
+-- What is reported of a table's circuit in a configuration: by which exit the signal left, whatever the run of its
+-- machine, or where it is inside.
 pub record TellsOutcome (t : QuadTable) (b : Flattened) (steps : ℕ) (r : Reply) : Type 0 where
   pub outcome : Outcome
   pub inside : (e l : ℕ) → b.config.place ≡ Enter e l → outcome ≡ Inside (record { element = e; line = l })

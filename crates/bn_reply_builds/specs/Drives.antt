@@ -15,8 +15,8 @@ use Rattle.bn_boards.specs.Builds.{Build}
 use Rattle.bn_boards.specs.BuildRuns.{EndsInWindow, BuildRunsTo}
 use Rattle.bn_reply_builds.specs.DriveText.{drive_text, drive_exit_line, inside_line}
 
--- The board is left within so many steps by the exit that the machine's own bounded run names, and the text tells it;
--- or after as many steps the signal is inside, which has no exit, and the text tells where, with the moments so far
+-- The signal leaves within this many steps by the exit that the machine's own bounded run names, and the text reports
+-- it; or after as many steps the signal is inside, which has no exit, and the text says where, with the moments so far
 -- less one, which is the number of the machine's steps so far, and 0 before the first moment.
 pub data Drives (t : QuadTable) (f : Build) (c : Configuration ℕ) (s : Situation) (at_start : Config) (most : ℕ)
     (exit : Option Exit) (text : List ℕ) : Type 0 where

@@ -1,4 +1,4 @@
--- The circuit that erases its input, by what the commands print: `drive` of the table that `erase` printed of two
+-- The circuit that erases its input, by what the commands print: `drive` of the table that `erase` printed for two
 -- tables (Bennett 1973, his last construction; the words and the texts are this project's own profile).
 use Rattle.std.specs.Prelude.{◌≡◌, ℕ, ◌+◌, ◌*◌, ◌≤◌, List, [], ◌∷◌, ◌++◌, codes, length}
 use Rattle.bn_base.specs.Cuts.{IsCut}
@@ -43,8 +43,8 @@ output_lines j l y =
     ++ drive_tape_line (letter_names j) 3 (tape_in 0 (l.output + 1) (word_tape y)))
 
 -- The first machine halts on x after v steps with an output y, and the second one on y after w steps with the output x;
--- and the text tells the end, after 4(v + w) + 4(|x| + |y|) + 10 steps of the machine that was joined of both, with y
--- alone on the tapes.
+-- and the text reports the end, after 4(v + w) + 4(|x| + |y|) + 10 steps of the machine composed of both, with y alone
+-- on the tapes.
 pub record LeavesOutputAlone (j : Joint) (l : Limits) (x text : List ℕ) : Type 0 where
   pub y : List ℕ
   pub v : ℕ
@@ -56,8 +56,8 @@ pub record LeavesOutputAlone (j : Joint) (l : Limits) (x text : List ℕ) : Type
   pub text_is : text ≡ elements_line count ++ (line (codes "exit end" ∷ []) ++ (steps_line cost
       ++ (quadruple_line (4 * (v + w) + 4 * (length x + length y) + 10) ++ output_lines j l y)))
 
--- What `drive` answers to the table that `erase` wrote, and a word: it tells the end only where each machine halts on
--- the other's word, and then it tells that output alone; and where they do, it tells no machine that is stuck.
+-- The answer of `drive` to the table that `erase` wrote, and a word, reports the end only if each machine halts on the
+-- other's word, and then it reports that output alone; if they do, it never reports a machine that is stuck.
 abbrev pub ErasedCircuitsErase : Type 0
 ErasedCircuitsErase =
     (bytes word table : List ℕ) (silent : List Place) → EraseReplies bytes Done table silent

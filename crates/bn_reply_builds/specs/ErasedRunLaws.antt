@@ -17,7 +17,7 @@ use Rattle.bn_words.specs.declared.request.TheConstants.{MOST_DRIVE_STEPS}
 use Rattle.bn_erase_laws.specs.EraseWindows.{erasing_steps}
 use Rattle.bn_reply_builds.specs.ErasedRuns.{DriveLeaves, TablesEndIn, TablesHaltIn, erased_end}
 
--- where both machines halt in the window, each on the other's word
+-- if both machines halt in the window, each on the other's word
 abbrev pub ErasedCircuitsComeOut : Type 0
 ErasedCircuitsComeOut =
     (bytes word table : List ℕ) (silent : List Place) → EraseReplies bytes Done table silent
@@ -26,7 +26,7 @@ ErasedCircuitsComeOut =
     → DriveLeaves word table l (erasing_steps x y v w) Finished
     (λ count cost text. text ≡ erased_end (joined t u) l y count cost (erasing_steps x y v w))
 
--- the end is told only there
+-- the end is reported only then
 abbrev pub EndsTellHalts : Type 0
 EndsTellHalts =
     (bytes word table : List ℕ) (silent : List Place) → EraseReplies bytes Done table silent
@@ -35,7 +35,7 @@ EndsTellHalts =
     → DriveReplies (One (Letters word)) l most table Done text told
     → (v w : ℕ) × (y : List ℕ) × TablesHaltIn t u x l v w y
 
--- a word that fits on tape 1
+-- for a word that fits on tape 1
 abbrev pub ErasedCircuitsEnd : Type 0
 ErasedCircuitsEnd =
     (bytes word table : List ℕ) (silent : List Place) → EraseReplies bytes Done table silent

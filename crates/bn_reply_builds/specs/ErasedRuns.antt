@@ -46,9 +46,9 @@ erased_end j l y count cost n =
     elements_line count ++ (line (codes "exit end" ∷ []) ++ (steps_line cost ++ (quadruple_line n
     ++ output_lines j l y)))
 
--- The signal leaves by this exit in exactly so many element steps, from n, the machine's steps, to a bound. Whatever
--- greatest number of element steps is given: where the cost is within it, what is told is that exit, in such a text;
--- and else that the signal is inside.
+-- The signal leaves by this exit in exactly this many element steps, from n, the machine's steps, to a bound. For every
+-- greatest number of element steps: if the cost is within it, that exit is reported in such a text; otherwise the
+-- signal is inside.
 pub record LeavesBy (tells : ℕ → Status → List ℕ → List Place → Type 0) (count n : ℕ) (e : Exit)
     (is_text : ℕ → List ℕ → Type 0) (cost : ℕ) : Type 0 where
   pub above : n ≤ cost
@@ -66,8 +66,8 @@ pub record CircuitLeaves (tells : ℕ → Status → List ℕ → List Place →
       → most ≤ MOST_DRIVE_STEPS → tells most status text told → (status ≡ Size) × (text ≡ large_line count)
   pub leaves : count ≤ MOST_ELEMENTS → (cost : ℕ) × LeavesBy tells count n e is_text cost
 
--- The table may be driven with the word in the window; each board that it is built to runs in exactly its cost to this
--- exit, and `drive` tells that exit and that cost.
+-- The table can be driven with the word in the window; each of its circuits runs in exactly its cost to this exit, and
+-- `drive` reports that exit and that cost.
 pub record DriveLeaves (word table : List ℕ) (l : Limits) (n : ℕ) (e : Exit) (is_text : ℕ → ℕ → List ℕ → Type 0) :
     Type 0 where
   pub read : QuadTable

@@ -1,5 +1,5 @@
--- What the board tells that is built of what `erase` writes: the circuit that erases its input (Bennett 1973, his last
--- construction; the text and its reading are this project's own profile).
+-- What the circuit reports that is built from what `erase` writes: the circuit that erases its input (Bennett 1973, his
+-- last construction; the text and its reading are this project's own profile).
 use Rattle.std.specs.Prelude.{◌≡◌, ℕ, ◌+◌, ◌*◌, List, length, ◌⊎◌}
 use Rattle.bn_circuits.specs.Situations.{Situation}
 use Rattle.bn_circuits.specs.declared.config.Config.{Config}
@@ -14,10 +14,10 @@ use Rattle.bn_renumbering.specs.Renumbering.{Renumbering, IsRenumbered}
 use Rattle.bn_boards.specs.Builds.{Build}
 use Rattle.bn_boards.specs.Laws.{Told}
 
--- The board, started at c with the word x on tape 1, has stopped at d after n element steps. Where it is left by the
--- end, the first machine halts on x with some output y and the second on y with the output x, the erasing machine has
--- made 4(v + w) + 4(|x| + |y|) + 10 steps, and its tapes are blank but for y on tape 3, but for the numbers; and where
--- both machines halt so, it is left by the end or by the line at a window's end.
+-- The circuit, started at c with the word x on tape 1, has stopped at d after n element steps. If the signal left by
+-- the end, the first machine halts on x with some output y and the second on y with the output x, the erasing machine
+-- has made 4(v + w) + 4(|x| + |y|) + 10 steps, and its tapes are blank but for y on tape 3, up to renumbering; and if
+-- both machines halt so, the signal left by the end or by the line at a window's end.
 pub record ErasingBoardTells (k : Renumbering) (j : Joint) (e : Erasure) (f : Build) (c : Configuration ℕ)
     (s : Situation) (at_start : Config) (x : List ℕ) (n : ℕ) (d : Config) : Type 0 where
   pub told : Told f c s at_start n d

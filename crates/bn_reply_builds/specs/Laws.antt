@@ -9,35 +9,35 @@ use Rattle.bn_reply_builds.specs.OwnDrives.{OwnRunsAreThere, OwnRunsAreOne, Driv
 use Rattle.bn_reply_builds.specs.ErasedRunLaws.{ErasedCircuitsComeOut, EndsTellHalts, ErasedCircuitsEnd}
 
 pub record Laws : Type 0 where
-  -- To all words, windows and bytes `build` has an answer, and only one.
+  -- For all words, windows and bytes `build` has an answer, and only one.
   pub build_has_one_reply : BuildIsSettled
-  -- The table that `bennett` writes is read as Bennett's machine itself, and what that is built to is the board that
-  -- the one-tape machine is compiled to: `bennett | build` prints what `compile` prints.
+  -- The table that `bennett` writes reads as Bennett's machine itself, and its circuit is the one that the one-tape
+  -- machine is compiled to: `bennett | build` prints what `compile` prints.
   pub compiling_is_building : BoardsAreOne × CompilingIsBuilding
-  -- To all words, windows, greatest numbers of steps and bytes `drive` has an answer, and only one.
+  -- For all words, windows, greatest numbers of steps and bytes `drive` has an answer, and only one.
   pub drive_has_one_reply : DriveIsSettled
-  -- What `drive` answers tells the machine's own run in the window, with no circuit in what is said: where the signal
-  -- comes to an exit within the greatest number of element steps, the exit that this run names, its steps and its
-  -- tapes; else that it is still inside.
+  -- The answer of `drive` reports the machine's own run in the window: if the signal leaves by an exit within the
+  -- greatest number of element steps, the exit that this run names, its steps and its tapes; otherwise that the signal
+  -- is still inside.
   pub drives_tell_their_machine : DrivesTellTheirMachine
-  -- What `build` and `drive` answer tells the board of the machine's circuit, which runs in exactly its cost to that
-  -- exit, and whose steps can be taken back.
+  -- The answers of `build` and `drive` report the machine's circuit, which runs in exactly its cost to that exit, and
+  -- whose steps can be undone.
   pub builds_run_and_return : BuildsTellTheirBoards × DrivesTellTheirBoards
-  -- The circuit that erases its input, by what the commands print: of the table that `erase` prints, `drive` tells the
-  -- end only where each of the two machines halts on the other's word, with that output alone on the tapes; and where
-  -- they do, it tells no machine that is stuck.
+  -- The circuit that erases its input, by what the commands print: given the table that `erase` prints, `drive` reports
+  -- the end only if each of the two machines halts on the other's word, with that output alone on the tapes; if they
+  -- do, it never reports a machine that is stuck.
   pub erased_circuits_erase : ErasedCircuitsErase
-  -- Whatever is given, the machine's own run in the window ends, after fewer steps than there are ways to be.
+  -- Whatever is given, the machine's own run in the window ends, after fewer steps than the window has configurations.
   pub own_runs_are_there : OwnRunsAreThere
   -- It has one number of steps, one last configuration, and one exit.
   pub own_runs_are_one : OwnRunsAreOne
-  -- What `drive` answers tells that run.
+  -- The answer of `drive` reports that run.
   pub drives_tell_their_run : DrivesTellTheirRun
-  -- Where both machines halt in the window, each on the other's word, the signal of the circuit that erases comes to
-  -- its end in exactly its cost, and `drive` tells that end, with y alone, for each number of element steps from the
-  -- cost on.
+  -- If both machines halt in the window, each on the other's word, the signal of the circuit that erases leaves by the
+  -- end in exactly its cost, and `drive` reports that end, with y alone, for each number of element steps from the cost
+  -- on.
   pub erased_circuits_come_out : ErasedCircuitsComeOut
-  -- It tells the end only where they do.
+  -- It reports the end only if they do.
   pub ends_tell_halts : EndsTellHalts
   -- Whatever the machines do, the signal leaves in exactly its cost, by the exit that the erasing machine's own run in
   -- the window names: no drive goes on for ever.

@@ -1,4 +1,4 @@
--- What comes of bytes, words on the tapes and a window that are to be made into the board of a machine of quadruples.
+-- The result of opening bytes, words on the tapes and a window as the circuit of a machine of quadruples.
 use Rattle.std.specs.Prelude.{◌≡◌, ℕ, List, []}
 use Rattle.bn_machine.specs.Outcome.{Limits}
 use Rattle.bn_circuits.specs.RotaryNets.{rotary_circuit}
@@ -19,7 +19,7 @@ use Rattle.bn_reply_builds.specs.Buildable.{IsBuildable}
 use Rattle.bn_reply_builds.specs.declared.opening.OpenedBuild.{OpenedBuild}
 use Rattle.bn_reply_builds.specs.declared.opening.OpenedBuild.TheVariants as opened
 
--- this is the board of f at the start of the configuration c
+-- this is the circuit of f at the start of the configuration c
 pub record IsBuiltBoard (f : Build) (c : Configuration ℕ) (b : Flattened) : Type 0 where
   pub build : IsBuild f
   pub circuit : f.circuit ≡ rotary_circuit b.net
@@ -30,8 +30,8 @@ pub record IsBuiltBoard (f : Build) (c : Configuration ℕ) (b : Flattened) : Ty
   pub end : b.end ≡ end_line b.layout
   pub kept : IsBoardKept b
 
--- No tape of the machine has too many symbols, the words of these symbols fit, and the board, which hasn't too many
--- elements, is the machine's, at its start with them.
+-- No tape of the machine has too many symbols, the words of these symbols fit, and the circuit, which does not have too
+-- many elements, is the machine's, at its start with them.
 pub record IsSizedBoard (m : Quadruples) (l : Limits) (one two three : List ℕ) (b : Flattened) : Type 0 where
   pub uncrowded : IsUncrowded m
   pub inputs : AreInputs m l one two three
@@ -39,15 +39,15 @@ pub record IsSizedBoard (m : Quadruples) (l : Limits) (one two three : List ℕ)
   pub built : IsBuiltFor m l build
   pub board : IsBuiltBoard build (words_on m one two three) b
 
--- the board, or what is answered to words of these symbols whatever is told of boards
+-- the circuit, or the answer to words of these symbols for every report on circuits
 abbrev pub IsOpenedSized : TapeWords → Quadruples → Limits → List ℕ → List ℕ → List ℕ → OpenedWindow → Type 0
 IsOpenedSized words m l one two three (windows.Made b) = IsSizedBoard m l one two three b
 IsOpenedSized words m l one two three (windows.Refused reply) =
     SizedReplies words (λ f status text told. ⊥) m l one two three reply.status reply.text.items []
 
 -- The bytes are the table of this machine and these names; the machine is uniform, and none of its tapes has too many
--- symbols; the words have the names of these symbols, and fit; and the board, which hasn't too many elements, is the
--- machine's, at its start with the words.
+-- symbols; the words have the names of these symbols, and fit; and the circuit, which does not have too many elements,
+-- is the machine's, at its start with the words.
 pub record IsBuildAsked (words : TapeWords) (l : Limits) (bytes : List ℕ) (m : Quadruples) (names : Naming)
     (b : Flattened) : Type 0 where
   pub table : ReadsQuadruples bytes (table_of m names)
@@ -62,7 +62,7 @@ pub record IsBuildAsked (words : TapeWords) (l : Limits) (bytes : List ℕ) (m :
   pub built : IsBuiltFor m l build
   pub board : IsBuiltBoard build (words_on m one two three) b
 
--- the board, or what is answered whatever is told of boards
+-- the circuit, or the answer for every report on circuits
 abbrev pub IsOpenedBuild : TapeWords → Limits → List ℕ → OpenedBuild → Type 0
 IsOpenedBuild words l bytes (opened.Made m names b) = IsBuildAsked words l bytes m names b
 IsOpenedBuild words l bytes (opened.Refused reply) =

@@ -1,5 +1,5 @@
--- Where a drive has come to (this project's own profile): by the exit of the machine's own run, as a line, and as a
--- status.
+-- Where the signal of a drive is (this project's own profile): by the exit of the machine's own run, as a line, and as
+-- a status.
 use Rattle.std.specs.Prelude.{ℕ, List, [], ◌∷◌, ◌++◌, codes}
 use Rattle.bn_machine.specs.Tape.{scanned}
 use Rattle.bn_quad.specs.Quadruples.{Configuration}
@@ -20,7 +20,7 @@ use Rattle.bn_reply_builds.specs.declared.outcome.Outcome.TheVariants.{Inside, E
 abbrev pub stop_at : Configuration ℕ → Stop
 stop_at d = record { state = d.state; one = scanned d.one; two = scanned d.two; three = scanned d.three }
 
--- where the board has come to whose machine's own run has ended so
+-- where the signal is if the machine's own run has ended so
 abbrev pub outcome_by : Configuration ℕ → Exit → Outcome
 outcome_by d Finished = End
 outcome_by d Stopped = Stuck (stop_at d)
@@ -36,7 +36,7 @@ scanned_text t s =
 abbrev pub stop_line : QuadTable → Stop → List ℕ
 stop_line t s = line (codes "exit stuck " ∷ name_in t.names.states s.state ∷ scanned_text t s ∷ [])
 
--- the line that says where a drive has come to
+-- the line that says where the signal is
 abbrev pub outcome_line : QuadTable → Outcome → List ℕ
 outcome_line t (Inside l) = line (codes "inside " ∷ line_text l ∷ [])
 outcome_line t End = line (codes "exit end" ∷ [])

@@ -12,7 +12,8 @@ use Rattle.bn_reply_builds.specs.DriveReply.{DriveReplies}
 use Rattle.bn_words.specs.declared.request.TheConstants.{MOST_DRIVE_STEPS}
 use Rattle.bn_boards.specs.OwnRuns.{situation_count}
 
--- the machine's own run in the window from these words: its steps, fewer than there are ways to be, and how it ends
+-- the machine's own run in the window from these words: its steps, fewer than the window has configurations, and how it
+-- ends
 pub record HasOwnRun (t : QuadTable) (l : Limits) (one two three : List ℕ) : Type 0 where
   pub steps : ℕ
   pub last : Configuration ℕ
@@ -20,20 +21,20 @@ pub record HasOwnRun (t : QuadTable) (l : Limits) (one two three : List ℕ) : T
   pub own : IsOwnRun t l one two three steps last exit
   pub few : steps < situation_count t.machine l
 
--- it is there, whatever is given
+-- it exists, whatever is given
 abbrev pub OwnRunsAreThere : Type 0
 OwnRunsAreThere =
     (words : TapeWords) (bytes : List ℕ) (l : Limits) (t : QuadTable) (one two three : List ℕ)
     → IsGiven words bytes l t one two three → HasOwnRun t l one two three
 
--- and there is one
+-- and there is only one
 abbrev pub OwnRunsAreOne : Type 0
 OwnRunsAreOne =
     (words : TapeWords) (bytes : List ℕ) (l : Limits) (t : QuadTable) (one two three : List ℕ)
     → IsGiven words bytes l t one two three → (m n : ℕ) (b d : Configuration ℕ) (e g : Exit)
     → IsOwnRun t l one two three m b e → IsOwnRun t l one two three n d g → (m ≡ n) × (b ≡ d) × (e ≡ g)
 
--- what `drive` answers tells it
+-- the answer of `drive` reports it
 abbrev pub DrivesTellTheirRun : Type 0
 DrivesTellTheirRun =
     (words : TapeWords) (l : Limits) (most : ℕ) (bytes : List ℕ) (status : Status) (text : List ℕ) (told : List Place)

@@ -1,4 +1,4 @@
--- What is known of a board that was left where its machine is stuck at a read.
+-- What is known of a circuit whose signal left because its machine is stuck at a read.
 use Rattle.std.specs.Prelude.{◌≡◌, ℕ, ◌+◌, ◌-◌, ◌<◌, ◌≤◌, List, Some, slice_get}
 use Rattle.bn_lists.specs.Lists.{nth}
 use Rattle.bn_machine.specs.Outcome.{Limits}
@@ -29,7 +29,7 @@ pub record IsLeavingQuad (quads : List Quad) (state : ℕ) (q : Quad) : Type 0 w
   pub stands : slice_get quads place ≡ Some q
   pub leaves : q.state ≡ state
 
--- a quadruple of the machine that leaves the state of d, and wants the tapes before this one as they are
+-- a quadruple of the machine that leaves the state of d, and needs the tapes before this one as they are
 pub record IsBegun (m : Quadruples) (d : Configuration ℕ) (r : Rule ℕ) (t : ℕ) : Type 0 where
   pub number : ℕ
   pub stands : nth m.rules number ≡ Some r
@@ -49,7 +49,7 @@ pub record IsAnswered (m : Quadruples) (l : Limits) (read : Read) (answer : Answ
   pub spells : shown ≡ spelled_config l (taken_to rule d answer.tape)
   pub fits : FitsWindow m l d
 
--- the board was left from this element by such an answer
+-- the signal left from this element by such an answer
 pub record IsLeftAtRead (f : Build) (element : ℕ) (shown : Spelled) (d : Configuration ℕ) : Type 0 where
   pub tape : ℕ
   pub is_tape : IsTape tape

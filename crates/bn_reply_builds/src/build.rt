@@ -21,8 +21,8 @@ use std::alloc::Global;
 
 /// Answers `build` to words on the tapes, a window and some bytes: whether they are a table of quadruples whose machine
 /// is deterministic, reversible and uniform, the words have the names of their tapes' symbols, no tape has too many
-/// symbols, the words fit, and the board hasn't too many elements; and then gives the sink the configuration text of
-/// the board at its start, in version 2 and in pieces.
+/// symbols, the words fit, and the circuit does not have too many elements; and then gives the sink the configuration
+/// text of the circuit at its start, in version 2 and in pieces.
 pub fn answer_build<K: Sink>(
     alloc: Global,
     words: &TapeWords,

@@ -28,8 +28,8 @@ use bn_reply::Reply;
 use bn_words::MOST_DRIVE_STEPS;
 use std::alloc::Global;
 
-/// What `drive` answers to words on the tapes, a window, a greatest number of element steps and some bytes: whatever
-/// `build` refuses of them; and else how the signal runs on the board from its start, for at most so many steps. The
+/// What `drive` answers to words on the tapes, a window, a greatest number of element steps and some bytes: the
+/// refusals of `build`; otherwise how the signal runs on the circuit from its start, for at most this many steps. The
 /// watch is told the place after each step.
 pub fn reply_drive<W: Watch>(
     alloc: Global,
@@ -56,7 +56,7 @@ pub fn reply_drive<W: Watch>(
     }
 }
 
-// What is answered of a board at its start.
+// The answer for a circuit at its start.
 fn drive_board<W: Watch>(
     alloc: Global,
     machine: &Uniform,
@@ -77,7 +77,7 @@ fn drive_board<W: Watch>(
     tell_outcome(alloc, machine, names, board, quadruple_steps)
 }
 
-// What is told of a board that has come to where it is, over so many steps of the machine of quadruples.
+// The report on a circuit in its configuration, after this many steps of the machine of quadruples.
 fn tell_outcome(
     alloc: Global,
     machine: &Uniform,

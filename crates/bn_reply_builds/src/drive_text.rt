@@ -14,8 +14,8 @@ use bn_board::{Board, NoMemory, Spelled};
 use bn_reply::push_counted;
 use std::alloc::Global;
 
-/// The text of a drive that has come to where this board is, whose cells show this, over so many steps of the machine
-/// of quadruples.
+/// The text of a drive that has reached the configuration of this circuit, whose cells show this, after this many steps
+/// of the machine of quadruples.
 pub(crate) fn text_of_drive(
     alloc: Global,
     names: &TableNames<'_>,

@@ -1,5 +1,5 @@
-//! Boards of any uniform machine of quadruples: what `build` answers; where a board has come to, told by the names of
-//! the machine's table; and, as definitions and laws, what `drive` answers.
+//! Circuits of any uniform machine of quadruples: what `build` and `drive` answer; where the signal is, reported by the
+//! names of the machine's table; and the laws on both.
 #![tactic(auto)]
 
 mod awaited;

@@ -1,5 +1,5 @@
-//! From bytes, words on the tapes and a window to the board of a machine of quadruples, or to what is answered where
-//! there is none.
+//! From bytes, words on the tapes and a window to the circuit of a machine of quadruples, or to the answer if there is
+//! none.
 
 ghost use Rattle.std.specs.Prelude.{IfOk};
 ghost use Rattle.bn_qtable.specs.TapeWords.{tape_words_of};
@@ -18,20 +18,20 @@ use bn_reply_boards::{OpenedWindow, open_board};
 use bn_reply_machines::{OpenedUniform, SpelledWords, open_uniform, spell_words};
 use std::alloc::Global;
 
-/// What bytes, words on the tapes and a window are opened as, or the answer where they can't be.
+/// What bytes, words on the tapes and a window are opened as, or the answer if they cannot be.
 #[derive(Drop)]
 pub enum OpenedBuild {
-    /// The machine, the names of its states and symbols, and its board in the window, at its start with the words.
+    /// The machine, the names of its states and symbols, and its circuit in the window, at its start with the words.
     Made(Uniform, QuadNames, Board),
-    /// What is answered where there is no uniform machine, a word has another name, a tape has too many symbols, a word
-    /// is too long, or the board would have too many elements.
+    /// The answer if there is no uniform machine, a word has another name, a tape has too many symbols, a word is too
+    /// long, or the circuit would have too many elements.
     Refused(Reply),
 }
 
 /// Reads the bytes as a table of quadruples, tests whether its machine is deterministic, reversible and uniform, spells
-/// the words by the names of its symbols, and makes its board in the window, at its start with them. A refusal tells
-/// what is wrong first: with the bytes, the machine, the words' names, the tapes' symbols, the words' lengths, the
-/// number of elements.
+/// the words by the names of its symbols, and makes its circuit in the window, at its start with them. A refusal names
+/// the first thing that is wrong: with the bytes, the machine, the words' names, the tapes' symbols, the words'
+/// lengths, the number of elements.
 pub fn open_build(
     alloc: Global,
     words: &TapeWords,

@@ -1,4 +1,4 @@
-//! Where a driven board has come to.
+//! Where the signal of a circuit is.
 
 ghost use Rattle.std.specs.Prelude.{◌≡◌, ◌≢◌, ℕ, List, IfOk};
 ghost use Rattle.bn_circuits.specs.declared.line.Line.{Line as Entered};
@@ -36,7 +36,7 @@ pub struct Stop {
     pub three: u32,
 }
 
-/// Where a drive has come to.
+/// Where the signal is.
 #[derive(Clone, Copy)]
 pub enum Outcome {
     /// The signal is inside, about to enter this line.
@@ -57,7 +57,7 @@ pub enum Outcome {
 }
 
 impl Outcome {
-    /// The status of a drive that has come to this.
+    /// The status of a drive that ends so.
     pub fn status(self) -> Status
         ensures { result ≡ outcome_status self }
     {
@@ -70,7 +70,7 @@ impl Outcome {
     }
 }
 
-/// Where a board of this machine has come to, whose cells show this.
+/// Where the signal of a circuit of this machine is, whose cells show this.
 pub fn outcome_of(
     alloc: Global,
     machine: &Uniform,
@@ -95,7 +95,7 @@ pub fn outcome_of(
     }
 }
 
-// The same of a board whose signal has left by a line of this element, which the layout calls by this exit.
+// The same for a circuit whose signal has left by a line of this element, which the layout calls by this exit.
 fn outcome_left(
     alloc: Global,
     machine: &Uniform,
@@ -117,7 +117,7 @@ fn outcome_left(
     }
 }
 
-// The same of a board whose signal has left by a loose line of the control.
+// The same for a circuit whose signal has left by a loose line of the control.
 fn stuck_by(
     alloc: Global,
     machine: &Uniform,

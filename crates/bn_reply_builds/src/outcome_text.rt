@@ -1,4 +1,4 @@
-//! The names of a table in the text of a board: where it has come to, and its tapes.
+//! The names of a table in the text of a circuit: where its signal is, and its tapes.
 
 ghost use Rattle.std.specs.Prelude.{◌≡◌, ◌++◌, ◌∷◌, [], ◌<◌, ◌≤◌, ℕ, codes, length, OnOk, OnErr, Some};
 ghost use Rattle.bn_circuits.specs.declared.line.Line.{Line};
@@ -24,8 +24,7 @@ pub struct TableNames<'a> {
     pub names: &'a QuadNames,
 }
 
-/// Appends the line that says where a board has come to. After `NoMemory` a front of the line may stand behind the
-/// text.
+/// Appends the line that says where the signal is. After `NoMemory` a prefix of the line may follow the text.
 pub fn push_outcome(
     text: &mut Vec<u8>,
     names: &TableNames<'_>,
@@ -129,7 +128,7 @@ fn push_symbol(
     }
 }
 
-/// Appends the lines of the three tapes. After `NoMemory` a front of the lines may stand behind the text.
+/// Appends the lines of the three tapes. After `NoMemory` a prefix of the lines may follow the text.
 pub fn push_tapes(
     text: &mut Vec<u8>,
     names: &TableNames<'_>,

@@ -1,4 +1,4 @@
-//! A run of a board for a greatest number of steps.
+//! A run of a circuit for a greatest number of steps.
 
 ghost use Rattle.std.specs.Prelude.{◌≡◌, ◌+◌, ◌-◌, is_some};
 ghost use Rattle.bn_circuits.specs.Counting.{one_if};
@@ -11,8 +11,8 @@ ghost use Rattle.bn_board.specs.Flattened.{IsSameBoard};
 use bn_board::Board;
 use bn_circuits::Watch;
 
-/// Runs a board for at most so many steps, and answers the moments from where it was on, that one among them, less one.
-/// The watch is told the place after each step. It takes no memory.
+/// Runs a circuit for at most this many steps, and returns the moments from its configuration on, that one among them,
+/// less one. The watch is told the place after each step. It takes no memory.
 pub(crate) fn run_for<W: Watch>(board: &mut Board, most_steps: u64, watch: &mut W) -> u64
     ensures steps { result
         ≡ moments board.old.layout (rotary_circuit board.old.net) most_steps board.old.config - 1 }

@@ -1,4 +1,4 @@
--- What is answered to the refusals of the reader of farms, in the code's own words.
+-- The answers to the refusals of the reader of farms, in the code's own terms.
 use Rattle.std.specs.Prelude.{◌≡◌, ℕ, List, [], ◌∷◌, codes, decimal}
 use Rattle.bn_netlist_laws.specs.Faults.{malformed, too_many, no_element, out_of_order, end_wired, left_wired}
 use Rattle.bn_netlist_laws.specs.Faults.{start_fed, second_source, spelled_out}
@@ -14,7 +14,7 @@ use Rattle.bn_reply_circuits.specs.FarmReply.{board_line, farm_elements_line, no
 use Rattle.bn_farm.specs.declared.farm_refusal.FarmRefusal.{FarmRefusal}
 use Rattle.bn_farm.specs.declared.farm_refusal.FarmRefusal.TheVariants as farm
 
--- the line that refuses a board for what is wrong with one of its lines
+-- the line that refuses a circuit for what is wrong with one of its lines
 abbrev pub board_fault_text : ℕ → ℕ → List ℕ → List ℕ
 board_fault_text board number what =
     line (codes "text: board " ∷ decimal board ∷ codes " line " ∷ decimal number ∷ codes " " ∷ what ∷ [])
@@ -23,7 +23,7 @@ board_fault_text board number what =
 abbrev pub schedule_fault_text : ℕ → List ℕ → List ℕ
 schedule_fault_text number what = line (codes "text: schedule line " ∷ decimal number ∷ codes " " ∷ what ∷ [])
 
--- the fault and the line of a refusal of a board
+-- the fault and the line of a refusal of a circuit
 abbrev pub IsBoardRefused : ℕ → NetlistRefusal → List ℕ → Type 0
 IsBoardRefused board (Syntax number) text = text ≡ board_line board number malformed
 IsBoardRefused board (Order number) text = text ≡ board_line board number out_of_order

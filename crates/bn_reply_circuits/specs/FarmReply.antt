@@ -1,5 +1,5 @@
--- What the command `farm` answers: several boards are played by a schedule (this project's own profile). What is wrong
--- with the bytes comes first: no line `%`; the first faulty board, with its first fault; the first faulty line of the
+-- What the command `farm` answers: several circuits run under a schedule (this project's own profile). What is wrong
+-- with the bytes comes first: no line `%`; the first faulty circuit, with its first fault; the first faulty line of the
 -- schedule, with its first fault. Then comes the number of all elements.
 use Rattle.std.specs.Prelude.{◌≡◌, ◌≢◌, ℕ, suc, ◌+◌, ◌<◌, ◌≤◌, List, [], ◌∷◌, ◌++◌, length, codes, decimal}
 use Rattle.bn_lists.specs.Lists.{IsFirstWith}
@@ -40,7 +40,7 @@ farm_elements_line count = line (codes "size: elements " ∷ decimal count ∷ [
 
 -- ---- answers
 
--- The board of this number, counted from 1, is the first that has no reading, and the text names it and its first
+-- The circuit of this number, counted from 1, is the first that has no reading, and the text names it and its first
 -- fault.
 pub record TellsBoard (parts : List (List ℕ)) (text : List ℕ) : Type 0 where
   pub board : ℕ
@@ -51,8 +51,8 @@ pub record TellsBoard (parts : List (List ℕ)) (text : List ℕ) : Type 0 where
   pub faulty : IsFirstFault part line fault
   pub told : text ≡ board_line board line fault
 
--- What is answered to these boards and this schedule's bytes: the first faulty line; or there are too many elements; or
--- the boards after the schedule, and the schedule that undoes it.
+-- The answer to these circuits and this schedule's bytes: the first faulty line; or there are too many elements; or the
+-- circuits after the schedule, and the schedule that undoes it.
 pub data ScheduleReplies (bs : List FarmBoard) (bytes : List ℕ) (status : Status) (text : List ℕ)
     (told : List Place) : Type 0 where
   faulty : (n : ℕ) (fault : ScheduleFault) → FailsAfter (length bs) n bytes fault → text ≡ schedule_line (suc n) fault
@@ -64,8 +64,7 @@ pub data ScheduleReplies (bs : List FarmBoard) (bytes : List ℕ) (status : Stat
       → IsFarmText (farm_after bs es) (undoing bs es) text → status ≡ statuses.Done → told ≡ []
       → ScheduleReplies bs bytes status text told
 
--- What is answered to these bytes: no line is `%`; the first faulty board; or what is answered to the boards and the
--- schedule.
+-- The answer to these bytes: no line is `%`; the first faulty circuit; or the answer to the circuits and the schedule.
 pub data FarmReplies (bytes : List ℕ) (status : Status) (text : List ℕ) (told : List Place) : Type 0 where
   no_schedule : IsUncut bytes → text ≡ no_schedule_line → status ≡ statuses.Text → told ≡ []
       → FarmReplies bytes status text told
@@ -81,7 +80,7 @@ FarmIsSettled = (bytes : List ℕ) → IsSettled (FarmReplies bytes)
 -- ---- `farm` on the text of `farm`
 
 -- The bytes were the text of a farm and a schedule, and the text of the answer to the answer is that of the first
--- boards, byte for byte, and of the lines of the schedule that made steps, each with the number made.
+-- circuits, byte for byte, and of the lines of the schedule that made steps, each with the number made.
 pub record ComesBack (bytes again : List ℕ) : Type 0 where
   pub boards : List FarmBoard
   pub schedule : List Event

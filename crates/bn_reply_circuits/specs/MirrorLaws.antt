@@ -1,4 +1,4 @@
--- What the laws of this crate say, each a field of `Laws`.
+-- The statements of this crate's laws, each a field of `Laws`.
 use Rattle.std.specs.Prelude.{◌≡◌, ℕ, ◌≤◌, List, []}
 use Rattle.bn_circuits.specs.Situations.{counted, situation_of}
 use Rattle.bn_circuits.specs.declared.place.Place.{Place}
@@ -23,14 +23,14 @@ pub record IsUncounted (bytes text : List ℕ) : Type 0 where
   pub spelled : Spelled version spelling bytes
   pub written : IsTextOf version (moved_to spelling (counted (situation_of spelling.config) 0)) text
 
--- `mirror` on the text of `mirror` gives the first text, with no steps counted.
+-- `mirror` on the text of `mirror` restores the first text, with no steps counted.
 abbrev pub MirroredTextsComeBack : Type 0
 MirroredTextsComeBack =
     (bytes text again : List ℕ) (status : Status) (told : List Place) → MirrorReplies bytes Done text []
     → MirrorReplies text status again told → (status ≡ Done) × IsUncounted bytes again
 
--- A board at any number of steps up to its exit may be spelled, and as many steps of its mirror leave it with the
--- mirrored start, where the signal has left by the mirror's end line.
+-- The circuit of a machine after any number of steps up to its exit may be spelled, and as many steps of its inverse
+-- circuit leave it with the inverse start, and the signal has left by the inverse circuit's end line.
 abbrev pub BoardsComeBack : Type 0
 BoardsComeBack =
     (p : Program) (word : List ℕ) (l : Limits) (f : Flat) → IsFlatOf p word l f → IsAccepted p word l f

@@ -1,5 +1,5 @@
--- What the command `mirror` answers: the text of the mirror of the configuration that a text spells (this project's own
--- profile).
+-- What the command `mirror` answers: the text of the inverse circuit of the configuration that a text spells (this
+-- project's own profile).
 use Rattle.std.specs.Prelude.{◌≡◌, ℕ, List, []}
 use Rattle.bn_circuits.specs.declared.place.Place.{Place}
 use Rattle.bn_netlist_laws.specs.Spelling.{Spelling, IsTextOf, Spelled}
@@ -10,7 +10,7 @@ use Rattle.bn_reply.specs.declared.status.Status.{Status}
 use Rattle.bn_reply.specs.declared.status.Status.TheVariants.{Done, Text}
 use Rattle.bn_reply_relations.specs.CircuitReply.{Misspelled}
 
--- The bytes spell a configuration, in either version, and the text is that of its mirror in the same version.
+-- The bytes spell a configuration, in either version, and the text is that of its inverse circuit in the same version.
 pub record Mirrored (bytes text : List ℕ) : Type 0 where
   pub version : Version
   pub spelling : Spelling
@@ -19,8 +19,8 @@ pub record Mirrored (bytes text : List ℕ) : Type 0 where
   pub is_mirror : IsMirror spelling image
   pub written : IsTextOf version image text
 
--- What `mirror` answers: the first fault of bytes that are no configuration text, or the text of the mirror of what
--- they spell. A watch is told nothing.
+-- What `mirror` answers: the first fault of bytes that are no configuration text, or the text of the inverse circuit of
+-- what they spell. A watch is told nothing.
 pub data MirrorReplies (bytes : List ℕ) (status : Status) (text : List ℕ) (told : List Place) : Type 0 where
   misspelled : Misspelled bytes text → status ≡ Text → told ≡ [] → MirrorReplies bytes status text told
   mirrored : Mirrored bytes text → status ≡ Done → told ≡ [] → MirrorReplies bytes status text told

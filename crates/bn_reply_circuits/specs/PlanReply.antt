@@ -24,7 +24,7 @@ abbrev pub wire_lines : List Tracked → List ℕ
 wire_lines [] = []
 wire_lines (t ∷ ts) = wire_line t ++ wire_lines ts
 
--- the text of a floor plan of so many elements
+-- the text of a floor plan of this many elements
 abbrev pub plan_text : ℕ → FloorPlan → List ℕ
 plan_text count f =
     line (codes "elements " ∷ decimal count ∷ [])
@@ -33,7 +33,7 @@ plan_text count f =
     ++ (line (codes "densest " ∷ decimal f.densest ∷ [])
     ++ wire_lines f.wires)))
 
--- The text is that of the floor plan of a circuit of so many elements with this list of wires.
+-- The text is that of the floor plan of a circuit of this many elements with this list of wires.
 pub record TellsPlan (circuit : List Wire) (count : ℕ) (text : List ℕ) : Type 0 where
   pub wires : List Wire
   pub listed : AreWiresOf circuit wires

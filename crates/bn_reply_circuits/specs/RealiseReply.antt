@@ -35,7 +35,7 @@ rsm_fault_line (faults.SameDomain i j) = []
 rsm_fault_line (faults.SameRange i j) = []
 rsm_fault_line faults.NoMemory = []
 
--- the bytes have no reading as moves, and the text tells their first fault
+-- the bytes have no reading as moves, and the text names their first fault
 abbrev pub TellsRsmFault : List ℕ → List ℕ → Type 0
 TellsRsmFault bytes text =
     TellsFirst (AreReadAs (entries_of bytes)) (move_table_fault (entries_of bytes)) rsm_fault_line text
@@ -47,7 +47,7 @@ clash_line (clash.SameRange i j) = line (codes "machine: range " ∷ decimal i �
 clash_line (clash.Range j) = []
 clash_line clash.NoMemory = []
 
--- the bytes read as moves two of which agree on a side, and the text tells the first such
+-- the bytes read as moves two of which agree on a side, and the text names the first such
 pub record TellsClash (bytes text : List ℕ) : Type 0 where
   pub said : RsmRefusal
   pub clashes : MovesClash bytes said
@@ -73,8 +73,8 @@ pub record TellsElements (m : Machine) (q i : ℕ) (text : List ℕ) : Type 0 wh
   pub many : MOST_ELEMENTS < bank_elements m
   pub told : text ≡ line (codes "size: elements " ∷ decimal (bank_elements m) ∷ [])
 
--- What is spelled is the machine's bank, with the bank's own wires and no others, at rest in this state, with the
--- signal about to enter this input line, which is the start; the end is the line by which the signal comes out.
+-- The text spells the machine's bank, with the bank's own wires and no others, at rest in this state, with the signal
+-- about to enter this input line, which is the start; the end is the line by which the signal leaves.
 pub record IsBankSpelling (m : Machine) (state row : ℕ) (s : Spelling) : Type 0 where
   pub elements : s.elements ≡ bank_elements m
   pub wires : (from to : Line) → (target s.wires from ≡ Some to) ↔ IsBankWire 0 (machine_table m) from to
@@ -91,14 +91,14 @@ pub record TellsBank (m : Machine) (q i : ℕ) (text : List ℕ) : Type 0 where
   pub bank : IsBankSpelling m state row spelling
   pub spelled : Spelled Two spelling text
 
--- What is answered of a machine: it lacks the state or the line; its bank is too large; or the text of the bank.
+-- The answer for a machine: it lacks the state or the line; its bank is too large; or the text of the bank.
 pub data BankReplies (m : Machine) (q i : ℕ) (status : Status) (text : List ℕ) (told : List Place) : Type 0 where
   lacking : LacksPlace m q i text → status ≡ statuses.Word → told ≡ [] → BankReplies m q i status text told
   large : TellsElements m q i text → status ≡ statuses.Size → told ≡ [] → BankReplies m q i status text told
   bank : TellsBank m q i text → status ≡ statuses.Done → told ≡ [] → BankReplies m q i status text told
 
--- What `realise` answers to these bytes: the fault of bytes that are no moves; two moves that agree on a side; or what
--- is answered of the machine.
+-- What `realise` answers to these bytes: the fault of bytes that are no moves; two moves that agree on a side; or the
+-- answer for the machine.
 pub data RealiseReplies (q i : ℕ) (bytes : List ℕ) (status : Status) (text : List ℕ) (told : List Place) : Type 0 where
   faulty : TellsRsmFault bytes text → status ≡ statuses.Text → told ≡ [] → RealiseReplies q i bytes status text told
   clashing : TellsClash bytes text → status ≡ statuses.Machine → told ≡ [] → RealiseReplies q i bytes status text told

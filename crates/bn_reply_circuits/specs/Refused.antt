@@ -1,4 +1,4 @@
--- What is answered to the refusals of the readers, in the code's own words.
+-- The answers to the refusals of the readers, in the code's own terms.
 use Rattle.std.specs.Prelude.{◌≡◌, ℕ, List, [], ◌∷◌, ◌++◌, Option, Result, decimal, codes, IfOk}
 use Rattle.bn_lists.specs.declared.memory.NoMemory.{NoMemory as WantOfMemory}
 use Rattle.bn_netlist.specs.declared.refusal.FromRefusal.{FromRefusal}
@@ -50,13 +50,13 @@ IsRsmRefused (faults.Number i j) status text = (status ≡ statuses.Text) × (te
 IsRsmRefused (faults.TooMany i) status text = (status ≡ statuses.Text) × (text ≡ rsm_fault_line (faults.TooMany i))
 IsRsmRefused faults.Empty status text = (status ≡ statuses.Text) × (text ≡ rsm_fault_line faults.Empty)
 
--- how telling that a text is none ends: its line is the reply that is given, unless memory is wanting
+-- how reporting that a text is none ends: its line is the reply, unless memory runs out
 abbrev pub RefusalEnds : NetlistRefusal → Status → Option (List ℕ) → Option (List ℕ) → ℕ → ℕ → Type 0
 RefusalEnds refusal result taken took before now =
     (reply : Result Reply WantOfMemory) × IfOk reply (λ r. IsRefused refusal r.status r.text.items)
     × FinishesReply reply result taken took before now
 
--- how telling that nothing was read ends
+-- how reporting that nothing was read ends
 abbrev pub UnreadEnds : FromRefusal → Status → Option (List ℕ) → Option (List ℕ) → ℕ → ℕ → Type 0
 UnreadEnds reading.ReadFault result taken took before now =
     Finishes statuses.ReadFault result taken took before now read_fault_text

@@ -1,4 +1,4 @@
--- An answer that isn't written yet: a reply, or the configuration whose text it is.
+-- An answer that is not written yet: a reply, or the configuration whose text it is.
 use Rattle.std.specs.Prelude.{◌≡◌, List, ℕ, []}
 use Rattle.bn_circuits.specs.declared.place.Place.{Place}
 use Rattle.bn_netlist_laws.specs.Spelling.{Admits, IsTextOf}
@@ -25,7 +25,7 @@ IsWrittenAs (Line reply) status text = (status ≡ reply.status) × (text ≡ re
 IsWrittenAs (Config c) status text = (status ≡ Done) × IsTextOf c.version (spelling_of c) text
 IsWrittenAs (Packed c) status text = (status ≡ Done) × IsTextOf c.version (spelling_of_packed c) text
 
--- It can be written, and then it is what a command answers, of which `replies` says what that is; nothing is told.
+-- It can be written, and then it is what a command answers, as `replies` says; no place is told.
 pub record WillReply (replies : Status → List ℕ → List Place → Type 0) (answer : Unwritten) : Type 0 where
   pub writable : IsWritable answer
   pub right : (status : Status) (text : List ℕ) → IsWrittenAs answer status text → replies status text []

@@ -1,4 +1,4 @@
-//! What the commands on configuration texts share: the text that is written in pieces, and why none was read.
+//! What the commands on configuration texts share: writing a text in pieces, and reporting why none was read.
 
 ghost use Rattle.std.specs.Prelude.{◌≡◌};
 ghost use Rattle.bn_io.specs.Faults.{CountsUnless};
@@ -12,8 +12,8 @@ use bn_netlist::{FromRefusal, Spellable, ToRefusal, write_config_to};
 use bn_reply::{Status, give_reply, tell_long_input, tell_read_fault};
 use std::alloc::Global;
 
-/// Gives the text of a configuration that may be spelled in its version, in pieces; or, where the sink fails or memory
-/// is wanting, a front of it.
+/// Gives the text of a configuration that may be spelled in its version, in pieces; or, if the sink fails or memory
+/// runs out, a prefix of it.
 pub fn give_config<K: Sink, C: Spellable>(alloc: Global, sink: &mut K, config: &C) -> Status
     requires { Admits (C.version config.now) (C.spelling config.now) }
     ensures ends { TextEnds (IsTextOf (C.version config.now) (C.spelling config.now)) result (K.taken sink.old)
@@ -27,7 +27,7 @@ pub fn give_config<K: Sink, C: Spellable>(alloc: Global, sink: &mut K, config: &
     }
 }
 
-/// Tells why no configuration text was read: the line of the refusal, with its status.
+/// Reports why no configuration text was read: the line of the refusal, with its status.
 pub fn refuse_input<K: Sink>(alloc: Global, sink: &mut K, refusal: FromRefusal) -> Status
     ensures ends { UnreadEnds refusal result (K.taken sink.old) (K.taken sink.new) (K.faults sink.old)
         (K.faults sink.new) }

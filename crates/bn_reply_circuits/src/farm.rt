@@ -14,7 +14,7 @@ use bn_netlist::NetlistRefusal;
 use bn_reply::{NoMemory, Reply, Status};
 use std::alloc::Global;
 
-/// What `farm` answers: the boards after the schedule, each with a line `%` behind it, and the schedule that undoes it;
+/// What `farm` answers: the circuits after the schedule, each followed by a line `%`, and the schedule that undoes it;
 /// or what is wrong with the bytes. (This project's own profile.)
 pub fn reply_farm(alloc: Global, bytes: &[u8]) -> Result<Reply, NoMemory>
     requires { length bytes.now ≤ MOST_FARM_BYTES }
@@ -26,7 +26,7 @@ pub fn reply_farm(alloc: Global, bytes: &[u8]) -> Result<Reply, NoMemory>
     }
 }
 
-// What is answered of a farm and a schedule.
+// The answer for a farm and a schedule.
 fn play_farm(alloc: Global, mut farm: Farm, schedule: &Schedule) -> Result<Reply, NoMemory>
     requires { AreOnBoards (length farm) schedule.now }
     ensures { IfOk result (λ r. (r.status ≡ Status.Done)
@@ -39,7 +39,7 @@ fn play_farm(alloc: Global, mut farm: Farm, schedule: &Schedule) -> Result<Reply
     })
 }
 
-// What is answered of bytes that are no farm with a schedule.
+// The answer to bytes that are no farm with a schedule.
 fn refuse_farm(alloc: Global, refusal: FarmRefusal) -> Result<Reply, NoMemory>
     ensures { IfOk result (λ r. IsFarmRefused refusal r.status r.text.items) }
 {
@@ -61,7 +61,7 @@ fn refuse_farm(alloc: Global, refusal: FarmRefusal) -> Result<Reply, NoMemory>
     }
 }
 
-// The line of a board's first fault.
+// The line of a circuit's first fault.
 fn refuse_board(alloc: Global, board: u32, fault: NetlistRefusal) -> Result<Vec<u8>, NoMemory>
     ensures { IfOk result (λ text. IsBoardRefused board fault text.items) }
 {
@@ -79,7 +79,7 @@ fn refuse_board(alloc: Global, board: u32, fault: NetlistRefusal) -> Result<Vec<
     }
 }
 
-// The line that refuses a board for what is wrong with one of its lines.
+// The line that refuses a circuit for what is wrong with one of its lines.
 fn board_line(alloc: Global, board: u32, line: u64, what: &str) -> Result<Vec<u8>, NoMemory>
     ensures { IfOk result (λ text. text.items ≡ board_fault_text board line what.now) }
 {

@@ -1,5 +1,5 @@
 //! The answers of the commands on circuits: `step`, `back`, `plan`, `migrate` and `mirror` on configuration texts,
-//! which are read and written in pieces, `realise`, and `farm`.
+//! which are read and written in pieces, `realise`, `farm`, and `element`.
 #![tactic(auto)]
 
 mod config;

@@ -1,4 +1,4 @@
-//! The command `mirror`: neither text stands whole in memory.
+//! The command `mirror`: neither text is in memory as a whole.
 
 ghost use Rattle.std.specs.Prelude.{Option, List};
 ghost use Rattle.bn_circuits.specs.declared.place.Place.{Place};
@@ -13,8 +13,9 @@ use bn_netlist::{NetConfig, read_text};
 use bn_reply::{MOST_INPUT_BYTES, Status};
 use std::alloc::Global;
 
-/// Answers `mirror`: reads a configuration text of either version and gives the sink that of its mirror, in the version
-/// that was read; or tells the first fault of bytes that are no configuration text. It tells no watch anything.
+/// Answers `mirror`: reads a configuration text of either version and gives the sink that of its inverse circuit, in
+/// the version that was read; or reports the first fault of bytes that are no configuration text. It tells no watch
+/// anything.
 pub fn answer_mirror<I: Input, K: Sink>(alloc: Global, input: &mut I, sink: &mut K) -> Status
     ensures ends { (told : Option (List Place)) → StreamEnds MirrorReplies result
         (outside (I.left input.old) (K.taken sink.old) told (I.faults input.old) (K.faults sink.old))

@@ -31,7 +31,7 @@ pub fn answer_plan<I: Input, K: Sink>(alloc: Global, input: &mut I, sink: &mut K
     give_reply(sink, plan_net(alloc, &read.net))
 }
 
-// What is answered of a net that was read.
+// The answer for a net that was read.
 fn plan_net(alloc: Global, net: &Net<Rotary>) -> Result<Reply, NoMemory>
     requires { length net.now.elements ≤ MOST_ELEMENTS }
     ensures status { IfOk result (λ r. r.status ≡ Status.Done) }

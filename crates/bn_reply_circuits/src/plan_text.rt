@@ -15,8 +15,8 @@ use bn_plan::{Plan, Tracked};
 use bn_reply::NoMemory;
 use std::alloc::Global;
 
-/// The text of a floor plan of so many elements: four lines with a number each, and a line a wire.
-/// Elements and positions are counted from 0, tracks from 1. (This project's own profile.)
+/// The text of a floor plan of this many elements: four lines with a number each, and a line for each wire. Elements
+/// and positions are counted from 0, tracks from 1. (This project's own profile.)
 pub(crate) fn plan_text(alloc: Global, elements: u32, plan: &Plan) -> Result<Vec<u8>, NoMemory>
     requires { (t : Tracked) → Has plan.now.wires t → HasFourLines (untracked t) }
     ensures { IfOk result (λ text. text.items ≡ plan_text elements plan.now) }

@@ -42,7 +42,7 @@ pub fn answer_realise<K: Sink>(
     }
 }
 
-// What `realise` answers, before it is written.
+// The answer of `realise`, before it is written.
 fn bank_of(alloc: Global, state: u32, line: u32, bytes: &[u8]) -> Result<Unwritten, NoMemory>
     requires state { 1 ≤ state }
     requires line { 1 ≤ line }
@@ -57,7 +57,7 @@ fn bank_of(alloc: Global, state: u32, line: u32, bytes: &[u8]) -> Result<Unwritt
     }
 }
 
-// What is answered of bytes that are no table of a machine.
+// The answer to bytes that are no table of a machine.
 fn refuse(alloc: Global, refusal: RsmTableRefusal) -> Result<Reply, NoMemory>
     ensures { IfOk result (λ r. IsRsmRefused refusal r.status r.text.items) }
 {
@@ -84,7 +84,7 @@ fn refuse(alloc: Global, refusal: RsmTableRefusal) -> Result<Reply, NoMemory>
     }
 }
 
-// What is answered of a machine, before it is written.
+// The answer for a machine, before it is written.
 fn bank_in(alloc: Global, rsm: &Rsm, state: u32, line: u32) -> Result<Unwritten, NoMemory>
     requires state { 1 ≤ state }
     requires line { 1 ≤ line }
@@ -144,8 +144,7 @@ fn bank_config(
     })
 }
 
-// The line by which the signal comes out of the bank: the output line of the move, or the loose line
-// where the pair has no move.
+// The line by which the signal leaves the bank: the output line of the move, or the loose line if the pair has no move.
 fn exit_line(rsm: &Rsm, state: u32, line: u32) -> Line
     requires few { bank_elements rsm.now ≤ MOST_ELEMENTS }
     requires state { state < rsm.now.states }

@@ -1,4 +1,4 @@
-//! What is answered to bytes that are no configuration text.
+//! The answer to bytes that are no configuration text.
 
 ghost use Rattle.std.specs.Prelude.{◌≡◌, IfOk};
 ghost use Rattle.bn_reply_circuits.specs.Refused.{IsRefused, line_text};
@@ -7,7 +7,7 @@ use bn_netlist::NetlistRefusal;
 use bn_reply::{NoMemory, Reply, Status};
 use std::alloc::Global;
 
-/// What is answered to bytes that are no configuration text, by their first fault.
+/// The answer to bytes that are no configuration text, by their first fault.
 pub(crate) fn refuse_config(alloc: Global, refusal: NetlistRefusal) -> Result<Reply, NoMemory>
     ensures { IfOk result (λ r. IsRefused refusal r.status r.text.items) }
 {

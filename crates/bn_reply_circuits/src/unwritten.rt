@@ -1,4 +1,4 @@
-//! An answer that isn't written yet.
+//! An answer that is not written yet.
 
 ghost use Rattle.std.specs.Prelude.{◌≡◌, Option, List, []};
 ghost use Rattle.bn_io.specs.Faults.{CountsUnless};
@@ -12,7 +12,7 @@ use bn_netlist::{NetConfig, PackedConfig};
 use bn_reply::{Reply, Status, give_reply};
 use std::alloc::Global;
 
-/// An answer that isn't written yet: a reply, or the configuration whose text it is.
+/// An answer that is not written yet: a reply, or the configuration whose text it is.
 #[derive(Drop)]
 pub enum Unwritten {
     /// A reply.
@@ -24,8 +24,8 @@ pub enum Unwritten {
 }
 
 impl Unwritten {
-    /// Gives it to a sink, the text of a configuration in pieces, and answers its status; `WriteFault` where the
-    /// sink failed, and `NoMemory` where memory was wanting.
+    /// Gives it to a sink, the text of a configuration in pieces, and returns its status; `WriteFault` if the sink
+    /// failed, and `NoMemory` if memory ran out.
     pub fn give<K: Sink>(self, alloc: Global, sink: &mut K) -> Status
         requires { IsWritable self }
         ensures ends { (told : Option (List Place)) →

@@ -49,7 +49,7 @@ pub fn answer_back<I: Input, K: Sink, W: Watch>(
     answer_walk(alloc, Direction::Backward, count, input, sink, watch)
 }
 
-// Answers the one of them that makes its steps in this direction.
+// Answers the command that makes its steps in this direction.
 fn answer_walk<I: Input, K: Sink, W: Watch>(
     alloc: Global,
     direction: Direction,

@@ -1,4 +1,4 @@
--- What the laws of this crate say, each a field of `Laws`.
+-- The statements of this crate's laws, each a field of `Laws`.
 use Rattle.std.specs.Prelude.{◌≡◌, ℕ, ◌+◌, ◌*◌, ◌≤◌, List, [], length}
 use Rattle.bn_circuits.specs.declared.place.Place.{Place}
 use Rattle.bn_table.specs.Reading.{Reads}
@@ -45,8 +45,8 @@ pub record TellsHalt (t u : Named) (i : ℕ) (y : List ℕ) (status : Status) (t
   pub status_is : status ≡ Done
   pub text_is : text ≡ erased_lines (joined t u) i [] y
 
--- The answer tells a halt exactly where both machines halt, each on the other's word, and the number of steps that they
--- make it take is at most n; and it tells this number and the first machine's output.
+-- The answer reports a halt exactly if both machines halt, each on the other's word, and the number of steps that the
+-- erasing machine then makes is at most n; and it reports this number and the first machine's output.
 abbrev pub ErasingRunsTellBoth : Type 0
 ErasingRunsTellBoth =
     (bytes word : List ℕ) (t u : Named) (symbols : List ℕ) (n : ℕ) (status : Status) (text : List ℕ)
@@ -57,12 +57,12 @@ ErasingRunsTellBoth =
 -- ---- the laws
 
 pub record Laws : Type 0 where
-  -- To all bytes `erase` has an answer, and only one.
+  -- For all bytes `erase` has an answer, and only one.
   pub erase_has_one_reply : EraseIsSettled
-  -- To all words, numbers of steps and bytes `erase =W n` has an answer, and only one.
+  -- For all words, numbers of steps and bytes `erase =W n` has an answer, and only one.
   pub erase_run_has_one_reply : EraseRunIsSettled
-  -- `erase =W n` answers that the run halts exactly where both machines do, each on the other's word, and the number of
-  -- steps that they make it take is at most n (Bennett 1973).
+  -- `erase =W n` answers that the run halts exactly if both machines do, each on the other's word, and the number of
+  -- steps that the erasing machine then makes is at most n (Bennett 1973).
   pub erasing_runs_tell_both : ErasingRunsTellBoth
   -- The table that `bennett` prints is within the limit of an input.
   pub bennett_texts_may_be_read : BennettTextsMayBeRead

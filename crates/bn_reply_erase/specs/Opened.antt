@@ -1,4 +1,4 @@
--- What comes of bytes that are to be two tables, and of two machines that are to be in standard form.
+-- The results of opening bytes as two tables, and of testing two machines for standard form.
 use Rattle.std.specs.Prelude.{◌≡◌, ◌≢◌, ℕ, List, []}
 use Rattle.bn_circuits.specs.declared.place.Place.{Place}
 use Rattle.bn_table.specs.Reading.{Reads}
@@ -20,11 +20,11 @@ use Rattle.bn_reply_erase.specs.declared.pair.OpenedPair.TheVariants as opened
 use Rattle.bn_reply_erase.specs.declared.pair.JudgedPair.{JudgedPair}
 use Rattle.bn_reply_erase.specs.declared.pair.JudgedPair.TheVariants as judged
 
--- nothing is answered to two tables with machines in standard form, so that an answer is a refusal
+-- there is no answer to two tables with machines in standard form, so that an answer is a refusal
 abbrev pub nothing : Named → Named → Status → List ℕ → List Place → Type 0
 nothing t u status text told = ⊥
 
--- the two tables' machines over one alphabet, or what is answered where there aren't two tables
+-- the two tables' machines over one alphabet, or the answer if there are not two tables
 abbrev pub IsOpenedSecond : Named → List ℕ → OpenedPair → Type 0
 IsOpenedSecond t bytes (opened.Joined j) = (u : Named) × Reads bytes u × (j ≡ joined t u)
 IsOpenedSecond t bytes (opened.Refused reply) = (refusal : List ℕ) × TellsFault bytes refusal
@@ -40,7 +40,7 @@ IsOpenedPair bytes (opened.Joined j) =
     × ((t u : Named) × Reads first t × Reads second u × (j ≡ joined t u))
 IsOpenedPair bytes (opened.Refused reply) = PairReplies nothing bytes reply.status reply.text.items []
 
--- the answer tells the first demand that the first machine doesn't meet, or else the second
+-- the answer names the first condition that the first machine does not meet, or else the second
 pub data IsUnfitPair (j : Joint) (reply : Reply) : Type 0 where
   first_unfit : (why : Why) → IsStandardRefusal j.first.quints why → why ≢ whys.NoMemory
       → reply.text.items ≡ why_line why
@@ -48,7 +48,7 @@ pub data IsUnfitPair (j : Joint) (reply : Reply) : Type 0 where
   second_unfit : IsStandard j.first.quints → (why : Why) → IsStandardRefusal j.second.quints why → why ≢ whys.NoMemory
       → reply.text.items ≡ with_second (why_line why) → reply.status ≡ statuses.Machine → IsUnfitPair j reply
 
--- the two machines, both in standard form, or what is answered where they aren't
+-- the two machines, both in standard form, or the answer if they are not
 abbrev pub IsJudgedPair : Joint → JudgedPair → Type 0
 IsJudgedPair j (judged.Standard p q) =
     (p ≡ j.first) × (q ≡ j.second) × IsStandard j.first.quints × IsStandard j.second.quints

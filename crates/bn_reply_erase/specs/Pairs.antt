@@ -16,12 +16,12 @@ use Rattle.bn_reply.specs.declared.status.Status.TheVariants as statuses
 abbrev pub no_second_line : List ℕ
 no_second_line = line (codes "text: no second" ∷ [])
 
--- a line that refuses the second table: the word `second` and a space stand behind its first space
+-- a line that refuses the second table: `second` and a space follow its first space
 abbrev pub with_second : List ℕ → List ℕ
 with_second [] = []
 with_second (byte ∷ rest) = if byte == 32 then byte ∷ codes "second " ++ rest else byte ∷ with_second rest
 
--- What is answered to the bytes of a second table, where `tells` is what is answered to it: the fault of bytes that are
+-- The answer to the bytes of a second table, where `tells` is the answer to the table: the fault of bytes that are
 -- none, or that.
 pub data SecondReplies (tells : Named → Status → List ℕ → List Place → Type 0) (bytes : List ℕ) (status : Status)
     (text : List ℕ) (told : List Place) : Type 0 where
@@ -29,22 +29,21 @@ pub data SecondReplies (tells : Named → Status → List ℕ → List Place →
       → told ≡ [] → SecondReplies tells bytes status text told
   read : (t : Named) → Reads bytes t → tells t status text told → SecondReplies tells bytes status text told
 
--- What is answered to a second table, where `tells` is what is answered where its machine is in standard form: the
--- demand that it doesn't meet, or that.
+-- The answer to a second table, where `tells` is the answer if its machine is in standard form: the condition that it
+-- does not meet, or that.
 pub data SecondJudged (tells : Status → List ℕ → List Place → Type 0) (t : Named) (status : Status) (text : List ℕ)
     (told : List Place) : Type 0 where
   unfit : (refusal : List ℕ) → TellsWhy t refusal → text ≡ with_second refusal → status ≡ statuses.Machine → told ≡ []
       → SecondJudged tells t status text told
   fit : IsStandard t.machine.quints → tells status text told → SecondJudged tells t status text told
 
--- what is answered to the bytes of two tables, where `tells` is what is answered where both machines are in standard
--- form
+-- the answer to the bytes of two tables, where `tells` is the answer if both machines are in standard form
 abbrev pub TwoReplies : (Named → Named → Status → List ℕ → List Place → Type 0) → List ℕ → List ℕ → Status → List ℕ
     → List Place → Type 0
 TwoReplies tells first second =
     TableReplies (λ t. SecondReplies (λ u. JudgedReplies (SecondJudged (tells t u) u) t) second) first
 
--- What is answered to an input: no line is the one before a second table; or what is answered to the two tables.
+-- The answer to an input: no line is the one before a second table; or the answer to the two tables.
 pub data PairReplies (tells : Named → Named → Status → List ℕ → List Place → Type 0) (bytes : List ℕ) (status : Status)
     (text : List ℕ) (told : List Place) : Type 0 where
   uncut : IsUncut bytes → text ≡ no_second_line → status ≡ statuses.Text → told ≡ []

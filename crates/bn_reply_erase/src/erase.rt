@@ -39,9 +39,9 @@ pub fn reply_erase(alloc: Global, bytes: &[u8]) -> Result<Reply, NoMemory>
 }
 
 /// What `erase` answers to a word, a greatest number of steps and some bytes, which are a table, a line `%` and a
-/// second table: all that it answers without a word, and behind the tests of standard form whether the word is one of
+/// second table: all that it answers without a word, and after the tests of standard form whether the word is one of
 /// the two tables' letters without the blank's and has at most 1,048,576 of them; and then how the erasing machine's
-/// run from the word comes out.
+/// run from the word ends.
 pub fn reply_erase_run(
     alloc: Global,
     word: &[u8],
@@ -62,7 +62,7 @@ pub fn reply_erase_run(
     }
 }
 
-// What is answered to two machines in standard form.
+// The answer to two machines in standard form.
 fn reply_machine(
     alloc: Global,
     joined: &Joined,
@@ -92,7 +92,7 @@ fn machine_text(alloc: Global, joined: &Joined, erasing: &Erasing) -> Result<Vec
     write_quads(alloc, erasing.machine().machine(), &names)
 }
 
-// The answer where the erasing machine has too many quadruples.
+// The answer if the erasing machine has too many quadruples.
 fn many_reply(alloc: Global, count: u32) -> Result<Reply, NoMemory>
     ensures status { IfOk result (λ r. r.status ≡ Status.Size) }
     ensures text { IfOk result (λ r. r.text.items ≡ many_line count) }
@@ -103,7 +103,7 @@ fn many_reply(alloc: Global, count: u32) -> Result<Reply, NoMemory>
     })
 }
 
-// What is answered to two machines in standard form and a word.
+// The answer to two machines in standard form and a word.
 fn reply_word(
     alloc: Global,
     joined: &Joined,
@@ -125,7 +125,7 @@ fn reply_word(
     }
 }
 
-// What is answered to two machines in standard form and the symbols of a word.
+// The answer to two machines in standard form and the symbols of a word.
 fn reply_symbols(
     alloc: Global,
     joined: &Joined,
@@ -153,7 +153,7 @@ fn reply_symbols(
     }
 }
 
-// What is answered of a run that comes out so.
+// The answer for a run that ends so.
 fn reply_ended(
     alloc: Global,
     joined: &Joined,

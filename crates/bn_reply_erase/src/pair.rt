@@ -11,21 +11,21 @@ use bn_reply::{NoMemory, OpenedTable, Reply, Status, open_table, why_text};
 use bn_table::Table;
 use std::alloc::Global;
 
-/// The machines of two tables over one alphabet, or the answer to an input that isn't two tables.
+/// The machines of two tables over one alphabet, or the answer to an input that is not two tables.
 #[derive(Drop)]
 pub(crate) enum OpenedPair {
     /// The two machines.
     Joined(Joined),
-    /// What is answered where there aren't two tables.
+    /// The answer if there are not two tables.
     Refused(Reply),
 }
 
-/// Two machines in standard form, or the answer where one of them isn't in that form.
+/// Two machines in standard form, or the answer if one of them is not in that form.
 #[derive(Drop)]
 pub(crate) enum JudgedPair<'a> {
     /// The first machine and the second.
     Standard(Standard<'a>, Standard<'a>),
-    /// What is answered where one isn't in standard form.
+    /// The answer if one is not in standard form.
     Refused(Reply),
 }
 
@@ -90,7 +90,7 @@ pub(crate) fn judge_pair(alloc: Global, joined: &Joined) -> Result<JudgedPair<'_
     }
 }
 
-// The refusal as one of the second table: the word `second` and a space stand behind its first space.
+// The refusal as one of the second table: `second` and a space follow its first space.
 fn tell_second(alloc: Global, reply: &Reply) -> Result<Reply, NoMemory>
     ensures status { IfOk result (λ r. r.status ≡ reply.now.status) }
     ensures text { IfOk result (λ r. r.text.items ≡ with_second reply.now.text.items) }

@@ -14,7 +14,7 @@ use bn_reply::NoMemory;
 use bn_reply_machines::letter_at;
 use std::alloc::Global;
 
-/// How a run comes out.
+/// How a run ends.
 #[derive(Drop)]
 pub(crate) enum Ending {
     /// It is in the final state; the words on tapes 1 and 3, from cell 1 on.
@@ -25,7 +25,7 @@ pub(crate) enum Ending {
     Running,
 }
 
-/// A run's ending, and after how many steps it comes.
+/// The end of a run, and after how many steps it comes.
 #[derive(Drop)]
 pub(crate) struct Ended {
     pub(crate) steps: u32,
@@ -33,7 +33,7 @@ pub(crate) struct Ended {
 }
 
 /// The run of at most `steps` steps from a word, on tapes without ends: each is as wide as the run is long, so that no
-/// head comes to its end.
+/// head reaches its end.
 pub(crate) fn run_word(
     alloc: Global,
     erasing: &Erasing,
@@ -74,8 +74,8 @@ fn wide_tape(alloc: Global, side: u32, word: &[u32]) -> Result<Tape, NoMemory>
     }
 }
 
-// Makes at most `steps` steps, and then one more where all are made. Answers how many were made before the last turn,
-// and that turn.
+// Makes at most `steps` steps, and then one more if all are made. Returns how many were made before the last turn, and
+// that turn.
 fn run(
     machine: &IndexedMachine<'_>,
     state: &mut u32,
@@ -93,7 +93,7 @@ fn run(
     (steps, machine.step(state, tapes))
 }
 
-// How a run comes out that is followed by this turn and leaves this state and these tapes.
+// How a run ends that is followed by this turn and leaves this state and these tapes.
 fn ending_after(
     alloc: Global,
     turn: QuadTurn,

@@ -1,4 +1,4 @@
--- The text lines of the columns and the lines that each cell of a tape has (this project's own profile).
+-- The lines of the text on the columns and the ports that each cell of a tape has (this project's own definition).
 use Rattle.std.specs.Prelude.{ℕ, ◌*◌, List, [], ◌∷◌, ◌++◌, codes, decimal, slice_index}
 use Rattle.std.specs.List.{flat_map, range_with_len}
 use Rattle.bn_table.specs.Rows.{Named}
@@ -22,13 +22,13 @@ cell_line_line tape z i =
     line (codes "line " ∷ decimal i ∷ codes " of tape " ∷ decimal tape ∷ codes " " ∷ cell_line_text (cell_line z i)
     ∷ [])
 
--- the columns and the lines that each cell of this tape of z symbols has
+-- the columns and the ports that each cell of this tape of z symbols has
 abbrev pub cell_lines : Named → ℕ → ℕ → List ℕ
 cell_lines t tape z =
     flat_map (cell_column_line t tape z) (range_with_len 0 (2 * z))
     ++ flat_map (cell_line_line tape z) (range_with_len 0 (cell_line_count z))
 
--- those of what the cells of the three tapes have, where the tapes have so many symbols
+-- the lines on the cells of the three tapes, where the tapes have this many symbols
 abbrev pub tape_lines : Named → List ℕ → List ℕ
 tape_lines t zs =
     cell_lines t 1 (slice_index zs 0) ++ (cell_lines t 2 (slice_index zs 1) ++ cell_lines t 3 (slice_index zs 2))

@@ -1,4 +1,4 @@
--- The text lines of the control's columns and lines (this project's own profile).
+-- The lines of the text on the control's columns and ports (this project's own definition).
 use Rattle.std.specs.Prelude.{ℕ, ◌+◌, ◌-◌, ◌==◌, nat_lt, if◌then◌else◌, List, [], ◌∷◌, ◌++◌, map, codes, decimal}
 use Rattle.std.specs.Prelude.{slice_index, slice_index_or}
 use Rattle.bn_bennett.specs.Translation.{Translation}
@@ -15,11 +15,11 @@ abbrev pub numbers_text : List ℕ → List ℕ
 numbers_text [] = []
 numbers_text (c ∷ cs) = codes " " ++ (decimal c ++ numbers_text cs)
 
--- the printed names of the states of the machine of quadruples, as `view` and breakpoints have them
+-- the printed names of the states of the machine of quadruples, as `view` and breakpoints use them
 abbrev pub state_names : Translation → List (List ℕ)
 state_names m = map bennett_state_text m.names
 
--- a state of the control, where these are the names of the states of the machine of quadruples
+-- a state of the control, with these names of the states of the machine of quadruples
 abbrev pub state_text : List (List ℕ) → ControlState → List ℕ
 state_text names Begin = codes "begin"
 state_text names End = codes "end"
@@ -31,18 +31,18 @@ state_text names (Writes a t u) =
 abbrev pub column_line : List (List ℕ) → ℕ → ControlState → List ℕ
 column_line names j q = line (codes "column " ∷ decimal j ∷ codes " of control " ∷ state_text names q ∷ [])
 
--- those of the control's states, the first of which has this number
+-- the lines of the control's states, the first of which has this number
 abbrev pub column_lines : List (List ℕ) → ℕ → List ControlState → List ℕ
 column_lines names j [] = []
 column_lines names j (q ∷ qs) = column_line names j q ++ column_lines names (j + 1) qs
 
 -- ---- lines of the control
 
--- the name of the control's line by which it commands tape t so
+-- the name of the control's port for this command to tape t
 abbrev pub command_text : ℕ → ℕ → ℕ → List ℕ
 command_text z o t = cell_line_text (cell_line z o) ++ (codes " " ++ decimal t)
 
--- the name of the control's output line i, counted from 0, where the tapes have so many symbols
+-- the name of the control's output port i, counted from 0, where the tapes have this many symbols
 abbrev pub output_text : List ℕ → ℕ → List ℕ
 output_text zs i =
     if i == 0 then codes "End"
@@ -50,7 +50,7 @@ output_text zs i =
     else if nat_lt i (lines_before zs 2) then command_text (slice_index zs 1) (i - lines_before zs 1) 2
     else command_text (slice_index zs 2) (i - lines_before zs 2) 3
 
--- the names of line i, in and out
+-- the names of port i, in and out
 abbrev pub names_text : List ℕ → ℕ → List ℕ
 names_text zs i = line (control_line_text zs i ∷ codes " out " ∷ output_text zs i ∷ [])
 

@@ -3,11 +3,11 @@ use Rattle.bn_reply_layout.specs.LayoutReply.{LayoutIsSettled}
 use Rattle.bn_reply_layout.specs.PlaceLaws.{ModulesAreNamed, ElementsAreFound, TextsTellAll}
 
 pub record Laws : Type 0 where
-  -- To all words, limits that may be asked for, and bytes `layout` has an answer, and only one.
+  -- `layout` has exactly one answer to all words, allowed limits and bytes.
   pub layout_has_one_reply : LayoutIsSettled
-  -- Each module of a board is told, where its bank lies, and no other.
+  -- The text has each module of a circuit, with the place of its bank, and no other.
   pub modules_are_named : ModulesAreNamed
-  -- Where `view` names a module and a line, an element stands in that module alone, in one column and one row.
+  -- If `view` names a module and a port, an element belongs to that module alone, to one column and one row.
   pub elements_are_found : ElementsAreFound
-  -- The text of a layout tells each module, and each state of the control at its column.
+  -- The text of a layout has each module, and each state of the control with its column.
   pub texts_tell_all : TextsTellAll

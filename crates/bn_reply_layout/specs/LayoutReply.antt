@@ -1,5 +1,5 @@
--- What the command `layout` answers: what the board of a machine and a word in a window is made of (the board and the
--- text are this project's own profile).
+-- The answer of the command `layout`: the parts of the circuit of a machine and a word in a window (circuit and text
+-- are this project's own definitions).
 use Rattle.std.specs.Prelude.{◌≡◌, ℕ, List, []}
 use Rattle.bn_circuits.specs.declared.place.Place.{Place}
 use Rattle.bn_machine.specs.Outcome.{Limits}
@@ -12,16 +12,16 @@ use Rattle.bn_reply.specs.declared.status.Status.TheVariants.{Done}
 use Rattle.bn_reply_relations.specs.Windows.{WindowReplies}
 use Rattle.bn_reply_layout.specs.LayoutText.{layout_text}
 
--- the text is that of the board's layout, with the control's states in their order; and nothing is told
+-- the text is that of the circuit's layout, with the control's states in their order; a watch receives nothing
 pub record TellsLayout (t : Named) (f : Flat) (status : Status) (text : List ℕ) (told : List Place) : Type 0 where
   pub text_is : text ≡ layout_text t f.translation f.layout f.names
   pub done : status ≡ Done
   pub silent : told ≡ []
 
--- what `layout` answers to a word, limits and these bytes
+-- the answer of `layout` to a word, limits and these bytes
 abbrev pub LayoutReplies : List ℕ → Limits → List ℕ → Status → List ℕ → List Place → Type 0
 LayoutReplies = WindowReplies TellsLayout
 
--- it has one answer to all words, limits that may be asked for, and bytes
+-- it has exactly one answer to all words, allowed limits and bytes
 abbrev pub LayoutIsSettled : Type 0
 LayoutIsSettled = (word : List ℕ) (l : Limits) (bytes : List ℕ) → AreSmall l → IsSettled (LayoutReplies word l bytes)

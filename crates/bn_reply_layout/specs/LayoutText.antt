@@ -1,5 +1,5 @@
--- The text of a board's layout (this project's own profile): a text line for each module, each column of the control
--- and each of its lines, and for the columns and the lines that all cells of a tape have.
+-- The text of a circuit's layout (this project's own definition): a line for each module, for each column and each port
+-- of the control, and for the columns and the ports that all cells of a tape have.
 use Rattle.std.specs.Prelude.{ℕ, List, ◌++◌}
 use Rattle.std.specs.List.{flat_map, range_with_len}
 use Rattle.bn_table.specs.Rows.{Named}
@@ -10,7 +10,7 @@ use Rattle.bn_reply_layout.specs.ModuleText.{module_lines}
 use Rattle.bn_reply_layout.specs.ControlText.{column_lines, control_line_line, state_names}
 use Rattle.bn_reply_layout.specs.CellText.{tape_lines}
 
--- all lines, where these are the control's states in their order
+-- all lines, with these states of the control in their order
 abbrev pub layout_text : Named → Translation → Layout → List ControlState → List ℕ
 layout_text t m b states =
     module_lines b ++ (column_lines (state_names m) 0 states

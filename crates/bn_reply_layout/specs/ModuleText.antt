@@ -1,4 +1,4 @@
--- The text lines of a board's modules (this project's own profile).
+-- The lines of the text on a circuit's modules (this project's own definition).
 use Rattle.std.specs.Prelude.{ℕ, List, [], ◌∷◌, ◌++◌, codes, decimal, length}
 use Rattle.std.specs.List.{flat_map}
 use Rattle.bn_boards.specs.Layouts.{Layout, elements_of}
@@ -16,7 +16,7 @@ module_text (Cell tape position) = codes "tape " ++ (decimal tape ++ (codes " ce
 abbrev pub modules_line : ℕ → List ℕ
 modules_line count = line (codes "modules " ∷ decimal count ∷ [])
 
--- where a module's bank begins, and how many columns and lines it has
+-- the first element of a module's bank, and its numbers of columns and ports
 abbrev pub bank_text : Bank → List ℕ
 bank_text m =
     line (codes " from " ∷ decimal m.first ∷ codes " columns " ∷ decimal m.columns ∷ codes " lines " ∷ decimal m.lines

@@ -1,5 +1,5 @@
--- The modules of a board as its layout has them: which bank begins at which element, and what it is called (this
--- project's own profile).
+-- The modules of a circuit in its layout: the first element of each bank, and the name of each module (this project's
+-- own definition).
 use Rattle.std.specs.Prelude.{◌≡◌, ℕ, ◌+◌, ◌*◌, ◌<◌, ◌≤◌, pos, ◌-ℤ◌, List, [], ◌∷◌, ◌++◌, map}
 use Rattle.std.specs.List.{range_with_len}
 use Rattle.bn_machine.specs.Outcome.{Limits}
@@ -9,8 +9,8 @@ use Rattle.bn_boards.specs.Layouts.{Layout, first_element, lines_at, symbol_coun
 use Rattle.bn_reply_layout.specs.declared.bank.Bank.{Bank}
 use Rattle.bn_reply_layout.specs.declared.bank.ModuleName.TheVariants.{Control, Cell}
 
--- the cell of a tape of z symbols at the place j from the left, where these are the module and the element of the first
--- one, and so many lie left of position 0
+-- the cell of a tape of z symbols at the place j from the left, given the module and the element of the first one,
+-- where this many cells are left of position 0
 abbrev pub cell_bank : ℕ → ℕ → ℕ → ℕ → ℕ → ℕ → Bank
 cell_bank tape z left number first j = record {
   number = number + j;
@@ -20,7 +20,7 @@ cell_bank tape z left number first j = record {
   lines = cell_line_count z;
 }
 
--- so many cells of a tape, from left to right
+-- this many cells of a tape, from left to right
 abbrev pub cell_banks : ℕ → ℕ → ℕ → ℕ → ℕ → ℕ → List Bank
 cell_banks tape z left number first count = map (cell_bank tape z left number first) (range_with_len 0 count)
 
@@ -37,13 +37,13 @@ control_bank b = record { number = 0; name = Control; first = 0; columns = b.sta
 abbrev pub modules_of : Layout → List Bank
 modules_of b = control_bank b ∷ tape_banks b 1 ++ (tape_banks b 2 ++ tape_banks b 3)
 
--- the element is in this row of this column of the bank; the last row of a column, behind those of the lines, is its
+-- the element is in this row of this column of the bank; the last row of a column, after those of the ports, is its
 -- bottom
 pub record StandsIn (m : Bank) (element column row : ℕ) : Type 0 where
   pub of_columns : column < m.columns
   pub of_rows : row ≤ m.lines
   pub is : element ≡ m.first + (column * (m.lines + 1) + row)
 
--- the numbers alone by which modules lie
+-- the numbers alone that determine the places of modules
 abbrev pub shape : Limits → List ℕ → ℕ → Layout
 shape l symbols states = record { limits = l; symbols = symbols; states = states; firsts = []; awaited = [] }

@@ -1,4 +1,4 @@
--- What the text of a layout says of elements and columns, in the words of `view` and of the board's definition.
+-- What the text of a layout says about elements and columns, in the words of `view` and of the circuit's definition.
 use Rattle.std.specs.Prelude.{◌≡◌, ℕ, ◌<◌, List, ◌++◌, length, Option, Some, slice_get}
 use Rattle.bn_element.specs.Tables.{Table}
 use Rattle.bn_element.specs.Rotary.{west}
@@ -22,13 +22,13 @@ use Rattle.bn_reply_layout.specs.ModuleText.{module_line}
 use Rattle.bn_reply_layout.specs.ControlText.{column_line, state_names}
 use Rattle.bn_reply_layout.specs.LayoutReply.{TellsLayout}
 
--- the module of this name is where `view` says that the signal is, by this input line if by one
+-- the module of this name is the one in which `view` shows the signal, entered by this input port if by one
 abbrev pub is_named : ModuleName → Option ℕ → Located
 is_named Control entered = located.Control entered
 is_named (Cell tape position) entered = located.Cell tape position entered
 
--- The text names module k so, and the board has it there: it is the k-th, its bank begins at this element, and it has
--- as many columns and lines as the module has states and lines.
+-- The text gives module k this name, and the circuit has it there: it is the k-th, its bank begins at this element, and
+-- it has as many columns and ports as the module has states and ports.
 pub record IsBankOf (f : Flat) (k : ℕ) (m : Bank) : Type 0 where
   pub number : m.number ≡ k
   pub table : Table
@@ -37,13 +37,14 @@ pub record IsBankOf (f : Flat) (k : ℕ) (m : Bank) : Type 0 where
   pub columns : m.columns ≡ table.states
   pub lines : m.lines ≡ table.inputs
 
--- each module of the board is named, and no other
+-- each module of the circuit is named, and no other
 pub record NamesModules (f : Flat) : Type 0 where
   pub count : length (modules_of f.layout) ≡ length f.network.tables
   pub each : (k : ℕ) (m : Bank) → slice_get (modules_of f.layout) k ≡ Some m → IsBankOf f k m
 
--- An element of the board stands in one module, column and row alone; that is the module that `view` names where the
--- signal enters a line of the element; and it names input line i exactly where that is the west of row i of column 0.
+-- An element of the circuit belongs to one module, column and row alone. That is the module that `view` names if the
+-- signal enters a line of the element, and `view` names input port i exactly if the line is the west of row i of column
+-- 0.
 pub record IsFound (f : Flat) (element line : ℕ) (at : Located) : Type 0 where
   pub number : ℕ
   pub bank : Bank
@@ -57,7 +58,7 @@ pub record IsFound (f : Flat) (element line : ℕ) (at : Located) : Type 0 where
   pub alone : (k c r : ℕ) (m : Bank) → slice_get (modules_of f.layout) k ≡ Some m → StandsIn m element c r
       → (k ≡ number) × (c ≡ column) × (r ≡ row)
 
--- where `view` finds the signal, the text has the element
+-- the text has the element at which `view` shows the signal
 abbrev pub ElementsAreFound : Type 0
 ElementsAreFound =
     (p : Program) (word : List ℕ) (l : Limits) (f : Flat) → IsFlatOf p word l f → IsAccepted p word l f
@@ -68,11 +69,11 @@ abbrev pub ModulesAreNamed : Type 0
 ModulesAreNamed = (p : Program) (word : List ℕ) (l : Limits) (f : Flat) → IsFlatOf p word l f → IsAccepted p word l f
     → NamesModules f
 
--- the line stands in the text
+-- the line is in the text
 abbrev pub IsTold : List ℕ → List ℕ → Type 0
 IsTold told text = (front rest : List ℕ) × (text ≡ front ++ (told ++ rest))
 
--- each module is told, and each state of the control at its column
+-- the text has each module, and each state of the control with its column
 pub record TellsAll (t : Named) (f : Flat) (text : List ℕ) : Type 0 where
   pub modules : (k : ℕ) (m : Bank) → slice_get (modules_of f.layout) k ≡ Some m → IsTold (module_line m) text
   pub columns : (j : ℕ) (q : ControlState) → slice_get f.names j ≡ Some q

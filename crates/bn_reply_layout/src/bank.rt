@@ -1,6 +1,6 @@
-//! The modules of a board, as banks.
+//! The modules of a circuit, as banks.
 
-/// What a module of a board is called.
+/// The name of a module of a circuit.
 #[derive(Clone, Copy, PartialEq, Eq, Debug)]
 pub enum ModuleName {
     /// The control.
@@ -14,17 +14,17 @@ pub enum ModuleName {
     },
 }
 
-/// A module of a board with its bank.
+/// A module of a circuit with its bank.
 #[derive(Clone, Copy, PartialEq, Eq, Debug)]
 pub struct Bank {
     /// The module, counted from 0.
     pub number: u32,
-    /// What it is called.
+    /// Its name.
     pub name: ModuleName,
     /// The first element, counted from 0.
     pub first: u64,
-    /// How many columns it has: one for each state of the module.
+    /// The number of columns: one for each state of the module.
     pub columns: u64,
-    /// How many lines it has, as many rows, and a bottom, each column has.
+    /// The number of ports. Each column has as many rows, and a bottom.
     pub lines: u32,
 }

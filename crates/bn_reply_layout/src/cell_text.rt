@@ -1,4 +1,4 @@
-//! The text lines of what the cells of a tape have.
+//! The lines of the text on the cells of a tape.
 
 ghost use Rattle.std.specs.Prelude.{◌≡◌, ◌≢◌, ◌<◌, ◌≤◌, ◌*◌, ◌+◌, ◌++◌, OnOk};
 ghost use Rattle.std.specs.List.{flat_map, range_with_len};
@@ -13,7 +13,7 @@ use bn_reply::{NoMemory, push, push_letters};
 use bn_reply_boards::push_cell_line;
 use bn_table::Table;
 
-/// Appends the lines of the columns and the lines that each cell of a tape of so many symbols has.
+/// Appends the lines of the columns and the ports that each cell of a tape with this many symbols has.
 pub(crate) fn push_tape(
     text: &mut Vec<u8>,
     table: &Table,
@@ -63,7 +63,7 @@ fn push_column(
     push(text, b"\n")
 }
 
-// Appends the state of a cell for which a column stands.
+// Appends the state of a cell that a column represents.
 fn push_state(
     text: &mut Vec<u8>,
     table: &Table,
@@ -108,7 +108,7 @@ fn push_quintuple(text: &mut Vec<u8>, symbol: u32) -> Result<(), NoMemory>
     }
 }
 
-// Appends the lines of the lines.
+// Appends the lines of the ports.
 fn push_lines(text: &mut Vec<u8>, tape: u32, symbols: u32) -> Result<(), NoMemory>
     requires { IsCellSize symbols }
     ensures { OnOk result (text.new.items ≡ text.old.items
@@ -120,7 +120,7 @@ fn push_lines(text: &mut Vec<u8>, tape: u32, symbols: u32) -> Result<(), NoMemor
     Ok(())
 }
 
-// Appends the line of a line.
+// Appends the line of a port.
 fn push_line(text: &mut Vec<u8>, tape: u32, symbols: u32, line: u32) -> Result<(), NoMemory>
     requires size { IsCellSize symbols }
     requires inside { line < cell_line_count symbols }

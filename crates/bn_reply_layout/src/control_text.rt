@@ -1,4 +1,4 @@
-//! The text lines of the control's columns and lines.
+//! The lines of the text on the control's columns and ports.
 
 ghost use Rattle.std.specs.Prelude.{◌≡◌, ◌<◌, ◌+◌, ◌++◌, ◌∷◌, [], All, codes, decimal, length, map, OnOk};
 ghost use Rattle.std.specs.List.{flat_map, range_with_len};
@@ -20,7 +20,7 @@ use bn_reply_boards::{counts_of_table, push_cell_line, push_control_line};
 use bn_table::Table;
 use std::cmp::Reverse;
 
-/// Appends the lines of the control's columns, which stand for these states in their order.
+/// Appends the lines of the control's columns, which represent these states in their order.
 pub(crate) fn push_columns(
     text: &mut Vec<u8>,
     names: &QuadNames,
@@ -71,7 +71,7 @@ fn push_state(text: &mut Vec<u8>, names: &QuadNames, state: StateName) -> Result
     }
 }
 
-// Appends the name of a state that awaits a read, in the state of this name, after these symbols.
+// Appends the name of a state that waits for a read, in the state of this name, after these symbols.
 fn push_reads(text: &mut Vec<u8>, name: &[u8], before: Symbols) -> Result<(), NoMemory>
     ensures { OnOk result (text.new.items ≡ text.old.items
         ++ (codes "reads " ++ (name.now ++ numbers_text (listed before)))) }
@@ -81,7 +81,7 @@ fn push_reads(text: &mut Vec<u8>, name: &[u8], before: Symbols) -> Result<(), No
     push_symbols(text, before)
 }
 
-// Appends the name of a state that awaits a shift.
+// Appends the name of a state that waits for a shift.
 fn push_shifts(text: &mut Vec<u8>, quadruple: u32, tape: u32) -> Result<(), NoMemory>
     ensures { OnOk result (text.new.items ≡ text.old.items
         ++ (codes "shifts " ++ (decimal quadruple ++ (codes " " ++ decimal tape)))) }
@@ -92,7 +92,7 @@ fn push_shifts(text: &mut Vec<u8>, quadruple: u32, tape: u32) -> Result<(), NoMe
     push_u64(text, u64::from(tape))
 }
 
-// Appends the name of a state that awaits a write, on the way into the state of this name, before these symbols.
+// Appends the name of a state that waits for a write, on the way into the state of this name, before these symbols.
 fn push_writes(text: &mut Vec<u8>, name: &[u8], tape: u32, rest: Symbols) -> Result<(), NoMemory>
     ensures { OnOk result (text.new.items ≡ text.old.items
         ++ (codes "writes " ++ (name.now ++ (codes " " ++ (decimal tape ++ numbers_text (listed rest)))))) }
@@ -126,7 +126,7 @@ fn push_number(text: &mut Vec<u8>, number: u32) -> Result<(), NoMemory>
     push_u64(text, u64::from(number))
 }
 
-/// Appends the lines of the control's lines, of a table's reversible machine.
+/// Appends the lines of the control's ports, for a table's reversible machine.
 pub(crate) fn push_control_lines(text: &mut Vec<u8>, table: &Table) -> Result<(), NoMemory>
     ensures { OnOk result (text.new.items ≡ text.old.items
         ++ flat_map (control_line_line (symbols_of table.now.machine))
@@ -139,7 +139,7 @@ pub(crate) fn push_control_lines(text: &mut Vec<u8>, table: &Table) -> Result<()
     Ok(())
 }
 
-// Appends the line of a line of the control.
+// Appends the line of a port of the control.
 fn push_line(text: &mut Vec<u8>, table: &Table, line: u32) -> Result<(), NoMemory>
     requires { line < lines_before (symbols_of table.now.machine) 3 }
     ensures { OnOk result (text.new.items ≡ text.old.items
@@ -151,7 +151,7 @@ fn push_line(text: &mut Vec<u8>, table: &Table, line: u32) -> Result<(), NoMemor
     push_names(text, table, line)
 }
 
-// Appends the names of a line of the control, in and out.
+// Appends the names of a port of the control, in and out.
 fn push_names(text: &mut Vec<u8>, table: &Table, line: u32) -> Result<(), NoMemory>
     requires { line < lines_before (symbols_of table.now.machine) 3 }
     ensures { OnOk result (text.new.items ≡ text.old.items ++ names_text (symbols_of table.now.machine) line) }
@@ -162,7 +162,7 @@ fn push_names(text: &mut Vec<u8>, table: &Table, line: u32) -> Result<(), NoMemo
     push(text, b"\n")
 }
 
-// Appends the name of an output line of the control.
+// Appends the name of an output port of the control.
 fn push_output(text: &mut Vec<u8>, table: &Table, line: u32) -> Result<(), NoMemory>
     requires { line < lines_before (symbols_of table.now.machine) 3 }
     ensures { OnOk result (text.new.items ≡ text.old.items ++ output_text (symbols_of table.now.machine) line) }
@@ -179,7 +179,7 @@ fn push_output(text: &mut Vec<u8>, table: &Table, line: u32) -> Result<(), NoMem
     }
 }
 
-// Appends the name of the line by which the control gives a tape of so many symbols its command at this place.
+// Appends the name of the port by which the control sends a tape of this many symbols the command with this number.
 fn push_command(text: &mut Vec<u8>, symbols: u32, place: u32, tape: u32) -> Result<(), NoMemory>
     requires size { IsCellSize symbols }
     requires place { place < symbols + 3 }

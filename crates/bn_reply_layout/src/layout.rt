@@ -15,7 +15,7 @@ use bn_reply::{NoMemory, Reply, Status, give_reply};
 use bn_reply_boards::{OpenedInput, open_input};
 use std::alloc::Global;
 
-/// Answers `layout` to a word, a window and some bytes: gives the sink what `reply_layout` makes of them.
+/// Answers `layout` for a word, a window and some bytes: gives the sink the text of `reply_layout`.
 pub fn answer_layout<K: Sink>(
     alloc: Global,
     word: &[u8],
@@ -32,8 +32,9 @@ pub fn answer_layout<K: Sink>(
     give_reply(sink, reply_layout(alloc, word, windows, bytes))
 }
 
-/// What `layout` answers to a word, a window and some bytes: whether they are a table with a machine in standard form,
-/// the word is one of its letters and fits, and the board hasn't too many elements; and then what the board is made of.
+/// The answer of `layout` to a word, a window and some bytes. It refuses, in this order: bytes that are no table whose
+/// machine is in standard form; a word with other letters or too long for the window; a circuit with too many elements.
+/// Otherwise the answer lists the parts of the circuit.
 pub fn reply_layout(
     alloc: Global,
     word: &[u8],

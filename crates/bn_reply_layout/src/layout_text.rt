@@ -1,4 +1,4 @@
-//! The text of a board's layout.
+//! The text of a circuit's layout.
 
 ghost use Rattle.std.specs.Prelude.{◌≡◌, ◌++◌, IfOk, OnOk};
 ghost use Rattle.bn_bennett_laws.specs.List.{symbols_of};
@@ -21,7 +21,7 @@ use bn_reply::NoMemory;
 use bn_table::Table;
 use std::alloc::Global;
 
-/// The text of the layout of the board of a table's translation in a window.
+/// The text of the layout of the circuit of a table's translation in a window.
 pub(crate) fn layout_text(
     alloc: Global,
     table: &Table,
@@ -45,7 +45,7 @@ pub(crate) fn layout_text(
     Ok(text)
 }
 
-// Appends the lines of what the cells of the three tapes have.
+// Appends the lines on the cells of the three tapes.
 fn push_tapes(text: &mut Vec<u8>, table: &Table) -> Result<(), NoMemory>
     ensures { OnOk result (text.new.items ≡ text.old.items ++ tape_lines table.now (symbols_of table.now.machine)) }
 {

@@ -1,5 +1,5 @@
-//! What the command `layout` answers: what the board of a machine and a word in a window is made of, module by module,
-//! with the names that `view` and breakpoints give.
+//! The answer of the command `layout`: the parts of the circuit of a machine and a word in a window, module by module,
+//! with the names that `view` and breakpoints use.
 #![tactic(auto)]
 
 mod bank;

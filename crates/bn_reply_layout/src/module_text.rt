@@ -1,4 +1,4 @@
-//! The text lines of a board's modules.
+//! The lines of the text on a circuit's modules.
 
 ghost use Rattle.std.specs.Prelude.{◌≡◌, ℕ, ◌+◌, ◌*◌, ◌<◌, ◌≤◌, ◌^◌, ◌++◌, ◌∷◌, [], pos, ◌-ℤ◌, OnOk};
 ghost use Rattle.std.specs.List.{flat_map};
@@ -15,7 +15,7 @@ use bn_network::MOST_SYMBOLS;
 use bn_network_assembly::Windows;
 use bn_reply::{NoMemory, push, push_counted, push_position};
 
-/// The cells of a tape that are told in a row.
+/// Consecutive cells of a tape.
 #[derive(Clone, Copy)]
 struct Row {
     tape: u32,
@@ -26,8 +26,8 @@ struct Row {
     count: u32,
 }
 
-/// Appends the lines of the elements and of the modules of a board in this window, where tapes 1 and 3 have so many
-/// letters, tape 2 so many symbols, and the control so many states.
+/// Appends the lines of the elements and of the modules of a circuit in this window, where tapes 1 and 3 have this many
+/// letters, tape 2 this many symbols, and the control this many states.
 pub(crate) fn push_modules(
     text: &mut Vec<u8>,
     windows: &Windows,
@@ -56,7 +56,7 @@ pub(crate) fn push_modules(
     push_cells(text, &row_of(windows, 3, letters, 0, three))
 }
 
-// Appends the line of the control, with so many states and lines.
+// Appends the line of the control, with this many states and ports.
 fn push_control(text: &mut Vec<u8>, states: u64, lines: u32) -> Result<(), NoMemory>
     ensures { OnOk result (text.new.items ≡ text.old.items ++ module_line (record {
       number = 0;
@@ -76,7 +76,7 @@ fn push_control(text: &mut Vec<u8>, states: u64, lines: u32) -> Result<(), NoMem
     push_module(text, &bank)
 }
 
-// The cells of a tape of so many symbols, of which so many lie left of position 0, from this element on.
+// The cells of a tape with this many symbols, of which this many are left of position 0, from this element on.
 fn row_of(windows: &Windows, tape: u32, symbols: u32, left: u32, first: u64) -> Row
     requires low { 1 ≤ tape }
     requires high { tape ≤ 3 }
@@ -100,7 +100,7 @@ fn row_of(windows: &Windows, tape: u32, symbols: u32, left: u32, first: u64) -> 
     }
 }
 
-// The elements of one cell of a tape of so many symbols.
+// The number of elements of one cell of a tape with this many symbols.
 #[tactic(auto, using(crate::proofs::SizeLemmas::cell_small))]
 fn cell_size(symbols: u32) -> u64
     requires { symbols ≤ MOST_SYMBOLS }
@@ -111,7 +111,7 @@ fn cell_size(symbols: u32) -> u64
     columns * (columns + 9)
 }
 
-// The elements of so many cells of a tape of so many symbols.
+// The number of elements of this many cells of a tape with this many symbols.
 #[tactic(auto, using(crate::proofs::SizeLemmas::row_small))]
 fn row_size(count: u32, symbols: u32) -> u64
     requires count { count ≤ 2 * MOST_COUNT + 1 }
@@ -171,7 +171,7 @@ fn push_module(text: &mut Vec<u8>, bank: &Bank) -> Result<(), NoMemory>
     push_bank(text, bank)
 }
 
-// Appends what a module is called.
+// Appends the name of a module.
 fn push_name(text: &mut Vec<u8>, name: ModuleName) -> Result<(), NoMemory>
     ensures { OnOk result (text.new.items ≡ text.old.items ++ module_text name) }
 {
@@ -186,7 +186,7 @@ fn push_name(text: &mut Vec<u8>, name: ModuleName) -> Result<(), NoMemory>
     }
 }
 
-// Appends where a module's bank begins, and how many columns and lines it has.
+// Appends the first element of a module's bank, and its numbers of columns and ports.
 fn push_bank(text: &mut Vec<u8>, bank: &Bank) -> Result<(), NoMemory>
     ensures { OnOk result (text.new.items ≡ text.old.items ++ bank_text bank.now) }
 {

@@ -1,4 +1,4 @@
-//! How many symbols the tapes of a table's reversible machine have.
+//! The numbers of symbols on the tapes of a table's reversible machine.
 
 ghost use Rattle.std.specs.Prelude.{◌≡◌, ◌+◌, length};
 ghost use Rattle.bn_cell.specs.Sizes.{IsCellSize};

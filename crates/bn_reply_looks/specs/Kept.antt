@@ -1,4 +1,5 @@
--- The law of the trait by which a board is shown: its term stands with the clauses, which cite nothing of proofs.
+-- The law of the trait for showing a circuit. Its proof term is beside the clauses, because they cite nothing of
+-- proofs.
 use Rattle.std.proofs.Common.{sym, ap, ◌∙◌}
 use Rattle.bn_circuits.specs.RotaryNets.{rotary_circuit}
 use Rattle.bn_quad.specs.Names.{Naming}
@@ -6,7 +7,7 @@ use Rattle.bn_quad.specs.Quadruples.{Quadruples}
 use Rattle.bn_board.specs.Flattened.{Flattened, IsSameBoard}
 use Rattle.bn_reply_looks.specs.Built.{CanBeShown}
 
--- a board can be shown after other steps
+-- a circuit can be shown after further steps
 pub shown_still : (m : Quadruples) (names : Naming) (a b : Flattened) → IsSameBoard a b → CanBeShown m names a
     → CanBeShown m names b
 shown_still m names a b same shown = record {

@@ -1,4 +1,4 @@
--- What is shown of a board stands for its machine.
+-- What is shown of a circuit represents its machine.
 use Rattle.std.specs.Prelude.{◌≡◌, ℕ, ◌*◌, ◌≤◌, List, ◌++◌}
 use Rattle.bn_lists.specs.Runs.{Reaches}
 use Rattle.bn_circuits.specs.Circuits.{clock}
@@ -15,8 +15,8 @@ use Rattle.bn_reply_looks.specs.Looking.{ShowsBuild}
 use Rattle.bn_reply_looks.specs.LookReply.{LookIsSettled}
 use Rattle.bn_reply_looks.specs.PlayReply.{PlayIsSettled}
 
--- behind its first lines the text tells the state and the tapes of a configuration to which some steps of the machine's
--- own run from c in the window lead
+-- after its first lines the text shows the state and the tapes of a configuration that some steps of the machine's own
+-- run from c in the window reach
 pub record TellsRun (t : QuadTable) (f : Build) (c : Configuration ℕ) (text : List ℕ) : Type 0 where
   pub steps : ℕ
   pub config : Configuration ℕ
@@ -24,7 +24,7 @@ pub record TellsRun (t : QuadTable) (f : Build) (c : Configuration ℕ) (text : 
   pub before : List ℕ
   pub written : text ≡ before ++ (state_line t config.state ++ drive_tape_lines t (spelled_config f.limits config))
 
--- wherever the board has come to
+-- anywhere in the run of the circuit
 abbrev pub LooksTellTheirMachine : Type 0
 LooksTellTheirMachine =
     (t : QuadTable) (f : Build) → IsBuild f → 48 * build_elements f ≤ clock → (c : Configuration ℕ)
@@ -34,10 +34,10 @@ LooksTellTheirMachine =
 -- ---- the laws
 
 pub record Laws : Type 0 where
-  -- To all words, windows, numbers of steps and bytes `look` has an answer, and only one.
+  -- `look` has exactly one answer to all words, windows, numbers of steps and bytes.
   pub look_has_one_reply : LookIsSettled
-  -- Wherever a board is shown, the state and the tapes that are told are those to which some steps of the machine's own
-  -- run in the window lead.
+  -- Anywhere in the run of a circuit, the state and the tapes that are shown are those that some steps of the machine's
+  -- own run in the window reach.
   pub looks_tell_their_machine : LooksTellTheirMachine
-  -- To all words, windows and bytes `play` has an answer, and only one.
+  -- `play` has exactly one answer to all words, windows and bytes.
   pub play_has_one_reply : PlayIsSettled

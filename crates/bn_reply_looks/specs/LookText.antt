@@ -1,5 +1,5 @@
--- The text of the layers of a board that was built of a table of quadruples (this project's own profile): six lines, of
--- where the signal is, and of the last moment.
+-- The text of the layers of a circuit that was built from a table of quadruples (this project's own definition): six
+-- lines, on the place of the signal and on the last moment.
 use Rattle.std.specs.Prelude.{ℕ, List, [], ◌∷◌, ◌++◌, codes}
 use Rattle.bn_qtable.specs.Rows.{QuadTable}
 use Rattle.bn_reply.specs.Lines.{line}
@@ -12,7 +12,7 @@ use Rattle.bn_view.specs.declared.layers.BoardLayers.{BoardLayers}
 abbrev pub state_line : QuadTable → ℕ → List ℕ
 state_line t a = line (codes "quadruple " ∷ name_in t.names.states a ∷ [])
 
--- the six lines, where this is the exit's if the signal has left
+-- the six lines, with this line of the exit if the signal has left
 abbrev pub look_text : QuadTable → List ℕ → BoardLayers → List ℕ
 look_text t exit v =
     element_line v.place v.steps ++ (module_line t.machine.symbols exit v.module

@@ -1,6 +1,6 @@
--- What the command `play` answers: how a script is played on the board of a uniform machine of quadruples in a window,
--- from its start with words on the tapes (the board, the script and the text are this project's own profile). What is
--- refused of the table and the words is refused as `build` does it, and before the script is read.
+-- The answer of the command `play`: a script played on the circuit of a uniform machine of quadruples in a window, from
+-- its start with words on the tapes (circuit, script and text are this project's own definitions). It refuses what
+-- `build` refuses of the table and the words, before the script is read.
 use Rattle.std.specs.Prelude.{ℕ, List, []}
 use Rattle.bn_circuits.specs.declared.place.Place.{Place}
 use Rattle.bn_machine.specs.Outcome.{Limits}
@@ -18,23 +18,22 @@ use Rattle.bn_session.specs.Plays.{Plays, Session, session}
 use Rattle.bn_session.specs.declared.command.Command.{Command}
 use Rattle.bn_reply_looks.specs.Looking.{ShowsBuild}
 
--- the text is the answer to these commands, played on the board of f from its start at c, where a view shows every
--- layer
+-- the text is the answer to these commands, played on the circuit of f from its start at c, with every layer as view
 abbrev pub IsPlayOf : QuadTable → Configuration ℕ → Build → List Command → List ℕ → Type 0
 IsPlayOf t c f commands text =
     (end : Session)
     × Plays f.circuit (moment_at f.layout) (ShowsBuild t f c) commands (session (start_of f c) []) end text
 
--- what is answered to a script and a board at its start, whose states have the table's names
+-- the answer to a script and a circuit at its start, whose states have the table's names
 abbrev pub TellsPlay : List ℕ → QuadTable → Configuration ℕ → Build → Status → List ℕ → List Place → Type 0
 TellsPlay script t c f = ScriptReplies t.names.states (IsPlayOf t c f) script
 
--- what `play` answers to words on the tapes, limits and bytes
+-- the answer of `play` to words on the tapes, limits and bytes
 abbrev pub PlayReplies : TapeWords → Limits → List ℕ → Status → List ℕ → List Place → Type 0
 PlayReplies words l =
     CutReplies (λ table script.
     BuiltReplies (λ t one two three. TellsPlay script t (words_on t.machine one two three)) words l table)
 
--- it has one answer to all words, limits and bytes
+-- it has exactly one answer to all words, limits and bytes
 abbrev pub PlayIsSettled : Type 0
 PlayIsSettled = (words : TapeWords) (l : Limits) (bytes : List ℕ) → IsSettled (PlayReplies words l bytes)

@@ -1,7 +1,7 @@
-//! Laws on the answers. The function does nothing: its contract is the laws.
+//! The laws on the answers. The function does nothing: its contract is the laws.
 ghost use Rattle.bn_reply_looks.specs.Laws.{Laws};
 
-/// Laws on the answers, a named field each.
+/// The laws on the answers, a named field each.
 pub fn reply_looks_laws()
     ensures { Laws }
 {}

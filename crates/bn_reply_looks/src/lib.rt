@@ -1,4 +1,4 @@
-//! What the commands `look` and `play` answer: the layers of the board of any uniform machine of quadruples, and a
+//! The answers of the commands `look` and `play`: the layers of the circuit of a uniform machine of quadruples, and a
 //! script that is played on it.
 #![tactic(auto)]
 

@@ -13,8 +13,8 @@ use bn_reply::{NoMemory, Reply, Status};
 use bn_reply_builds::{OpenedBuild, open_build};
 use std::alloc::Global;
 
-/// What `look` answers to words on the tapes, a window, a greatest number of element steps and some bytes: whatever
-/// `build` refuses of them; and else every layer of the board after so many steps, or after as many as can be made.
+/// The answer of `look` to words on the tapes, a window, a greatest number of element steps and some bytes: any refusal
+/// of `build`; otherwise every layer of the circuit after that many steps, or after as many as can be made.
 pub fn reply_look(
     alloc: Global,
     words: &TapeWords,

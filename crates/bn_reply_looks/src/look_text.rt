@@ -1,4 +1,4 @@
-//! The text of the layers of a table's board.
+//! The text of the layers of a table's circuit.
 
 ghost use Rattle.std.specs.Prelude.{◌≡◌, ◌++◌, ◌<◌, IfOk, OnOk};
 ghost use Rattle.bn_netlist_laws.specs.Sentences.{line_of_place};
@@ -21,8 +21,8 @@ use bn_reply_views::{push_element, push_module};
 use bn_view::{BoardLayers, ModuleAt, view_board};
 use std::alloc::Global;
 
-/// The text of the layers of a table's board, wherever it is in its run: six lines. Its contract also tells what every
-/// board keeps.
+/// The text of the layers of a table's circuit, anywhere in its run: six lines. The contract also states what holds of
+/// every circuit afterwards.
 pub(crate) fn build_text(
     alloc: Global,
     machine: &Uniform,
@@ -43,7 +43,7 @@ pub(crate) fn build_text(
     look_text(alloc, &names, exit.as_slice(), &layers)
 }
 
-// The line of the exit by which the signal of a table's board has left; nothing where it is inside.
+// The line of the exit by which the signal has left a table's circuit; nothing if it is inside.
 fn exit_text(
     alloc: Global,
     machine: &Uniform,
@@ -66,7 +66,7 @@ fn exit_text(
     Ok(text)
 }
 
-// The six lines of layers, where this is the exit's line.
+// The six lines of layers, with this line of the exit.
 fn look_text(
     alloc: Global,
     names: &TableNames<'_>,
@@ -87,7 +87,7 @@ fn look_text(
     Ok(text)
 }
 
-// Appends the line of the module in which the signal is, or that of its exit.
+// Appends the line of the module that holds the signal, or of its exit.
 fn push_where(
     text: &mut Vec<u8>,
     names: &TableNames<'_>,

@@ -25,9 +25,9 @@ use bn_reply_views::{refuse_script, without_script};
 use bn_session::{Script, play, read_script};
 use std::alloc::Global;
 
-/// What `play` answers to words on the tapes, a window and some bytes, which are a table, a line `%` and a script:
-/// whether there is such a line; whatever `build` refuses of the table and the words; whether the script has a fault;
-/// and then the script's answers, played on the board from its start.
+/// The answer of `play` to words on the tapes, a window and some bytes, which are a table, a line `%` and a script. It
+/// refuses, in this order: bytes without such a line; whatever `build` refuses of the table and the words; a script
+/// with an error. Otherwise the answer is that of the script, played on the circuit from its start.
 pub fn reply_play(
     alloc: Global,
     words: &TapeWords,
@@ -44,7 +44,7 @@ pub fn reply_play(
     }
 }
 
-// What is answered to the bytes of a table and a script.
+// The answer to the bytes of a table and a script.
 fn play_input(
     alloc: Global,
     words: &TapeWords,
@@ -65,7 +65,7 @@ fn play_input(
     }
 }
 
-// What is answered to a script and a board at its start.
+// The answer to a script and a circuit at its start.
 fn play_board(
     alloc: Global,
     machine: &Uniform,
@@ -85,7 +85,7 @@ fn play_board(
     }
 }
 
-// The answer to a script that is played on a board at its start.
+// The answer to a script that is played on a circuit at its start.
 fn play_script(
     alloc: Global,
     machine: &Uniform,

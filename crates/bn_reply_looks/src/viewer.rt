@@ -1,4 +1,4 @@
-//! Who shows the layers of a table's board while a script is played on it.
+//! The writer of the layers of a table's circuit while a script is played on it.
 
 use crate::look_text::build_text;
 use bn_base::NoMemory;
@@ -8,7 +8,7 @@ use bn_reply_views::push_bytes;
 use bn_session::Shows;
 use std::alloc::Global;
 
-// A machine and the names of its table, by which the layers of its board are shown.
+// A machine and the names of its table, from which the layers of its circuit are written.
 #[derive(Drop)]
 pub(crate) struct Viewer<'a> {
     pub(crate) machine: &'a Uniform,

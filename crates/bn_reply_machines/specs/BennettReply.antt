@@ -1,5 +1,5 @@
--- What the command `bennett` answers: the table of Bennett's reversible machine (Bennett 1973; the printed names are
--- this project's own profile).
+-- The answer of the command `bennett`: the table of Bennett's reversible machine (Bennett 1973; the printed names are
+-- this project's own definition).
 use Rattle.std.specs.Prelude.{ℕ, List, length, map}
 use Rattle.bn_csv.specs.Lines.{lines_of}
 use Rattle.bn_quad.specs.Quadruples.{Rule}
@@ -29,11 +29,11 @@ printed_entry t r = quadruple_entry (record {
 abbrev pub bennett_text : Named → List ℕ
 bennett_text t = lines_of (map (printed_entry t) (bennett t.machine))
 
--- what `bennett` answers to these bytes: to a table with a machine in standard form, the table of its reversible
+-- the answer of `bennett` to these bytes: to a table whose machine is in standard form, the table of its reversible
 -- machine
 abbrev pub BennettReplies : List ℕ → Status → List ℕ → List Place → Type 0
 BennettReplies = StandardReplies (λ t. IsDone (bennett_text t))
 
--- it has one answer to all bytes
+-- it has exactly one answer to all bytes
 abbrev pub BennettIsSettled : Type 0
 BennettIsSettled = (bytes : List ℕ) → IsSettled (BennettReplies bytes)

@@ -1,5 +1,5 @@
--- What the command `inverse` answers: the table of the inverse of a table's machine, which takes its steps back
--- (Bennett 1973: the list of quadruples in the opposite order, each turned round).
+-- The answer of the command `inverse`: the table of the inverse of a table's machine, which undoes its steps (Bennett
+-- 1973: the list of quadruples in the opposite order, each inverted).
 use Rattle.std.specs.Prelude.{◌≡◌, ℕ, List, []}
 use Rattle.bn_csv.specs.Entries.{entries_of}
 use Rattle.bn_csv.specs.Lines.{lines_of}
@@ -16,8 +16,8 @@ use Rattle.bn_reply_machines.specs.ReversibleReply.{TellsQuadFault}
 abbrev pub inverse_text : QuadTable → List ℕ
 inverse_text t = lines_of (quadruple_rows_by t.names (inverse_of t.machine).rules)
 
--- What `inverse` answers to these bytes: the fault of bytes that are no table of quadruples, or the lines of the
--- inverse, whether or not the machine passes any test.
+-- The answer of `inverse` to these bytes: the error of bytes that are no table of quadruples, or the lines of the
+-- inverse, whether or not the machine passes a test.
 pub data InverseReplies (bytes : List ℕ) (status : Status) (text : List ℕ) (told : List Place) : Type 0 where
   faulty : TellsQuadFault bytes text → status ≡ statuses.Text → told ≡ [] → InverseReplies bytes status text told
   inverted : (t : QuadTable) → ReadsQuadruples bytes t → text ≡ inverse_text t → status ≡ statuses.Done → told ≡ []
@@ -32,7 +32,7 @@ InverseTwice = (bytes text : List ℕ) → InverseReplies bytes statuses.Done te
 
 -- the laws of `inverse`
 pub record InverseLaws : Type 0 where
-  -- To all bytes it has an answer, and only one.
+  -- It has exactly one answer to all bytes.
   pub inverse_has_one_reply : InverseIsSettled
-  -- What it writes of a table is a table, and what it writes of that one has the entries of the first exactly.
+  -- What it writes for a table is a table, and what it writes for that one has exactly the entries of the first.
   pub inverse_twice : InverseTwice

@@ -7,15 +7,16 @@ use Rattle.bn_reply_machines.specs.ReversibleReply.{ReversibleIsSettled}
 use Rattle.bn_reply_machines.specs.StandardReply.{StandardIsSettled}
 
 pub record Laws : Type 0 where
-  -- To all bytes `bennett` has an answer, and only one.
+  -- `bennett` has exactly one answer to all bytes.
   pub bennett_has_one_reply : BennettIsSettled
-  -- To all bytes `check` has an answer, and only one.
+  -- `check` has exactly one answer to all bytes.
   pub check_has_one_reply : CheckIsSettled
-  -- The laws of `inverse`, a named field each: it has one answer, and twice it gives the first table's entries.
+  -- The laws of `inverse`, a named field each: it has exactly one answer, and applied twice it gives the first table's
+  -- entries.
   pub inverse_reply_laws : InverseLaws
-  -- To all words, numbers of steps and bytes `machine` has an answer, and only one.
+  -- `machine` has exactly one answer to all words, numbers of steps and bytes.
   pub machine_has_one_reply : MachineIsSettled
-  -- To all bytes `reversible` has an answer, and only one.
+  -- `reversible` has exactly one answer to all bytes.
   pub reversible_has_one_reply : ReversibleIsSettled
-  -- To all bytes `standard` has an answer, and only one.
+  -- `standard` has exactly one answer to all bytes.
   pub standard_has_one_reply : StandardIsSettled

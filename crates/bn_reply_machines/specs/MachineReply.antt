@@ -1,5 +1,5 @@
--- What the command `machine` answers: the run of a table's machine from a word, on a tape without ends (Bennett 1973;
--- the reading of the output and the texts are this project's own profile).
+-- The answer of the command `machine`: the run of a table's machine from a word, on a tape without ends (Bennett 1973;
+-- the reading of the output and the texts are this project's own definitions).
 use Rattle.std.specs.Prelude.{◌≡◌, ℕ, List, [], ◌∷◌, ◌++◌, slice_index_or, codes, decimal}
 use Rattle.bn_circuits.specs.declared.place.Place.{Place}
 use Rattle.bn_machine.specs.Run.{Ending, HasEnding, Halted, Stuck, Running}
@@ -21,7 +21,7 @@ abbrev pub machine_stuck_line : Named → ℕ → ℕ → ℕ → List ℕ
 machine_stuck_line t i state symbol = line (codes "stuck " ∷ slice_index_or t.names state [] ∷ codes " " ∷ letters_of t
     (symbol ∷ []) ∷ codes " " ∷ decimal i ∷ [])
 
--- the status and the text of a run that comes out so after i steps
+-- the status and the text of a run with this result after i steps
 abbrev pub ending_status : Ending → Status
 ending_status (Halted y) = statuses.Done
 ending_status (Stuck state symbol) = statuses.Stuck
@@ -32,7 +32,7 @@ ending_text t i (Halted y) = halted_lines t i y
 ending_text t i (Stuck state symbol) = machine_stuck_line t i state symbol
 ending_text t i Running = running_line i
 
--- The text tells how the run of the table's machine from these symbols comes out, of which at most n steps are made.
+-- The text has the result of the run of the table's machine from these symbols, with at most n steps.
 pub record TellsMachineRun (t : Named) (n : ℕ) (symbols : List ℕ) (status : Status) (text : List ℕ)
     (told : List Place) : Type 0 where
   pub steps : ℕ
@@ -42,11 +42,11 @@ pub record TellsMachineRun (t : Named) (n : ℕ) (symbols : List ℕ) (status : 
   pub text_is : text ≡ ending_text t steps ending
   pub silent : told ≡ []
 
--- What `machine` answers to a word, a greatest number of steps n, and these bytes. What is wrong with the bytes comes
--- first, then what is wrong with the machine, then what is wrong with the word.
+-- The answer of `machine` to a word, a greatest number of steps n, and these bytes. An error of the bytes comes first,
+-- then one of the machine, then one of the word.
 abbrev pub MachineReplies : List ℕ → ℕ → List ℕ → Status → List ℕ → List Place → Type 0
 MachineReplies word n = StandardReplies (λ t. WordReplies (TellsMachineRun t n) t word)
 
--- it has one answer to all words, numbers of steps and bytes
+-- it has exactly one answer to all words, numbers of steps and bytes
 abbrev pub MachineIsSettled : Type 0
 MachineIsSettled = (word : List ℕ) (n : ℕ) (bytes : List ℕ) → IsSettled (MachineReplies word n bytes)

@@ -1,4 +1,4 @@
--- Words on tapes by the names of their symbols (this project's own profile).
+-- Words on tapes by the names of their symbols (this project's own definition).
 use Rattle.std.specs.Prelude.{◌≡◌, ◌≢◌, ℕ, ◌<◌, ◌++◌, List, All, Contains, Some, length, map, slice_get}
 use Rattle.std.specs.Prelude.{slice_index_or, []}
 use Rattle.bn_lists.specs.Lists.{AllBefore, nth}
@@ -17,7 +17,7 @@ pub record IsSymbolNamed (names : List (List ℕ)) (name : List ℕ) (symbol : �
   pub nonblank : symbol ≢ 0
   pub stands : slice_get names symbol ≡ Some name
 
--- the name at place p of the word, counted from 1, is the first that is no symbol's or is the blank's
+-- the name at place p of the word, counted from 1, is the first that is not that of a symbol, or is the blank's
 pub record IsFirstUnnamed (names word : List (List ℕ)) (p : ℕ) : Type 0 where
   pub name : List ℕ
   pub stands : nth word p ≡ Some name

@@ -1,4 +1,4 @@
--- What is opened of a table of quadruples and of words on its tapes.
+-- A table of quadruples and words on its tapes, opened.
 use Rattle.std.specs.Prelude.{◌≡◌, ◌≢◌, ℕ, ◌<◌, ◌^◌, List, [], length, Some, All, slice_get, true}
 use Rattle.std.specs.List.{list_all}
 use Rattle.bn_csv.specs.Forms.{is_symbol}
@@ -26,13 +26,13 @@ use Rattle.bn_reply_machines.specs.declared.words.SpelledWords.TheVariants as al
 
 -- ---- a table
 
--- the bytes' table, whose machine passes both tests, or what is answered where there is none
+-- the bytes' table, whose machine passes both tests, or the answer if there is none
 abbrev pub AreOpenedQuads : List ℕ → OpenedQuads → Type 0
 AreOpenedQuads bytes (opened.Read m names) = ReadsQuadruples bytes (table_of m names)
     × IsDeterministic m.rules × IsReversible m.rules
 AreOpenedQuads bytes (opened.Refused reply) = QuadReplies nothing bytes reply.status reply.text.items []
 
--- the bytes' table, whose machine passes the two tests and is uniform, or what is answered where there is none
+-- the bytes' table, whose machine passes the two tests and is uniform, or the answer if there is none
 abbrev pub IsOpenedUniform : List ℕ → OpenedUniform → Type 0
 IsOpenedUniform bytes (uniform.Read m names) = ReadsQuadruples bytes (table_of m names) × IsUniformMachine m
 IsOpenedUniform bytes (uniform.Refused reply) =
@@ -56,7 +56,7 @@ pub record IsAlphabet (names : List (List ℕ)) : Type 0 where
   pub apart : AreApart names
   pub form : list_all is_symbol names ≡ true
 
--- the word is of the symbols of a tape with these names, of which there is one at least, and no letter is the blank
+-- the word consists of symbols of a tape with these names, of which there is at least one, and no letter is the blank
 pub record IsWordOn (names : List (List ℕ)) (word : List ℕ) : Type 0 where
   pub some : 0 < length names
   pub few : length word < 2 ^ 62
@@ -69,13 +69,13 @@ pub record AreAlphabets (names : Naming) : Type 0 where
   pub two : IsAlphabet names.two
   pub three : IsAlphabet names.three
 
--- the symbols of a word on a tape, or what is answered where it has another name
+-- the symbols of a word on a tape, or the answer if it has another name
 abbrev pub IsSpelledWord : (ℕ → List ℕ) → List (List ℕ) → List (List ℕ) → SpelledWord → Type 0
 IsSpelledWord line_of names word (spelled.Symbols symbols) = IsNamedBy names word symbols.items
 IsSpelledWord line_of names word (spelled.Refused reply) =
     NamedWordReplies line_of (λ symbols status text told. ⊥) names word reply.status reply.text.items []
 
--- the symbols of the words on the tapes, or what is answered where one has another name
+-- the symbols of the words on the tapes, or the answer if one has another name
 abbrev pub AreSpelledWords : TapeWords → Naming → SpelledWords → Type 0
 AreSpelledWords words names (all.Symbols one two three) = AreNamedBy words names one.items two.items three.items
 AreSpelledWords words names (all.Refused reply) =

@@ -1,5 +1,5 @@
--- What the command `standard` answers: the table of the machine in standard form that is equivalent to a table's
--- machine whose run begins on the first letter (this project's own profile).
+-- The answer of the command `standard`: the table of the equivalent machine in standard form for a table's machine
+-- whose run begins on the first letter (this project's own definition).
 use Rattle.std.specs.Prelude.{◌≡◌, ◌≢◌, ℕ, List, [], ◌∷◌, codes, decimal}
 use Rattle.bn_circuits.specs.declared.place.Place.{Place}
 use Rattle.bn_table.specs.Rows.{Named}
@@ -21,26 +21,26 @@ refusal_line (refusals.Halting i) = line (codes "machine: halting " ∷ decimal 
 refusal_line (refusals.Many count) = line (codes "size: quintuples " ∷ decimal count ∷ [])
 refusal_line refusals.NoMemory = []
 
--- the status of a refusal: a list that is too long is a matter of size
+-- the status of a refusal: too long a list is refused for its size
 abbrev pub refusal_status : LooseRefusal → Status
 refusal_status (refusals.Many count) = statuses.Size
 refusal_status other = statuses.Machine
 
--- What is answered to a table: why its machine is refused, or the lines of the machine in standard form.
+-- The answer to a table: why its machine is refused, or the lines of the machine in standard form.
 pub data TellsStandard (t : Named) (status : Status) (text : List ℕ) (told : List Place) : Type 0 where
   refused : (refusal : LooseRefusal) → IsLooseRefusal t.machine refusal → refusal ≢ refusals.NoMemory →
       status ≡ refusal_status refusal → text ≡ refusal_line refusal → told ≡ [] → TellsStandard t status text told
   accepted : IsAccepted t.machine → IsDone (standard_lines t) status text told → TellsStandard t status text told
 
--- what `standard` answers to these bytes
+-- the answer of `standard` to these bytes
 abbrev pub StandardTableReplies : List ℕ → Status → List ℕ → List Place → Type 0
 StandardTableReplies = TableReplies TellsStandard
 
--- it has one answer to all bytes
+-- it has exactly one answer to all bytes
 abbrev pub StandardIsSettled : Type 0
 StandardIsSettled = (bytes : List ℕ) → IsSettled (StandardTableReplies bytes)
 
--- the reply tells this refusal, which isn't want of memory
+-- the reply reports this refusal, which is not that memory ran out
 pub record IsRefusedReply (refusal : LooseRefusal) (reply : Reply) : Type 0 where
   pub said : refusal ≢ refusals.NoMemory
   pub status_is : reply.status ≡ refusal_status refusal

@@ -13,8 +13,8 @@ use bn_reply::{Judged, NoMemory, OpenedTable, Reply, Status, judge_table, open_t
 use bn_table::Table;
 use std::alloc::Global;
 
-/// What `bennett` answers to some bytes: whether they are a table with a machine in standard form, and
-/// then the table of its reversible machine.
+/// The answer of `bennett` to some bytes: a refusal if they are no table whose machine is in standard form, or the
+/// table of its reversible machine.
 pub fn reply_bennett(alloc: Global, bytes: &[u8]) -> Result<Reply, NoMemory>
     ensures { IfOk result (λ r. BennettReplies bytes.now r.status r.text.items []) }
 {
@@ -24,7 +24,7 @@ pub fn reply_bennett(alloc: Global, bytes: &[u8]) -> Result<Reply, NoMemory>
     }
 }
 
-// What `bennett` answers to a table.
+// The answer of `bennett` to a table.
 fn translate_table(alloc: Global, table: &Table) -> Result<Reply, NoMemory>
     ensures { IfOk result (λ r. JudgedReplies (IsDone (bennett_text table.now)) table.now r.status r.text.items []) }
 {

@@ -10,7 +10,8 @@ use bn_reply::{Judged, NoMemory, OpenedTable, Reply, Status, judge_table, open_t
 use bn_table::Table;
 use std::alloc::Global;
 
-/// What `check` answers to some bytes: whether they are a table, and its machine is in standard form.
+/// The answer of `check` to some bytes: a refusal if they are no table whose machine is in standard form, or the size
+/// of the machine.
 pub fn reply_check(alloc: Global, bytes: &[u8]) -> Result<Reply, NoMemory>
     ensures { IfOk result (λ r. CheckReplies bytes.now r.status r.text.items []) }
 {
@@ -20,7 +21,7 @@ pub fn reply_check(alloc: Global, bytes: &[u8]) -> Result<Reply, NoMemory>
     }
 }
 
-// What `check` answers to a table.
+// The answer of `check` to a table.
 fn check_table(alloc: Global, table: &Table) -> Result<Reply, NoMemory>
     ensures { IfOk result (λ r. JudgedReplies
         (IsDone (standard_line table.now.machine)) table.now r.status r.text.items []) }

@@ -13,9 +13,9 @@ use bn_quad::{QuadMachine, QuadNames};
 use bn_reply::{NoMemory, Reply, Status};
 use std::alloc::Global;
 
-/// What `inverse` answers to some bytes: whether they are a table of quadruples, and then the table of the inverse of
-/// its machine (Bennett 1973), with its names: the entries in the opposite order, each turned round. The machine needs
-/// to pass no test.
+/// The answer of `inverse` to some bytes: a refusal if they are no table of quadruples, or the table of the inverse of
+/// its machine (Bennett 1973), with its names: the entries in the opposite order, each inverted. The machine need not
+/// pass any test.
 pub fn reply_inverse(alloc: Global, bytes: &[u8]) -> Result<Reply, NoMemory>
     ensures { IfOk result (λ r. InverseReplies bytes.now r.status r.text.items []) }
 {

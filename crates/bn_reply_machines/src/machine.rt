@@ -16,8 +16,8 @@ use bn_reply::{
 use bn_table::Table;
 use std::alloc::Global;
 
-/// What `machine` answers to a word, a greatest number of steps and some bytes: how the run of the
-/// table's machine from the word comes out.
+/// The answer of `machine` to a word, a greatest number of steps and some bytes: the result of the run of the table's
+/// machine from the word.
 pub fn reply_machine(
     alloc: Global,
     word: &[u8],
@@ -33,7 +33,7 @@ pub fn reply_machine(
     }
 }
 
-// What `machine` answers to a table.
+// The answer of `machine` to a table.
 fn run_table(alloc: Global, table: &Table, word: &[u8], steps: u32) -> Result<Reply, NoMemory>
     requires { steps ≤ MOST_COUNT }
     ensures { IfOk result (λ r. JudgedReplies
@@ -45,7 +45,7 @@ fn run_table(alloc: Global, table: &Table, word: &[u8], steps: u32) -> Result<Re
     }
 }
 
-// What is answered of a table's machine on a word.
+// The answer for a table's machine and a word.
 fn reply_word(alloc: Global, table: &Table, word: &[u8], steps: u32) -> Result<Reply, NoMemory>
     requires { steps ≤ MOST_COUNT }
     ensures { IfOk result (λ r. WordReplies (TellsMachineRun table.now steps) table.now word.now
@@ -60,7 +60,7 @@ fn reply_word(alloc: Global, table: &Table, word: &[u8], steps: u32) -> Result<R
     }
 }
 
-// What is answered of a run that comes out so.
+// The answer for a run with this result.
 fn reply_ended(alloc: Global, table: &Table, ended: Ended) -> Result<Reply, NoMemory>
     requires { FitsTable table.now ended.ending }
     ensures status { IfOk result (λ r. r.status ≡ ending_status (ending_of ended.ending)) }

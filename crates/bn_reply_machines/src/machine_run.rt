@@ -12,26 +12,26 @@ use bn_machine::{Machine, Tape, TapeRefusal, Turn};
 use bn_reply::NoMemory;
 use std::alloc::Global;
 
-/// How a run comes out.
+/// The result of a run.
 #[derive(Drop)]
 pub(crate) enum Ending {
-    /// It is in the final state; the symbols of the output.
+    /// The machine has halted; the symbols of the output.
     Halted(Vec<u32>),
     /// No quintuple has this state and this scanned symbol, both counted from 0.
     Stuck { state: u32, symbol: u32 },
-    /// All steps are made, and there is a next one.
+    /// All steps are made, and a further one is possible.
     Running,
 }
 
-/// A run's ending, and after how many steps it comes.
+/// The result of a run, and the number of steps after which it comes.
 #[derive(Drop)]
 pub(crate) struct Ended {
     pub(crate) steps: u32,
     pub(crate) ending: Ending,
 }
 
-/// The run of at most `steps` steps from a word without blanks, on a tape without ends. Only as many
-/// letters as a tape holds are written on one: no head comes so far that it sees the others.
+/// The run of at most `steps` steps from a word without blanks, on a tape without ends. Only as many letters as a tape
+/// holds are written on the tape: no head moves so far that it scans the others.
 pub(crate) fn run_word(
     alloc: Global,
     machine: &Machine,
@@ -57,8 +57,7 @@ pub(crate) fn run_word(
     })
 }
 
-// How a run comes out that is followed by this turn and leaves this tape, and this rest of the word
-// that isn't on it.
+// The result of a run that ends with this turn and this tape, given the rest of the word beyond the tape.
 fn ending_after(alloc: Global, turn: Turn, tape: &Tape, rest: &[u32]) -> Result<Ending, NoMemory>
     requires { StaysInside turn }
     ensures { IfOk result (IsEndingOf turn tape.now rest.now) }
@@ -71,8 +70,8 @@ fn ending_after(alloc: Global, turn: Turn, tape: &Tape, rest: &[u32]) -> Result<
     }
 }
 
-// Makes at most `steps` steps, and then one more where all are made. Answers how many were made
-// before the last turn, and that turn.
+// Makes at most `steps` steps, and then one more if all are made. Returns how many were made before the last turn, and
+// that turn.
 fn run(machine: &Machine, state: &mut u32, tape: &mut Tape, steps: u32) -> (u32, Turn)
     ensures { IsRun machine.now steps state.old tape.old result.0 result.1 state.new tape.new }
 {
@@ -85,7 +84,7 @@ fn run(machine: &Machine, state: &mut u32, tape: &mut Tape, steps: u32) -> (u32,
     (steps, machine.step(state, tape))
 }
 
-// The output, with the rest of the word that didn't fit on the tape where it reaches so far.
+// The output, with the rest of the word beyond the tape if it reaches so far.
 fn whole_output(alloc: Global, tape: &Tape, rest: &[u32]) -> Result<Vec<u32>, NoMemory>
     ensures { IfOk result (λ y. IsWholeOutput tape.now rest.now y.items) }
 {
@@ -97,7 +96,7 @@ fn whole_output(alloc: Global, tape: &Tape, rest: &[u32]) -> Result<Vec<u32>, No
     Ok(output)
 }
 
-// The longest word without blanks just right of the head.
+// The longest word without blanks directly right of the head.
 fn output_of(alloc: Global, tape: &Tape) -> Result<Vec<u32>, NoMemory>
     ensures output { IfOk result (λ y. IsOutput tape.now.tape y.items) }
     ensures inside { IfOk result (λ y.
@@ -112,8 +111,8 @@ fn output_of(alloc: Global, tape: &Tape) -> Result<Vec<u32>, NoMemory>
     Ok(output)
 }
 
-/// The symbol at a position of a tape, `None` exactly where it is the blank, as it is outside of the window. Its
-/// contract also tells what every tape keeps.
+/// The symbol at a position of a tape; `None` exactly if it is the blank, or the position is outside the window. The
+/// contract also states what holds of every tape afterwards.
 pub fn letter_at(tape: &Tape, position: i64) -> Option<u32>
     ensures letter { MatchOption result (cell tape.now.tape position ≡ 0) (IsLetterAt tape.now position) }
     ensures valid { IsWindowed tape.now }

@@ -1,5 +1,5 @@
-//! The input of the commands that take a table of quadruples whose machine passes both tests: it is opened, or what is
-//! answered where there is none.
+//! The input of the commands that read a table of quadruples whose machine passes both tests: the opened table, or the
+//! refusal.
 
 ghost use Rattle.std.specs.Prelude.{◌≡◌, IfOk};
 ghost use Rattle.bn_reply_machines.specs.QuadReply.{overlap_line, tape_foreign_line};
@@ -11,12 +11,12 @@ use bn_quad::{QuadMachine, QuadNames};
 use bn_reply::{NoMemory, Reply, Status};
 use std::alloc::Global;
 
-/// A table of quadruples whose machine is deterministic and reversible, or the answer to bytes that are none.
+/// A table of quadruples whose machine is deterministic and reversible, or the answer to other bytes.
 #[derive(Drop)]
 pub enum OpenedQuads {
     /// The machine, and the names of its states and symbols.
     Read(QuadMachine, QuadNames),
-    /// What is answered where there is none.
+    /// The answer to other bytes.
     Refused(Reply),
 }
 
@@ -42,7 +42,7 @@ pub fn open_quads(alloc: Global, bytes: &[u8]) -> Result<OpenedQuads, NoMemory>
     Ok(OpenedQuads::Read(machine, names))
 }
 
-// The answer that two quadruples are at fault together, by the name of the test or demand.
+// The answer that two quadruples overlap, or violate a condition together, with the name of the test or condition.
 pub(crate) fn overlap(alloc: Global, test: &str, i: u32, j: u32) -> Result<Reply, NoMemory>
     ensures status { IfOk result (λ r. r.status ≡ Status.Machine) }
     ensures text { IfOk result (λ r. r.text.items ≡ overlap_line test.now i j) }
@@ -53,7 +53,7 @@ pub(crate) fn overlap(alloc: Global, test: &str, i: u32, j: u32) -> Result<Reply
     })
 }
 
-/// The answer that the letter at this place of the word on a tape, both counted from 1, is none that it may have.
+/// The answer that the letter at this place of the word on a tape, both counted from 1, is not allowed.
 pub fn foreign_on_tape(alloc: Global, tape: u32, place: usize) -> Result<Reply, NoMemory>
     ensures status { IfOk result (λ r. r.status ≡ Status.Word) }
     ensures text { IfOk result (λ r. r.text.items ≡ tape_foreign_line tape place) }

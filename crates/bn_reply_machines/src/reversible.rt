@@ -12,8 +12,8 @@ use bn_quad::QuadMachine;
 use bn_reply::{NoMemory, Reply, Status, empty_text, field_text, record_text};
 use std::alloc::Global;
 
-/// What `reversible` answers to some bytes: whether they are a table of quadruples, and then whether
-/// these are deterministic, and whether they are reversible.
+/// The answer of `reversible` to some bytes: a refusal if they are no table of quadruples, or whether these are
+/// deterministic, and whether they are reversible.
 pub fn reply_reversible(alloc: Global, bytes: &[u8]) -> Result<Reply, NoMemory>
     ensures { IfOk result (λ r. ReversibleReplies bytes.now r.status r.text.items []) }
 {
@@ -29,7 +29,7 @@ pub fn reply_reversible(alloc: Global, bytes: &[u8]) -> Result<Reply, NoMemory>
     }
 }
 
-/// The line of a fault of the bytes as a table of quadruples.
+/// The line of an error of the bytes as a table of quadruples.
 pub fn quad_fault_text(alloc: Global, refusal: QuadTableRefusal) -> Result<Vec<u8>, NoMemory>
     ensures { IfOk result (λ text. (refusal ≢ faults.NoMemory) × (text.items ≡ quad_fault_line refusal)) }
 {
@@ -54,14 +54,14 @@ fn verdicts_text(alloc: Global, machine: &QuadMachine) -> Result<Vec<u8>, NoMemo
     Ok(text)
 }
 
-// The least two quadruples that overlap in domain, `None` where no two do.
+// The least two quadruples that overlap in domain; `None` if no two overlap.
 fn overlap_in_domain(machine: &QuadMachine) -> Option<(u32, u32)>
     ensures { IsVerdict Domain machine.now.rules result }
 {
     machine.check_deterministic().err()
 }
 
-// The least two quadruples that overlap in range, `None` where no two do.
+// The least two quadruples that overlap in range; `None` if no two overlap.
 fn overlap_in_range(machine: &QuadMachine) -> Option<(u32, u32)>
     ensures { IsVerdict Range machine.now.rules result }
 {

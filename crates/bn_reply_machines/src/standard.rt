@@ -9,8 +9,8 @@ use bn_standardise::{LooseRefusal, standard_text};
 use bn_table::Table;
 use std::alloc::Global;
 
-/// What `standard` answers to some bytes: whether they are a table, and then the table of the machine in standard
-/// form that is equivalent to its machine, which starts on the first letter, or why there is none.
+/// The answer of `standard` to some bytes: a refusal if they are no table, or the table of the equivalent machine in
+/// standard form for its machine, which starts on the first letter, or why there is none.
 pub fn reply_standard(alloc: Global, bytes: &[u8]) -> Result<Reply, NoMemory>
     ensures { IfOk result (λ r. StandardTableReplies bytes.now r.status r.text.items []) }
 {
@@ -20,7 +20,7 @@ pub fn reply_standard(alloc: Global, bytes: &[u8]) -> Result<Reply, NoMemory>
     }
 }
 
-// What `standard` answers to a table.
+// The answer of `standard` to a table.
 fn standardise_table(alloc: Global, table: &Table) -> Result<Reply, NoMemory>
     ensures { IfOk result (λ r. TellsStandard table.now r.status r.text.items []) }
 {

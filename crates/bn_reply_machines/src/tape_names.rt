@@ -20,19 +20,19 @@ use std::marker::Model;
 /// The blank's letter.
 const BLANK: u8 = b'_';
 
-/// What stands between the names of a word.
+/// The separator between the names of a word.
 const COMMA: u8 = b',';
 
-/// What comes of a word on a tape.
+/// The result of reading a word on a tape.
 #[derive(Drop)]
 pub enum Spelling {
     /// The symbols of its letters or names, none of which is the blank.
     Symbols(Vec<u32>),
-    /// The first place, counted from 1, that has no letter or name of the tape, or has the blank's.
+    /// The first place, counted from 1, that has no letter or name of the tape, or has the blank.
     Foreign { place: usize },
 }
 
-/// The names of the symbols of one tape. Callers see the names.
+/// The names of the symbols of one tape. Contracts see the names.
 #[derive(Drop)]
 pub struct TapeNames<'a> {
     names: &'a QuadNames,
@@ -66,7 +66,7 @@ impl<'a> TapeNames<'a> {
         }
     }
 
-    /// Reads a word in the letters of the tape: the symbols of its letters, or the first place that has none.
+    /// Reads a word in the letters of the tape: the symbols of its letters, or the first place without one.
     pub fn spell(&self, alloc: Global, word: &[u8]) -> Result<Spelling, NoMemory>
         requires { IsAlphabet self.now }
         ensures { IfOk result (IsSpelling self.now word.now) }
@@ -81,8 +81,8 @@ impl<'a> TapeNames<'a> {
         Ok(Spelling::Symbols(symbols))
     }
 
-    /// Reads a word by the names of its symbols: the symbols, or the first place whose name is no symbol's or is the
-    /// blank's.
+    /// Reads a word by the names of its symbols: the symbols, or the first place whose name is not that of a symbol, or
+    /// is the blank's.
     pub fn spell_word(&self, alloc: Global, word: TapeWord) -> Result<Spelling, NoMemory>
         requires { IsAlphabet self.now }
         ensures { IfOk result (IsNaming self.now (names_of_word (tape_word_of word.entry))) }
@@ -132,7 +132,7 @@ impl<'a> TapeNames<'a> {
         self.spell_last(symbols, left)
     }
 
-    // The same for a word that has this name behind those of some symbols.
+    // The same for a word that has this name after those of some symbols.
     fn spell_last(&self, before: Vec<u32>, name: &[u8]) -> Result<Spelling, NoMemory>
         requires { IsAlphabet self.now }
         ensures { (word : List (List ℕ)) → IsNamedSoFar self.now word before.items (name.now ∷ [])
@@ -148,7 +148,7 @@ impl<'a> TapeNames<'a> {
         Ok(Spelling::Symbols(symbols))
     }
 
-    // The symbol with a name, `None` exactly where no symbol of the tape has it or it is the blank's.
+    // The symbol with a name; `None` exactly if no symbol of the tape has the name, or it is the blank's.
     fn symbol_named(&self, name: &[u8]) -> Option<u32>
         requires { IsAlphabet self.now }
         ensures { MatchOption result (¬ IsNameOn self.now name.now) (IsSymbolNamed self.now name.now) }
@@ -159,7 +159,7 @@ impl<'a> TapeNames<'a> {
         self.find_name(name)
     }
 
-    // The number of the symbol with a name, `None` exactly where no symbol of the tape has it.
+    // The number of the symbol with a name; `None` exactly if no symbol of the tape has the name.
     fn find_name(&self, name: &[u8]) -> Option<u32>
         ensures found { IfSome result (λ s. slice_get self.now s ≡ Some name.now) }
         ensures none { IfNone result (¬ Contains self.now name.now) }
@@ -180,7 +180,7 @@ impl<'a> TapeNames<'a> {
         self.names.symbol(self.tape, symbol)
     }
 
-    // The symbol of a byte, `None` exactly where it is no letter of the tape or is the blank's.
+    // The symbol of a byte; `None` exactly if it is no letter of the tape, or is the blank's.
     fn symbol_of(&self, byte: u8) -> Option<u32>
         requires { IsAlphabet self.now }
         ensures { MatchOption result (¬ IsLetterOf (lettered self.now) byte) (IsSymbolOf (lettered self.now) byte) }
@@ -191,7 +191,7 @@ impl<'a> TapeNames<'a> {
         self.find(byte)
     }
 
-    // The number of the symbol whose name is this byte alone, `None` exactly where there is none.
+    // The number of the symbol whose name is this byte alone; `None` exactly if there is none.
     fn find(&self, byte: u8) -> Option<u32>
         ensures found { IfSome result (λ s. slice_get (lettered self.now).letters s ≡ Some byte) }
         ensures none { IfNone result (¬ Contains (lettered self.now).letters byte) }

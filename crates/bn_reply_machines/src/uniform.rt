@@ -1,4 +1,4 @@
-//! The input of the commands that make a circuit of a table of quadruples: its machine has to be uniform besides.
+//! The input of the commands that build a circuit from a table of quadruples: its machine must also be uniform.
 
 ghost use Rattle.std.specs.Prelude.{◌≡◌, List, ℕ, IfOk};
 ghost use Rattle.bn_reply_machines.specs.Opened.{IsOpenedUniform};
@@ -11,17 +11,17 @@ use bn_quad::{NotUniform, QuadNames, Uniform, UniformRefusal};
 use bn_reply::{NoMemory, Reply, Status};
 use std::alloc::Global;
 
-/// A table of quadruples whose machine is deterministic, reversible and uniform, or the answer to bytes that are none.
+/// A table of quadruples whose machine is deterministic, reversible and uniform, or the answer to other bytes.
 #[derive(Drop)]
 pub enum OpenedUniform {
     /// The machine, and the names of its states and symbols.
     Read(Uniform, QuadNames),
-    /// What is answered where there is none.
+    /// The answer to other bytes.
     Refused(Reply),
 }
 
 /// Reads the bytes as a table of quadruples, and tests whether its machine is deterministic, reversible and uniform. A
-/// refusal tells the first fault of the bytes, or the first test that fails, with the least quadruples that show it.
+/// refusal reports the first error of the bytes, or the first test that fails, with the least quadruples that show it.
 pub fn open_uniform(alloc: Global, bytes: &[u8]) -> Result<OpenedUniform, NoMemory>
     ensures { IfOk result (IsOpenedUniform bytes.now) }
 {
@@ -52,7 +52,7 @@ fn failing(alloc: Global, why: UniformRefusal) -> Result<Reply, NoMemory>
     }
 }
 
-// The answer that a machine isn't uniform.
+// The answer that a machine is not uniform.
 fn uneven(alloc: Global, why: NotUniform) -> Result<Reply, NoMemory>
     ensures status { IfOk result (λ r. r.status ≡ Status.Machine) }
     ensures text { IfOk result (λ r. r.text.items ≡ uneven_line why) }
@@ -66,7 +66,7 @@ fn uneven(alloc: Global, why: NotUniform) -> Result<Reply, NoMemory>
     }
 }
 
-// The answer that a quadruple has a flaw, by the name of the demand that it doesn't meet.
+// The answer that a quadruple violates a condition, with the name of the condition.
 fn flaw(alloc: Global, demand: &str, i: u32) -> Result<Reply, NoMemory>
     ensures status { IfOk result (λ r. r.status ≡ Status.Machine) }
     ensures text { IfOk result (λ r. r.text.items ≡ flaw_line demand.now i) }

@@ -14,26 +14,26 @@ use bn_quad::{QuadMachine, QuadNames};
 use bn_reply::{NoMemory, Reply, Status, foreign_letter};
 use std::alloc::Global;
 
-/// The symbols of a word on a tape, or the answer to a word that has none.
+/// The symbols of a word on a tape, or the answer to another word.
 #[derive(Drop)]
 pub enum SpelledWord {
     /// The symbols, none of which is the blank.
     Symbols(Vec<u32>),
-    /// What is answered where a name of the word is no symbol's, or is the blank's.
+    /// The answer if a name of the word is not that of a symbol, or is the blank's.
     Refused(Reply),
 }
 
-/// The symbols of the words on the tapes, or the answer to words that have none.
+/// The symbols of the words on the tapes, or the answer to other words.
 #[derive(Drop)]
 pub enum SpelledWords {
     /// The symbols of each tape's word, tape 1 first, none of which is the blank.
     Symbols(Vec<u32>, Vec<u32>, Vec<u32>),
-    /// What is answered where a name of a word is no symbol's of its tape, or is the blank's.
+    /// The answer if a name of a word is not that of a symbol of its tape, or is the blank's.
     Refused(Reply),
 }
 
-/// The symbols of the words on the tapes, by the names of a machine's symbols; or what is answered to the first tape
-/// whose word has a name that it may not have.
+/// The symbols of the words on the tapes, by the names of a machine's symbols; or the answer to the first tape whose
+/// word has a name that is not allowed.
 pub fn spell_words(
     alloc: Global,
     machine: &QuadMachine,
@@ -101,7 +101,7 @@ fn word_on<'a>(words: &TapeWords<'a>, tape: u32) -> TapeWord<'a>
     }
 }
 
-// The answer that the name at this place of the word on a tape, counted from 1, is none that it may have.
+// The answer that the name at this place of the word on a tape, counted from 1, is not allowed.
 fn unnamed(alloc: Global, words: &TapeWords, tape: u32, place: usize) -> Result<Reply, NoMemory>
     ensures status { IfOk result (λ r. r.status ≡ Status.Word) }
     ensures text { IfOk result (λ r. r.text.items ≡ unnamed_line (tape_words_of words.now) tape place) }

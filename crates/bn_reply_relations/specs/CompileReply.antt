@@ -1,5 +1,5 @@
--- What the command `compile` answers: the configuration text of the board of a machine and a word in a window, at its
--- start (Morita 2017 for the elements; the board and the text are this project's own profile).
+-- What the command `compile` answers: the configuration text of the circuit of a machine and a word in a window, at its
+-- start (Morita 2017 for the elements; the circuit and the text are this project's own profile).
 use Rattle.std.specs.Prelude.{◌≡◌, ◌↔◌, ℕ, List, [], Some}
 use Rattle.bn_circuits.specs.Circuits.{Circuit, target}
 use Rattle.bn_circuits.specs.declared.config.Config.{Config}
@@ -18,8 +18,8 @@ use Rattle.bn_reply.specs.declared.status.Status.TheVariants.{Done}
 use Rattle.bn_network.specs.Limits.{AreSmall}
 use Rattle.bn_reply_relations.specs.Windows.{WindowReplies}
 
--- What is spelled is the board of a network, with the board's own wires and no others, at its start; the start is the
--- line that the signal is about to enter, and the end the one by which it leaves where the machine halts.
+-- The text spells the circuit of a network, with its own wires and no others, at its start; the start is the line that
+-- the signal is about to enter, and the end the one by which it leaves if the machine halts.
 pub record IsBoardSpelling (network : Circuit) (layout : Layout) (at_start : Config) (s : Spelling) : Type 0 where
   pub elements : s.elements ≡ size network.tables
   pub wires : (from to : Line) → (target s.wires from ≡ Some to) ↔ IsBoardWire network from to
@@ -27,7 +27,7 @@ pub record IsBoardSpelling (network : Circuit) (layout : Layout) (at_start : Con
   pub start : Enter s.start.element s.start.line ≡ at_start.place
   pub end : Left s.end.element s.end.line ≡ end_place layout
 
--- the text is that of the board of a network at its start, in version 2, and nothing is told
+-- the text is that of the circuit of a network at its start, in version 2, and no place is told
 pub record TellsBoard (network : Circuit) (layout : Layout) (at_start : Config) (status : Status) (text : List ℕ)
     (told : List Place) : Type 0 where
   pub spelling : Spelling
@@ -36,7 +36,7 @@ pub record TellsBoard (network : Circuit) (layout : Layout) (at_start : Config) 
   pub done : status ≡ Done
   pub silent : told ≡ []
 
--- so of the board of a machine's translation
+-- the same for the circuit of a machine's translation
 abbrev pub IsFlatSpelling : Flat → Spelling → Type 0
 IsFlatSpelling f = IsBoardSpelling f.network f.layout (flat_start f)
 

@@ -1,4 +1,4 @@
--- What the laws of this crate say, each a field of `Laws`.
+-- The statements of this crate's laws, each a field of `Laws`.
 use Rattle.std.specs.Prelude.{◌≡◌, ◌≢◌, ◌↔◌, ℕ, ◌+◌, ◌-◌, ◌<◌, ◌≤◌, List, length, Option, Some, None}
 use Rattle.bn_io.specs.Told.{Grows}
 use Rattle.bn_circuits.specs.declared.place.Place.{Place}
@@ -97,7 +97,7 @@ BoardsHaveRuns =
     → IsGiven bytes letters l t symbols → ComesTo t.machine l symbols f
     → (e : Exit) × IsExit f.layout (reached f given).place e
 
--- the run of a board without a number of steps tells the outcome of the machine's own bounded run
+-- the run of a circuit without a greatest number of steps reports the outcome of the machine's own bounded run
 abbrev pub RunsTellOutcomes : Type 0
 RunsTellOutcomes =
     (bytes letters : List ℕ) (l : Limits) (t : Named) (symbols : List ℕ) (f : Flat) (status : Status)
@@ -138,7 +138,7 @@ RunsHaveOneOfEach =
     (bytes letters : List ℕ) (l : Limits) (t : Named) (symbols : List ℕ) → IsGiven bytes letters l t symbols
     → HasOneOfEach t.machine l symbols
 
--- a reply to the words that ask for a run tells the headline, where the sink takes its text
+-- a reply to arguments that ask for a run states the headline, if the sink receives its text
 abbrev pub RepliesTellOutcomes : Type 0
 RepliesTellOutcomes =
     (given : Option ℕ) (bytes letters : List ℕ) (l : Limits) (status : Status) (text : List ℕ) (told : List Place)
@@ -153,7 +153,7 @@ TookReplies words bytes status taken took =
     → length bytes ≤ MOST_INPUT_BYTES
     → (text : List ℕ) × (told : List Place) × RunReplies given letters l bytes status text told × Grows taken took text
 
--- an answer that was given whole tells the headline
+-- an answer that was given whole implies the headline
 abbrev pub AnswersTellHeadline : Type 0
 AnswersTellHeadline =
     (words : List (List ℕ)) (bytes : List ℕ) (status : Status) (taken took : Option (List ℕ))
@@ -188,24 +188,24 @@ pub record Laws : Type 0 where
   pub boards_have_runs : BoardsHaveRuns
   -- The run of a board is told by the exit and the moments that its layout finds.
   pub boards_tell_runs : BoardsTellRuns
-  -- To all words, limits that may be asked for, and bytes `compile` has an answer, and only one.
+  -- For all words, limits within their bounds, and bytes `compile` has an answer, and only one.
   pub compile_has_one_reply : CompileIsSettled
   -- The texts of two words on one table in one window spell one circuit with one start, end and place, whose bars
   -- differ at most at bottoms of tape 1's cells.
   pub texts_differ_in_words : TextsDifferInWords
-  -- What `step` makes of a compiled text, `back` takes back.
+  -- What `step` makes of a compiled text, `back` undoes.
   pub compiled_texts_step_back : CompiledTextsStepBack
-  -- To all words, limits that may be asked for, numbers of steps and bytes `run` has an answer, and only one.
+  -- For all words, limits within their bounds, numbers of steps and bytes `run` has an answer, and only one.
   pub run_has_one_reply : RunIsSettled
-  -- What the run of a board without a number of steps tells is the outcome of the machine's own bounded run.
+  -- The run of a circuit without a greatest number of steps reports the outcome of the machine's own bounded run.
   pub runs_tell_outcomes : RunsTellOutcomes
-  -- With a greatest number of steps the run is inside exactly where that is below the board's cost, and else tells
-  -- what it tells without one.
+  -- With a greatest number of steps the signal is inside exactly if that is below the circuit's cost; otherwise the
+  -- report is the one without it.
   pub runs_stop_within : RunsStopWithin
   -- Each machine, word and limits have one count of elements and one outcome, and a board, the same up to the order
   -- of wires, with one cost, where the word fits and the board isn't too large.
   pub runs_have_one_of_each : RunsHaveOneOfEach
-  -- A reply to a run, where the sink takes its text, tells the outcome of the machine's own bounded run.
+  -- A reply to a run, if the sink receives its text, reports the outcome of the machine's own bounded run.
   pub replies_tell_outcomes : RepliesTellOutcomes
-  -- The headline follows from the answer, where the sink takes it whole.
+  -- The headline follows from the answer, if the sink receives it whole.
   pub answers_tell_headline : AnswersTellHeadline

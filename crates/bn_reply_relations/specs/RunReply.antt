@@ -1,5 +1,5 @@
--- What the command `run` answers: how the signal runs on the board of a machine and a word in a window (the board and
--- the text are this project's own profile). The circuit alone says it; the machine's own run is no part of it.
+-- What the command `run` answers: how the signal runs on the circuit of a machine and a word in a window (the circuit
+-- and the text are this project's own profile). The circuit alone defines it; the machine's own run is no part of it.
 use Rattle.std.specs.Prelude.{◌≡◌, ℕ, ◌+◌, ◌-◌, List, Option, Some, None}
 use Rattle.bn_circuits.specs.Stepping.{run, places}
 use Rattle.bn_circuits.specs.declared.place.Place.{Place}
@@ -45,7 +45,7 @@ exit_status Unnamed = statuses.Done
 abbrev pub HasMoment : Flat → ℕ → Type 0
 HasMoment f n = (a : ℕ) × IsBoardMoment (machine_of f) f.limits f.names f.network (board_after f n) a
 
--- The text tells the run of the board: its exit, its steps, what the cells show, and the steps of the machine of
+-- The text reports the run of the circuit: its exit, its steps, what the cells show, and the steps of the machine of
 -- quadruples, which are the moments from the start on, less one. A watch is told the place after each step.
 pub record TellsRun (given : Option ℕ) (t : Named) (f : Flat) (status : Status) (text : List ℕ)
     (told : List Place) : Type 0 where

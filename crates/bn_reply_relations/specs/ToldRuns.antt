@@ -1,5 +1,5 @@
--- The headline: for the words that ask for a run of a board, what the sink takes is the text that the machine's own
--- bounded run names (Bennett 1973 for the machine; board, window and text are this project's own profile).
+-- The headline: for arguments that ask for a run of a circuit, the sink receives the text that the machine's own
+-- bounded run names (Bennett 1973 for the machine; circuit, window and text are this project's own profile).
 use Rattle.std.specs.Prelude.{◌≡◌, ◌↔◌, ℕ, ◌+◌, ◌*◌, ◌<◌, ◌≤◌, List, [], ◌∷◌, ◌++◌, length, Option, Some, None}
 use Rattle.std.specs.Prelude.{codes, decimal, slice_index_or}
 use Rattle.bn_base.specs.Number.{greatest}
@@ -40,16 +40,16 @@ outcome_status (outcome.Halted y) = statuses.Done
 outcome_status (outcome.Stuck j c) = statuses.Stuck
 outcome_status (outcome.Outside n s) = statuses.Window
 
--- The lines behind that of the steps, where the machine's run makes i steps. Where it halts the outcome alone gives
+-- The lines after that of the steps, if the machine's run makes i steps. If it halts, the outcome alone determines
 -- them: Bennett's number of steps, the word on tape 1 again, a blank history, the output alone on tape 3, all heads at
--- 0, and the output. Elsewhere they are what the cells show.
+-- 0, and the output. Otherwise they are what the cells show.
 abbrev pub outcome_rest : Named → Limits → List ℕ → Flat → ℕ → ℕ → Outcome → List ℕ
 outcome_rest t l symbols f cost i (outcome.Halted y) =
     quadruple_line (4 * i + 4 * length y + 5)
     ++ (tapes_text t l (word_tape symbols, blank_tape, word_tape y) ++ output_line t y)
 outcome_rest t l symbols f cost i _ = shown_lines t f (board_after f cost).states
 
--- The text and the status are those of the outcome, and the steps are the board's cost, which is within its bound.
+-- The text and the status are those of the outcome, and the steps are the circuit's cost, which is within its bound.
 pub record TellsOutcome (t : Named) (l : Limits) (symbols : List ℕ) (f : Flat) (i : ℕ) (o : Outcome) (status : Status)
     (text : List ℕ) : Type 0 where
   pub cost : ℕ
@@ -59,8 +59,8 @@ pub record TellsOutcome (t : Named) (l : Limits) (symbols : List ℕ) (f : Flat)
   pub text_is : text ≡ elements_line (size f.network.tables) ++ (outcome_line t o
       ++ (steps_line cost ++ outcome_rest t l symbols f cost i o))
 
--- With a greatest number of steps: the status is `Inside` exactly where that is below the cost, and then the text is
--- that of the board after so many steps; else the outcome is told.
+-- With a greatest number of steps: the status is `Inside` exactly if that is below the cost, and then the text is that
+-- of the circuit after this many steps; otherwise the outcome is reported.
 pub record TellsWithin (e : ℕ) (t : Named) (l : Limits) (symbols : List ℕ) (f : Flat) (i : ℕ) (o : Outcome)
     (status : Status) (text : List ℕ) : Type 0 where
   pub cost : ℕ
@@ -75,25 +75,25 @@ Tells (Some e) = TellsWithin e
 
 -- ---- what is asked
 
--- the words `run`, a word behind the byte `=`, four limits in decimal digits, and whatever words stand behind them
+-- the arguments `run`, a word after the byte `=`, four limits in decimal digits, and whatever arguments follow them
 abbrev pub run_words : List ℕ → Limits → List (List ℕ) → List (List ℕ)
 run_words letters l rest =
     codes "run" ∷ (61 ∷ letters) ∷ decimal l.left ∷ decimal l.right ∷ decimal l.steps ∷ decimal l.output ∷ rest
 
--- the words ask for a run: behind the limits stands nothing, or a greatest number of steps, which is at most 2^62
+-- the arguments ask for a run: after the limits follows nothing, or a greatest number of steps, which is at most 2^62
 abbrev pub AsksRun : List (List ℕ) → List ℕ → Limits → Option ℕ → Type 0
 AsksRun words letters l None = words ≡ run_words letters l []
 AsksRun words letters l (Some e) = (words ≡ run_words letters l (decimal e ∷ [])) × (e ≤ greatest)
 
 -- the bytes read as a table whose machine is in standard form, the letters are a word of these symbols, and the limits
--- may be asked for
+-- are within their bounds
 pub record IsGiven (bytes letters : List ℕ) (l : Limits) (t : Named) (symbols : List ℕ) : Type 0 where
   pub reads : ReadsStandard bytes t
   pub spelled : IsSpelledBy t letters symbols
   pub small : AreSmall l
 
--- besides, the word fits, the board has so many elements and not too many, and after i steps the machine's own bounded
--- run comes out so
+-- besides, the word fits, the circuit has this many elements and not too many, and after i steps the machine's own
+-- bounded run has this outcome
 pub record ComesOutOn (bytes letters : List ℕ) (l : Limits) (t : Named) (symbols : List ℕ) (count i : ℕ)
     (o : Outcome) : Type 0 where
   pub given : IsGiven bytes letters l t symbols
@@ -104,8 +104,9 @@ pub record ComesOutOn (bytes letters : List ℕ) (l : Limits) (t : Named) (symbo
 
 -- ---- the headline
 
--- The sink took a text. The machine, the word and the limits have a board; and of every board that they have, which is
--- of so many elements, its signal comes in exactly its cost to the exit of this outcome, and the text tells this.
+-- The sink received a text. The machine, the word and the limits have a circuit; and the signal of each of their
+-- circuits, which has this many elements, leaves in exactly its cost by the exit of this outcome, and the text reports
+-- this.
 pub record TookOutcome (given : Option ℕ) (t : Named) (l : Limits) (symbols : List ℕ) (count i : ℕ) (o : Outcome)
     (status : Status) (taken took : Option (List ℕ)) : Type 0 where
   pub text : List ℕ
@@ -116,7 +117,8 @@ pub record TookOutcome (given : Option ℕ) (t : Named) (l : Limits) (symbols : 
   pub runs : (f : Flat) → ComesTo t.machine l symbols f → RunsToExit t.machine f i o
   pub tells : (f : Flat) → ComesTo t.machine l symbols f → Tells given t l symbols f i o status text
 
--- whatever run the words ask for, and whatever the machine's own bounded run comes to, on an input within the limit
+-- for every run that the arguments ask for, and every outcome of the machine's own bounded run, on an input within the
+-- limit
 abbrev pub TellsHeadline : List (List ℕ) → List ℕ → Status → Option (List ℕ) → Option (List ℕ) → Type 0
 TellsHeadline words bytes status taken took =
     length bytes ≤ MOST_INPUT_BYTES

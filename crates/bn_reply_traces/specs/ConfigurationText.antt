@@ -1,4 +1,4 @@
--- The line of a moment of a run of a machine of quadruples (this project's own profile).
+-- The line of a configuration of a run of a machine of quadruples (this project's own definition).
 use Rattle.std.specs.Prelude.{◌≡◌, ℕ, ◌⊎◌, List, [], ◌∷◌, ◌++◌, Option, Some, None, codes, decimal, slice_index_or}
 use Rattle.bn_lists.specs.Runs.{Reaches}
 use Rattle.bn_quad.specs.Quadruples.{Configuration, GoesBy, IsQuadrupleStuck, Quadruples, QuadruplesRunTo, everywhere}
@@ -11,8 +11,8 @@ use Rattle.bn_reply_traces.specs.MomentText.{IsTapeText, rule_text}
 abbrev pub name_in : List (List ℕ) → ℕ → List ℕ
 name_in names n = slice_index_or names n []
 
--- the text says how many steps have led to the configuration, its state, and what each tape shows: all cells from the
--- first to the last at which a letter or the head stands
+-- the text has the number of steps that led to the configuration, its state, and what each tape shows: all cells from
+-- the first to the last that has a letter or the head
 pub record IsConfigurationText (t : QuadTable) (i : ℕ) (c : Configuration ℕ) (text : List ℕ) : Type 0 where
   pub one : List ℕ
   pub two : List ℕ
@@ -23,12 +23,12 @@ pub record IsConfigurationText (t : QuadTable) (i : ℕ) (c : Configuration ℕ)
   pub is : text ≡ decimal i ++ (codes " " ++ (name_in t.names.states c.state ++ (codes " tape 1" ++ (one
       ++ (codes " tape 2" ++ (two ++ (codes " tape 3" ++ three)))))))
 
--- the quadruple by which the machine goes on from a configuration; none where it halts or is stuck
+-- the quadruple that the machine applies in a configuration; none if it halts or is stuck
 abbrev pub IsNextQuadruple : Quadruples → Configuration ℕ → Option ℕ → Type 0
 IsNextQuadruple p c None = (c.state ≡ final_state_of p.rules) ⊎ IsQuadrupleStuck p c
 IsNextQuadruple p c (Some n) = (d : Configuration ℕ) × GoesBy everywhere p n c d
 
--- the text is the line of this configuration, to which so many steps have led
+-- the text is the line of this configuration, reached after this many steps
 pub record IsConfigurationLine (t : QuadTable) (i : ℕ) (c : Configuration ℕ) (text : List ℕ) : Type 0 where
   pub shown : List ℕ
   pub shown_is : IsConfigurationText t i c shown

@@ -3,7 +3,7 @@ use Rattle.bn_reply_traces.specs.MomentsReply.{MomentsAreSettled}
 use Rattle.bn_reply_traces.specs.TraceReply.{TraceIsSettled}
 
 pub record Laws : Type 0 where
-  -- To all words, numbers of steps and bytes `trace` has an answer, and only one.
+  -- `trace` has exactly one answer to all words, numbers of steps and bytes.
   pub trace_has_one_reply : TraceIsSettled
-  -- To all words, numbers of steps and bytes `moments` has an answer, and only one, in both of its forms.
+  -- `moments` has exactly one answer to all words, numbers of steps and bytes, in both of its forms.
   pub moments_have_one_reply : MomentsAreSettled

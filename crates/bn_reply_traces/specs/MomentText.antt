@@ -1,4 +1,4 @@
--- The line of a moment of a machine's own run (this project's own profile).
+-- The line of a configuration of a machine's own run (this project's own definition).
 use Rattle.std.specs.Prelude.{◌≡◌, ℕ, zero, suc, ◌⊎◌, ℤ, pos, ◌+ℤ◌, List, [], ◌∷◌, ◌++◌, Option, Some, None, codes}
 use Rattle.std.specs.Prelude.{decimal, slice_index, slice_index_or}
 use Rattle.bn_machine.specs.Machine.{GoesBy, IsFinal, IsMachineStuck, Moment, Program}
@@ -14,14 +14,14 @@ abbrev pub names_text : (ℕ → List ℕ) → List ℕ → List ℕ
 names_text name [] = []
 names_text name (s ∷ ss) = codes " " ++ (name s ++ names_text name ss)
 
--- what is said of a tape: the position of the first cell that is shown, that of the head, how many cells are shown, and
+-- the text of a tape: the position of the first cell that is shown, that of the head, how many cells are shown, and
 -- their symbols by name
 abbrev pub tape_text : (ℕ → List ℕ) → ℤ → ℤ → List ℕ → ℕ → List ℕ
 tape_text name first head symbols count =
     codes " from " ++ (position_text first ++ (codes " head " ++ (position_text head ++ (codes " cells "
     ++ (decimal count ++ (codes ":" ++ names_text name symbols))))))
 
--- the text says of the tape all cells from the first to the last at which a letter or the head stands
+-- the text shows all cells of the tape from the first to the last that has a letter or the head
 pub record IsTapeText (name : ℕ → List ℕ) (t : Tape) (text : List ℕ) : Type 0 where
   pub first : ℤ
   pub last : ℤ
@@ -31,12 +31,12 @@ pub record IsTapeText (name : ℕ → List ℕ) (t : Tape) (text : List ℕ) : T
   pub counted : (first +ℤ pos count) ≡ (last +ℤ pos 1)
   pub is : text ≡ tape_text name first t.head (symbols_from (cell t) first count) count
 
--- the number of the rule that is applied next, counted from 1, if one is
+-- the number of the quintuple that is applied next, counted from 1, if there is one
 abbrev pub rule_text : Option ℕ → List ℕ
 rule_text None = []
 rule_text (Some n) = codes " rule " ++ decimal n
 
--- the quintuple by which the machine goes on from a moment; none where it halts or is stuck
+-- the quintuple that the machine applies in a configuration; none if it halts or is stuck
 abbrev pub IsNext : Program → Moment → Option ℕ → Type 0
 IsNext p c None = IsFinal p c ⊎ IsMachineStuck p c
 IsNext p c (Some n) = (d : Moment) × GoesBy anywhere p n c d
@@ -45,7 +45,7 @@ IsNext p c (Some n) = (d : Moment) × GoesBy anywhere p n c d
 abbrev pub letter_text : Named → ℕ → List ℕ
 letter_text t s = slice_index t.letters s ∷ []
 
--- the text is the line of this moment, to which so many steps have led
+-- the text is the line of this configuration, reached after this many steps
 pub record IsMomentLine (t : Named) (i : ℕ) (c : Moment) (text : List ℕ) : Type 0 where
   pub tape : List ℕ
   pub tape_is : IsTapeText (letter_text t) c.tape tape
@@ -53,7 +53,7 @@ pub record IsMomentLine (t : Named) (i : ℕ) (c : Moment) (text : List ℕ) : T
   pub next : IsNext t.machine c rule
   pub is : text ≡ line (decimal i ∷ codes " " ∷ slice_index_or t.names c.state [] ∷ tape ∷ rule_text rule ∷ [])
 
--- the text is the line of the moment after i steps of the machine's own run from these symbols
+-- the text is the line of the configuration after i steps of the machine's own run from these symbols
 abbrev pub IsLineAfter : Named → List ℕ → ℕ → List ℕ → Type 0
 IsLineAfter t symbols i text = (c : Moment) × After t.machine symbols i c × IsMomentLine t i c text
 

@@ -1,5 +1,5 @@
--- What the command `moments` answers: each moment of the run of a table's machine of quadruples from words on its
--- tapes, on tapes without ends (Bennett 1973; the text is this project's own profile).
+-- The answer of the command `moments`: each configuration of the run of a table's machine of quadruples from words on
+-- its tapes, on tapes without ends (Bennett 1973; the text is this project's own definition).
 use Rattle.std.specs.Prelude.{◌≡◌, ℕ, suc, ◌≤◌, List, [], ◌∷◌, ◌++◌, codes, decimal}
 use Rattle.bn_lists.specs.Runs.{Reaches}
 use Rattle.bn_circuits.specs.declared.place.Place.{Place}
@@ -16,20 +16,20 @@ use Rattle.bn_reply_traces.specs.ConfigurationText.{IsConfigurationLineAfter, na
 use Rattle.bn_reply_traces.specs.MomentText.{AreLines}
 use Rattle.bn_reply_machines.specs.QuadReply.{QuadReplies, TapeWordReplies, tape_foreign_line}
 
--- how a run comes out: the machine has halted, is stuck, or goes on
+-- the result of a run: the machine has halted, is stuck, or goes on
 pub data Outcome : Type 0 where
   Halted : Outcome
   Stuck : Outcome
   Running : Outcome
 
--- so it comes out at c, after so many of n steps at most: in the final state, where no quadruple applies, or by going
--- on after all n
+-- the result at c, after this many of at most n steps: in the final state, where no quadruple applies, or by going on
+-- after all n
 abbrev pub ComesOut : Quadruples → ℕ → ℕ → Configuration ℕ → Outcome → Type 0
 ComesOut p n steps c Halted = c.state ≡ final_state_of p.rules
 ComesOut p n steps c Stuck = IsQuadrupleStuck p c
 ComesOut p n steps c Running = (steps ≡ n) × ((d : Configuration ℕ) × QuadruplesRunTo everywhere p c d)
 
--- the last line: where the machine is stuck it has the state and the symbols that the three heads scan
+-- the last line: for a machine that is stuck it has the state and the symbols that the three heads scan
 abbrev pub moments_outcome_line : QuadTable → ℕ → Configuration ℕ → Outcome → List ℕ
 moments_outcome_line t i c Halted = line (codes "halted " ∷ decimal i ∷ [])
 moments_outcome_line t i c Stuck =
@@ -43,9 +43,9 @@ outcome_status Halted = statuses.Done
 outcome_status Stuck = statuses.Stuck
 outcome_status Running = statuses.Inside
 
--- The text tells each moment of the run of the table's machine, with these symbols on its tapes from cell 1 on and all
--- heads at 0, of which at most n steps are made, from the start to the one where it halts, is stuck, or has made n
--- steps; and how it comes out there.
+-- The text has a line for each configuration of the run of the table's machine, with these symbols on its tapes from
+-- cell 1 on and all heads at 0, and at most n steps: from the start to the configuration in which it halts, is stuck,
+-- or has made n steps. The last line says how the run ends.
 pub record TellsMoments (t : QuadTable) (n : ℕ) (one two three : List ℕ) (status : Status) (text : List ℕ)
     (told : List Place) : Type 0 where
   pub steps : ℕ
@@ -60,13 +60,13 @@ pub record TellsMoments (t : QuadTable) (n : ℕ) (one two three : List ℕ) (st
   pub text_is : text ≡ moments ++ moments_outcome_line t steps last outcome
   pub silent : told ≡ []
 
--- What `moments` answers to a word on tape 1, a greatest number of steps n, and these bytes. What is wrong with the
--- bytes comes first, then what is wrong with the machine, then what is wrong with the word.
+-- The answer of `moments` to a word on tape 1, a greatest number of steps n, and these bytes. An error of the bytes
+-- comes first, then one of the machine, then one of the word.
 abbrev pub MomentsReplies : List ℕ → ℕ → List ℕ → Status → List ℕ → List Place → Type 0
 MomentsReplies word n =
     QuadReplies (λ t. TapeWordReplies foreign_line (λ one. TellsMoments t n one [] []) t.names.one word)
 
--- what it answers to a word on each tape: of the words the first that has a foreign place is told, with its tape
+-- its answer to a word on each tape: the refusal names the first tape whose word has a foreign place
 abbrev pub ThreeMomentsReplies : List ℕ → List ℕ → List ℕ → ℕ → List ℕ → Status → List ℕ → List Place → Type 0
 ThreeMomentsReplies first second third n =
     QuadReplies (λ t. TapeWordReplies (tape_foreign_line 1)
@@ -74,7 +74,7 @@ ThreeMomentsReplies first second third n =
     (λ two. TapeWordReplies (tape_foreign_line 3)
     (λ three. TellsMoments t n one two three) t.names.three third) t.names.two second) t.names.one first)
 
--- it has one answer to all words, numbers of steps and bytes
+-- it has exactly one answer to all words, numbers of steps and bytes
 pub record MomentsAreSettled : Type 0 where
   pub one_word : (word : List ℕ) (n : ℕ) (bytes : List ℕ) → IsSettled (MomentsReplies word n bytes)
   pub three_words : (first second third : List ℕ) (n : ℕ) (bytes : List ℕ)

@@ -1,5 +1,5 @@
--- A stage of a run of a machine of quadruples as the program keeps it: three tapes in windows, behind whose right ends
--- the letters of long words go on, and the configuration on tapes without ends that it stands for.
+-- The program's representation of a configuration of a run of a machine of quadruples: three tapes in windows, which
+-- continue beyond their right ends with the letters of long words. It represents a configuration on tapes without ends.
 use Rattle.std.specs.Prelude.{◌≡◌, ◌≢◌, ℕ, ◌+◌, ◌<◌, ◌≤◌, ℤ, pos, ◌+ℤ◌, ◌-ℤ◌, ◌≤ℤ◌, List, ◌++◌, ◌^◌, length}
 use Rattle.std.specs.Prelude.{Option, Some, None, All}
 use Rattle.bn_base.specs.declared.limits.TheConstants.{MOST_COUNT}
@@ -26,7 +26,7 @@ use Rattle.bn_reply_traces.specs.declared.quad_run.QuadRun.{QuadRun}
 
 -- ---- a tape
 
--- a window that reaches further than n steps to both sides, and stands for the tape of a word
+-- a window that reaches further than n steps to both sides, and represents the tape of a word
 pub record IsWide (word : List ℕ) (n : ℕ) (w : Windowed) : Type 0 where
   pub windowed : IsWindowed w
   pub left_wide : n + 2 ≤ w.left
@@ -39,8 +39,8 @@ pub record IsStepped (t u : Tape) (left : ℤ) : Type 0 where
   pub near : ((left -ℤ pos 1) ≤ℤ u.head) × (u.head ≤ℤ (left +ℤ pos 1))
   pub beside : (q : ℤ) → q ≢ left → cell u q ≡ cell t q
 
--- The tape of a moment to which i steps have led in a run of n steps at most, from a word of z symbols: the window
--- stands for it, its head is within i cells of 0, and these are the first and the last cell that are shown.
+-- The tape of a configuration that i steps reached in a run of at most n steps, from a word of z symbols: the window
+-- represents it, its head is within i cells of 0, and these are the first and the last cell that are shown.
 pub record IsTapeStage (z : ℕ) (word : List ℕ) (n i : ℕ) (w : Windowed) (e : Extent) (t : Tape) : Type 0 where
   pub few : length word < 2 ^ 62
   pub letters : All (λ s. s < z) word
@@ -54,7 +54,7 @@ pub record IsTapeStage (z : ℕ) (word : List ℕ) (n i : ℕ) (w : Windowed) (e
   pub first : IsFirst t e.first
   pub last : IsLast t e.last
 
--- no shift takes the head out of the window
+-- no shift moves the head out of the window
 pub record IsClear (w : Windowed) : Type 0 where
   pub left : (pos 1 -ℤ pos w.left) ≤ℤ w.tape.head
   pub right : (w.tape.head +ℤ pos 1) ≤ℤ pos w.right
@@ -66,7 +66,7 @@ pub record AreClear (s : QuadStage) : Type 0 where
 
 -- ---- a stage
 
--- so are three of a machine's tapes
+-- the same for the three tapes of a machine
 pub record AreWordsOn (names : Naming) (words : StartWords) : Type 0 where
   pub one : IsWordOn names.one words.one.now
   pub two : IsWordOn names.two words.two.now
@@ -76,7 +76,7 @@ pub record AreWordsOn (names : Naming) (words : StartWords) : Type 0 where
 abbrev pub first_of : Quadruples → StartWords → Configuration ℕ
 first_of p words = words_on p words.one.now words.two.now words.three.now
 
--- the stage is that of the configuration c, to which i steps have led in a run of n steps at most
+-- the stage is that of the configuration c, which i steps reached in a run of at most n steps
 pub record IsQuadStage (t : QuadTable) (words : StartWords) (n i : ℕ) (c : Configuration ℕ)
     (s : QuadStage) : Type 0 where
   pub run : Reaches (QuadruplesRunTo everywhere t.machine) i (first_of t.machine words) c
@@ -88,11 +88,11 @@ pub record IsQuadStage (t : QuadTable) (words : StartWords) (n i : ℕ) (c : Con
 
 -- ---- what is asked
 
--- the table that is asked about
+-- the table of the command
 abbrev pub asked_table : Asked → QuadTable
 asked_table a = table_of a.machine.now a.names.now
 
--- the machine is that of a table that was read, and deterministic, and there are not too many steps
+-- the machine is that of a table that was read, and deterministic, and the number of steps is not too large
 pub record IsAsked (a : Asked) : Type 0 where
   pub bytes : List ℕ
   pub read : ReadsQuadruples bytes (asked_table a)
@@ -106,8 +106,8 @@ pub record IsAsked (a : Asked) : Type 0 where
 abbrev pub table_in : QuadRun → QuadTable
 table_in r = table_of r.machine.now r.names.now
 
--- the machine is that of a table that was read, and deterministic, with its index and words of its symbols, and not too
--- many steps
+-- the machine is that of a table that was read, and deterministic, with its index and words of its symbols, and the
+-- number of steps is not too large
 pub record IsQuadRun (r : QuadRun) : Type 0 where
   pub bytes : List ℕ
   pub read : ReadsQuadruples bytes (table_in r)
@@ -117,21 +117,21 @@ pub record IsQuadRun (r : QuadRun) : Type 0 where
   pub words : AreWordsOn r.names.now r.words
   pub few : r.most_steps ≤ MOST_COUNT
 
--- the stage of a run, to whose configuration i steps have led
+-- the stage of a run whose configuration i steps reached
 abbrev pub IsStageIn : QuadRun → ℕ → Configuration ℕ → QuadStage → Type 0
 IsStageIn r i c s = IsQuadStage (table_in r) r.words r.most_steps i c s
 
--- the line of the moment of a run after i steps
+-- the line of the configuration of a run after i steps
 abbrev pub IsLineIn : QuadRun → ℕ → List ℕ → Type 0
 IsLineIn r = IsConfigurationLineAfter (table_in r) (first_of r.machine.now r.words)
 
--- the first k lines are told: the sink has taken a front of them, and the rest is kept
+-- the first k lines are printed: the sink has received a prefix of them, and the rest is kept
 pub record AreQuadTold (r : QuadRun) (old now : Option (List ℕ)) (kept : List ℕ) (k : ℕ) : Type 0 where
   pub given : List ℕ
   pub grown : Grows old now given
   pub lines : AreLines (IsLineIn r) k (given ++ kept)
 
--- the sink has taken a front of the first k lines
+-- the sink has received a prefix of the first k lines
 pub record AreQuadToldInPart (r : QuadRun) (old now : Option (List ℕ)) : Type 0 where
   pub number : ℕ
   pub few : number ≤ r.most_steps + 1
@@ -143,14 +143,14 @@ pub record AreQuadToldInPart (r : QuadRun) (old now : Option (List ℕ)) : Type 
 abbrev pub IsSomeStage : QuadRun → ℕ → QuadStage → Type 0
 IsSomeStage r i s = (c : Configuration ℕ) × IsStageIn r i c s
 
--- what a step comes to: by this quadruple it leads to the next stage; or there is none, and the stage stays
+-- the result of a step: this quadruple leads to the next stage; or there is none, and the stage stays
 abbrev pub IsSteppedTo : QuadTable → StartWords → ℕ → ℕ → Configuration ℕ → QuadStage → Option ℕ → QuadStage → Type 0
 IsSteppedTo t words n i c s None u = IsNextQuadruple t.machine c None × (u ≡ s)
 IsSteppedTo t words n i c s (Some m) u =
     (d : Configuration ℕ) × GoesBy everywhere t.machine m c d × IsQuadStage t words n (i + 1) d u
 
--- A run ends at c after so many steps, where this quadruple would be applied next, if one is: this is the stage then,
--- or the one behind where there is.
+-- A run ends at c after this many steps, where this quadruple would be applied next, if there is one: this is the stage
+-- then, or the next one if there is one.
 abbrev pub IsQuadEndedAt : QuadRun → Configuration ℕ → QuadStage → ℕ → Option ℕ → Type 0
 IsQuadEndedAt r c s steps None = (steps ≤ r.most_steps) × IsStageIn r steps c s × IsNextQuadruple r.machine.now c None
 IsQuadEndedAt r c s steps (Some m) =

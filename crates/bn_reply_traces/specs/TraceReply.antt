@@ -1,5 +1,5 @@
--- What the command `trace` answers: each moment of the run of a table's machine from a word, on a tape without ends
--- (Bennett 1973; the text is this project's own profile).
+-- The answer of the command `trace`: each configuration of the run of a table's machine from a word, on a tape without
+-- ends (Bennett 1973; the text is this project's own definition).
 use Rattle.std.specs.Prelude.{◌≡◌, ℕ, suc, List, [], ◌∷◌, ◌++◌, codes, decimal}
 use Rattle.bn_circuits.specs.declared.place.Place.{Place}
 use Rattle.bn_machine.specs.Run.{Ending, HasEnding, Halted, Stuck, Running}
@@ -11,14 +11,15 @@ use Rattle.bn_reply.specs.declared.status.Status.{Status}
 use Rattle.bn_reply_machines.specs.MachineReply.{ending_status, machine_stuck_line}
 use Rattle.bn_reply_traces.specs.MomentText.{AreLines, IsLineAfter}
 
--- the last line: how the run comes out after i steps
+-- the last line: how the run ends after i steps
 abbrev pub outcome_line : Named → ℕ → Ending → List ℕ
 outcome_line t i (Halted y) = line (codes "halted " ∷ decimal i ∷ [])
 outcome_line t i (Stuck state symbol) = machine_stuck_line t i state symbol
 outcome_line t i Running = running_line i
 
--- The text tells each moment of the run of the table's machine from these symbols, of which at most n steps are made,
--- from the start to the one where it halts, is stuck, or has made n steps; and how it comes out there.
+-- The text has a line for each configuration of the run of the table's machine from these symbols, with at most n
+-- steps: from the start to the configuration in which it halts, is stuck, or has made n steps. The last line says how
+-- the run ends.
 pub record TellsTrace (t : Named) (n : ℕ) (symbols : List ℕ) (status : Status) (text : List ℕ)
     (told : List Place) : Type 0 where
   pub steps : ℕ
@@ -30,11 +31,11 @@ pub record TellsTrace (t : Named) (n : ℕ) (symbols : List ℕ) (status : Statu
   pub text_is : text ≡ moments ++ outcome_line t steps ending
   pub silent : told ≡ []
 
--- What `trace` answers to a word, a greatest number of steps n, and these bytes. What is wrong with the bytes comes
--- first, then what is wrong with the machine, then what is wrong with the word.
+-- The answer of `trace` to a word, a greatest number of steps n, and these bytes. An error of the bytes comes first,
+-- then one of the machine, then one of the word.
 abbrev pub TraceReplies : List ℕ → ℕ → List ℕ → Status → List ℕ → List Place → Type 0
 TraceReplies word n = StandardReplies (λ t. WordReplies (TellsTrace t n) t word)
 
--- it has one answer to all words, numbers of steps and bytes
+-- it has exactly one answer to all words, numbers of steps and bytes
 abbrev pub TraceIsSettled : Type 0
 TraceIsSettled = (word : List ℕ) (n : ℕ) (bytes : List ℕ) → IsSettled (TraceReplies word n bytes)

@@ -10,7 +10,7 @@ ghost use Rattle.bn_reply_traces.specs.Stages.{IsMoved, StandsFor};
 use bn_machine::Tape;
 use bn_reply_machines::letter_at;
 
-/// The positions of the first and of the last cell of a tape that isn't blank or has the head.
+/// The positions of the first and of the last cell of a tape that is not blank or has the head.
 #[derive(Clone, Copy, PartialEq, Eq, Debug)]
 pub(crate) struct Extent {
     pub(crate) first: i64,
@@ -18,7 +18,7 @@ pub(crate) struct Extent {
 }
 
 impl Extent {
-    // That of a word of so many letters at 1 and on, with the head at 0.
+    // The same for a word of this many letters from position 1 on, with the head at 0.
     pub(crate) fn of_word(letters: usize) -> Extent
         requires { letters < 2 ^ 62 }
         ensures first { (word : List ℕ) → letters ≡ length word → IsFirst (word_tape word) result.first }
@@ -31,7 +31,7 @@ impl Extent {
         }
     }
 
-    // How many cells there are.
+    // The number of cells.
     pub(crate) fn cells(self) -> u64
         requires ordered { self.first ≤ℤ self.last }
         requires low { (pos 0 -ℤ pos (2 ^ 32)) ≤ℤ self.first }
@@ -41,7 +41,7 @@ impl Extent {
         (self.last - self.first) as u64 + 1
     }
 
-    // That of the tape behind a step that took the head away from `left`.
+    // The same for the tape after a step that moved the head away from `left`.
     pub(crate) fn follow(self, left: i64, tape: &Tape) -> Extent
         ensures first { (t u : Endless) (word : List ℕ) → StandsFor tape.now word u → left ≤ℤ pos tape.now.right →
             IsStepped t u left → IsFirst t self.first → IsFirst u result.first }
@@ -54,7 +54,7 @@ impl Extent {
         self.after(left, is_blank, head)
     }
 
-    // That of the tape after a step that took the head from `left` to `head`, and left a blank there or not.
+    // The same for the tape after a step that moved the head from `left` to `head`, and left a blank there or not.
     pub(crate) fn after(self, left: i64, is_blank: bool, head: i64) -> Extent
         ensures first { (t u : Endless) → IsMoved t u left is_blank head → IsFirst t self.first →
             IsFirst u result.first }
@@ -67,7 +67,7 @@ impl Extent {
     }
 }
 
-// The first such cell after a step: where the head was at the first one and left a blank, it is the head's.
+// The first such cell after a step: the head's, if the head was at the first one and left a blank.
 fn first_after(first: i64, left: i64, is_blank: bool, head: i64) -> i64
     ensures { (t u : Endless) → IsMoved t u left is_blank head → IsFirst t first → IsFirst u result }
 {
@@ -80,7 +80,7 @@ fn first_after(first: i64, left: i64, is_blank: bool, head: i64) -> i64
     first
 }
 
-// The last such cell after a step: where the head was at the last one and left a blank, it is the head's.
+// The last such cell after a step: the head's, if the head was at the last one and left a blank.
 fn last_after(last: i64, left: i64, is_blank: bool, head: i64) -> i64
     ensures { (t u : Endless) → IsMoved t u left is_blank head → IsLast t last → IsLast u result }
 {

@@ -1,4 +1,4 @@
-//! The answers of the commands that tell a machine's own run moment by moment, without a circuit.
+//! The answers of `trace` and `moments`, which print a machine's own run, one configuration a line, without a circuit.
 #![tactic(auto)]
 
 mod extent;

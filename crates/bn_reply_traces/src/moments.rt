@@ -21,10 +21,10 @@ use bn_reply::{NoMemory, Status, foreign_letter, give_reply};
 use bn_reply_machines::{OpenedQuads, Spelling, TapeNames, foreign_on_tape, open_quads};
 use std::alloc::Global;
 
-/// Answers `moments` to a word on tape 1, a greatest number of steps and some bytes: whether they are a table of
-/// quadruples whose machine is deterministic and reversible, and the word is one of the letters of its tape 1; and then
-/// gives the sink a line for each moment of the machine's own run, from the start to the last one, in pieces, and the
-/// line that says how the run comes out.
+/// Answers `moments` for a word on tape 1, a greatest number of steps and some bytes. It refuses, in this order: bytes
+/// that are no table of quadruples whose machine is deterministic and reversible; a word with other letters than those
+/// of tape 1. Otherwise it gives the sink, in pieces, a line for each configuration of the machine's own run from the
+/// start to the last one, and the line that says how the run ends.
 pub fn answer_moments<K: Sink>(
     alloc: Global,
     word: &[u8],
@@ -51,7 +51,7 @@ pub fn answer_moments<K: Sink>(
     }
 }
 
-/// Answers `moments` to a word on each of the three tapes.
+/// Answers `moments` for a word on each of the three tapes.
 pub fn answer_three_moments<K: Sink>(
     alloc: Global,
     first: &[u8],
@@ -90,7 +90,7 @@ pub(crate) struct Asked<'a> {
 }
 
 impl<'a> Asked<'a> {
-    // Answers to a word on tape 1.
+    // Answers for a word on tape 1.
     fn answer_word<K: Sink>(&self, alloc: Global, word: &[u8], sink: &mut K) -> Status
         requires { IsAsked self.now }
         ensures ends { (told : Option (List Place)) → AnswerEnds (TapeWordReplies foreign_line
@@ -105,7 +105,7 @@ impl<'a> Asked<'a> {
         }
     }
 
-    // Answers to a word on each tape: reads the first.
+    // Answers for a word on each tape: reads the first word.
     fn answer_first<K: Sink>(
         &self,
         alloc: Global,
@@ -131,7 +131,7 @@ impl<'a> Asked<'a> {
         }
     }
 
-    // Reads the second, where the first one's symbols are read.
+    // Reads the second word, given the symbols of the first.
     fn answer_second<K: Sink>(
         &self,
         alloc: Global,
@@ -158,7 +158,7 @@ impl<'a> Asked<'a> {
         }
     }
 
-    // Reads the third.
+    // Reads the third word.
     fn answer_third<K: Sink>(
         &self,
         alloc: Global,
@@ -194,7 +194,7 @@ impl<'a> Asked<'a> {
         TapeNames::of(self.machine, self.names, tape)
     }
 
-    // Gives the moments of the run from words of these symbols.
+    // Gives the configurations of the run from words of these symbols.
     fn give<K: Sink>(
         &self,
         alloc: Global,

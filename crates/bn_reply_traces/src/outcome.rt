@@ -12,8 +12,8 @@ use bn_base::push_u64;
 use bn_reply::{NoMemory, Status, push, push_counted, push_letters};
 use bn_table::Table;
 
-// Appends the line that says how a run comes out after so many steps, where this is the quintuple that is applied next,
-// if one is; answers its status.
+// Appends the line that says how a run ends after this many steps, where this is the quintuple that is applied next, if
+// there is one. Returns its status.
 pub(crate) fn push_outcome(
     text: &mut Vec<u8>,
     table: &Table,

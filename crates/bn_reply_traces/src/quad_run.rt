@@ -1,4 +1,4 @@
-//! A run of a machine of quadruples that is told moment by moment.
+//! The printed run of a machine of quadruples.
 
 ghost use Rattle.std.specs.Prelude.{◌≡◌, ℕ, List, Option, [], ◌+◌, ◌≤◌, ◌++◌, IfOk, OnErr, IsErrOf};
 ghost use Rattle.bn_circuits.specs.declared.place.Place.{Place};
@@ -43,7 +43,7 @@ impl<'a> QuadRun<'a> {
         TapeNames::of(self.machine, self.names, tape)
     }
 
-    // Gives the sink a line for each moment of the run, in pieces, and the line that says how the run comes out.
+    // Gives the sink, in pieces, a line for each configuration of the run, and the line that says how the run ends.
     pub(crate) fn give<K: Sink>(&self, alloc: Global, sink: &mut K) -> Status
         requires { IsQuadRun self.now }
         ensures ends { (told : Option (List Place)) → AnswerEnds (TellsMoments (table_in self.now) self.now.most_steps
@@ -63,7 +63,8 @@ impl<'a> QuadRun<'a> {
         }
     }
 
-    // Gives the line of each moment from the start to the last one, in pieces, and keeps in `text` what is behind them.
+    // Gives, in pieces, the line of each configuration from the start to the last one, and keeps in `text` the bytes
+    // that follow the last whole piece.
     fn give_lines<K: Sink>(
         &self,
         sink: &mut K,
@@ -93,8 +94,8 @@ impl<'a> QuadRun<'a> {
         })
     }
 
-    // Appends the line of a moment, goes on to the next one, and gives all whole pieces. Answers the quadruple by which
-    // it goes on, if there is one.
+    // Appends the line of a configuration, makes the next step, and gives all whole pieces. Returns the quadruple that
+    // was applied, if there is one.
     fn tell_moment<K: Sink>(
         &self,
         sink: &mut K,
@@ -127,7 +128,7 @@ impl<'a> QuadRun<'a> {
         }
     }
 
-    // Gives what is kept, and behind it the line that says how the run comes out; answers its status.
+    // Gives the bytes that are kept, and after them the line that says how the run ends. Returns its status.
     fn give_outcome<K: Sink>(
         &self,
         sink: &mut K,

@@ -1,4 +1,4 @@
-//! A run of a machine of quadruples as it goes from moment to moment.
+//! A run of a machine of quadruples, configuration by configuration.
 
 ghost use Rattle.std.specs.Prelude.{◌≡◌, ◌≤◌, ◌+◌, ℕ, IfOk, length};
 ghost use Rattle.bn_quad.specs.Quadruples.{Configuration, IsQuadMachine};
@@ -12,7 +12,7 @@ use bn_quad::{IndexedMachine, QuadMachine, QuadTurn, Tapes};
 use bn_reply::NoMemory;
 use std::alloc::Global;
 
-/// The symbols of the words that stand on the three tapes at the start of a run.
+/// The symbols of the words on the three tapes at the start of a run.
 #[derive(Clone, Copy)]
 pub(crate) struct StartWords<'a> {
     pub(crate) one: &'a [u32],
@@ -28,7 +28,8 @@ pub(crate) struct Extents {
     pub(crate) three: Extent,
 }
 
-/// A moment of a run: the state, counted from 0, the tapes in their windows, and the cells of them that are shown.
+/// A configuration of a run: the state, counted from 0, the tapes in their windows, and the cells of them that are
+/// shown.
 #[derive(Drop)]
 pub(crate) struct QuadStage {
     pub(crate) state: u32,
@@ -64,8 +65,8 @@ impl QuadStage {
         })
     }
 
-    // Makes the next step, where the machine hasn't halted and isn't stuck. Answers the number of the quadruple,
-    // counted from 1, `None` exactly where no step is made.
+    // Makes the next step, if the machine has not halted and is not stuck. Returns the number of the quadruple, counted
+    // from 1; `None` exactly if no step is made.
     pub(crate) fn step(&mut self, machine: &IndexedMachine<'_>) -> Option<u32>
         requires { AreClear self.old }
         ensures { (t : QuadTable) (words : StartWords) (n i : ℕ) (c : Configuration ℕ) → t.machine ≡ machine.now →
@@ -91,8 +92,8 @@ impl QuadStage {
     }
 }
 
-// A tape with a word that reaches so far that no head comes to its ends within the steps and one more. Only as many
-// letters as a tape holds are written on it: no head comes so far that it sees the others.
+// A tape with a word, in a window that is larger than the steps and one more can reach. Only as many letters as a tape
+// holds are written on it: no head moves so far that it scans the others.
 fn wide_tape(alloc: Global, word: &[u32], steps: u32) -> Result<Tape, NoMemory>
     requires few { steps ≤ MOST_COUNT }
     ensures { IfOk result (IsWide word.now steps) }

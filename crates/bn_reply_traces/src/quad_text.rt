@@ -1,4 +1,4 @@
-//! What is said of a moment of a run of a machine of quadruples.
+//! The line of a configuration of a run of a machine of quadruples.
 
 ghost use Rattle.std.specs.Prelude.{◌≡◌, ◌++◌, ◌∷◌, [], ℕ, List, IfOk, OnOk, length};
 ghost use Rattle.bn_machine.specs.Tape.{Tape as Endless};
@@ -20,7 +20,7 @@ use bn_machine::Tape;
 use bn_reply::{NoMemory, Status, push, push_counted};
 use bn_reply_machines::TapeNames;
 
-// Appends how many steps have led to a stage, its state, and what its tapes show.
+// Appends the number of steps that led to a configuration, its state, and what its tapes show.
 pub(crate) fn push_configuration(
     text: &mut Vec<u8>,
     run: &QuadRun<'_>,
@@ -63,7 +63,7 @@ pub(crate) fn push_configuration(
     )
 }
 
-// Appends what is said of a tape, behind its number.
+// Appends what a tape shows, after its number.
 fn push_numbered(
     text: &mut Vec<u8>,
     number: &[u8],
@@ -81,7 +81,7 @@ fn push_numbered(
     push_tape(text, names, tape, word, extent)
 }
 
-// Appends what stands behind that in the line: the number of the quadruple that is applied next, if one is.
+// Appends the end of the line: the number of the quadruple that is applied next, if there is one.
 pub(crate) fn push_line_end(text: &mut Vec<u8>, rule: Option<u32>) -> Result<(), NoMemory>
     ensures { OnOk result (text.new.items ≡ text.old.items ++ line (rule_text rule ∷ [])) }
 {
@@ -89,8 +89,8 @@ pub(crate) fn push_line_end(text: &mut Vec<u8>, rule: Option<u32>) -> Result<(),
     push(text, b"\n")
 }
 
-// Appends the line that says how a run comes out after so many steps, where this is the quadruple that is applied next,
-// if one is; answers its status.
+// Appends the line that says how a run ends after this many steps, where this is the quadruple that is applied next, if
+// there is one. Returns its status.
 pub(crate) fn push_moments_outcome(
     text: &mut Vec<u8>,
     run: &QuadRun<'_>,
@@ -117,7 +117,7 @@ pub(crate) fn push_moments_outcome(
     Ok(Status::Stuck)
 }
 
-// Appends the line of a machine that is stuck at a stage.
+// Appends the line of a machine that is stuck.
 fn push_stuck(
     text: &mut Vec<u8>,
     run: &QuadRun<'_>,

@@ -1,4 +1,4 @@
-//! A run as it goes from moment to moment.
+//! A run of a machine of quintuples, configuration by configuration.
 
 ghost use Rattle.std.specs.Prelude.{◌≡◌, ◌≢◌, ℕ, List, ◌<◌, ◌≤◌, ◌+◌, ◌^◌, ◌↔◌, All};
 ghost use Rattle.std.specs.Prelude.{IfOk, IsTrue, Some, length, MatchOption};
@@ -16,7 +16,7 @@ use bn_reply::NoMemory;
 use bn_reply_machines::letter_at;
 use std::alloc::Global;
 
-/// A moment of a run: the state, counted from 0, the tape in its window, and the cells of it that are shown.
+/// A configuration of a run: the state, counted from 0, the tape in its window, and the cells of it that are shown.
 #[derive(Drop)]
 pub(crate) struct Stage {
     pub(crate) state: u32,
@@ -26,7 +26,7 @@ pub(crate) struct Stage {
 
 impl Stage {
     // The start of a run of at most `steps` steps from a word without blanks. Only as many letters as a tape holds are
-    // written on one: no head comes so far that it sees the others.
+    // written on the tape: no head moves so far that it scans the others.
     pub(crate) fn start(
         alloc: Global,
         machine: &Machine,
@@ -51,8 +51,8 @@ impl Stage {
         })
     }
 
-    // The number, counted from 1, of the quintuple that is applied next, `None` exactly where the machine has halted or
-    // is stuck.
+    // The number, counted from 1, of the quintuple that is applied next; `None` exactly if the machine has halted or is
+    // stuck.
     pub(crate) fn rule(&self, machine: &Machine) -> Option<u32>
         ensures { IsRule machine.now self.now.state (scanned self.now.tape.tape) result }
     {
@@ -62,7 +62,7 @@ impl Stage {
         first_rule(machine.quints(), self.state, self.tape.scanned())
     }
 
-    // Makes the step of a run that goes on in its window.
+    // Makes a step of a run that stays in its window.
     pub(crate) fn go_on(&mut self, machine: &Machine)
         requires rule { (n : ℕ) × IsRule machine.now self.old.state (scanned self.old.tape.tape) (Some n) }
         requires stays { (side : Side) → IsLeaving machine.now self.old.state self.old.tape side → ⊥ }

@@ -1,4 +1,4 @@
-//! What is said of a tape.
+//! The text of a tape.
 
 ghost use Rattle.std.specs.Prelude.{◌≡◌, ℕ, List, ◌+◌, ◌<◌, ◌≤◌, ◌^◌, ◌++◌, pos, ◌+ℤ◌, ◌-ℤ◌, ◌≤ℤ◌, length, max};
 ghost use Rattle.std.specs.Prelude.{OnOk};
@@ -15,12 +15,12 @@ use bn_reply::{NoMemory, push, push_position};
 use bn_reply_machines::TapeNames;
 use bn_table::Table;
 
-/// What spells the symbols of a tape. Clauses see the name of each symbol, and how many symbols there are.
+/// The names of symbols. Clauses see the name of each symbol, and how many symbols there are.
 pub(crate) trait Spells {
     /// The bytes of a symbol, by its number.
     ghost name: { Self → ℕ → List ℕ };
 
-    /// How many symbols have a name.
+    /// The number of symbols that have a name.
     ghost symbols: { Self → ℕ };
 
     /// Appends the name of a symbol.
@@ -53,8 +53,8 @@ impl<'a> Spells for TapeNames<'a> {
     }
 }
 
-// Appends what is said of a tape, behind whose right end the letters of the word go on: the positions of the first cell
-// that is shown and of the head, how many cells are shown, and their symbols.
+// Appends the text of a tape that continues with the letters of the word beyond its right end: the positions of the
+// first cell that is shown and of the head, how many cells are shown, and their symbols.
 pub(crate) fn push_tape<L: Spells>(
     text: &mut Vec<u8>,
     names: &L,
@@ -81,7 +81,7 @@ pub(crate) fn push_tape<L: Spells>(
     push_cells(text, names, tape, word, extent.first, count)
 }
 
-// Appends the symbols of so many cells from a position on, a space before each.
+// Appends the symbols of this many cells from a position on, a space before each.
 fn push_cells<L: Spells>(
     text: &mut Vec<u8>,
     names: &L,
@@ -105,7 +105,7 @@ fn push_cells<L: Spells>(
     Ok(())
 }
 
-// The symbol at a position in the window, or behind its right end on the word.
+// The symbol at a position in the window, or beyond its right end on the word.
 fn symbol_at(tape: &Tape, word: &[u32], position: i64) -> u32
     requires begins { (pos 0 -ℤ pos tape.now.left) ≤ℤ position }
     requires ends { position ≤ℤ pos (max tape.now.right (length word.now)) }

@@ -29,27 +29,28 @@ use bn_reply::{
 use bn_table::Table;
 use std::alloc::Global;
 
-/// Why a text wasn't given whole.
+/// Why a text was not given completely.
 #[derive(Clone, Copy, PartialEq, Eq, Debug)]
 pub(crate) enum Unfinished {
     /// The sink failed.
     WriteFault,
-    /// There was no memory.
+    /// Memory ran out.
     NoMemory,
 }
 
-/// The moment that a run has come to.
+/// The last configuration of a run so far.
 #[derive(Clone, Copy)]
 pub(crate) struct Ended {
     /// The steps made.
     pub(crate) steps: u32,
-    /// The number, counted from 1, of the rule that is applied next, if one is.
+    /// The number, counted from 1, of the quintuple that is applied next, if there is one.
     pub(crate) rule: Option<u32>,
 }
 
-/// Answers `trace` to a word, a greatest number of steps and some bytes: whether they are a table with a machine in
-/// standard form and the word is one of its letters; and then gives the sink a line for each moment of the machine's
-/// own run, from the start to the last one, in pieces, and the line that says how the run comes out.
+/// Answers `trace` for a word, a greatest number of steps and some bytes. It refuses, in this order: bytes that are no
+/// table whose machine is in standard form; a word with other letters. Otherwise it gives the sink, in pieces, a line
+/// for each configuration of the machine's own run from the start to the last one, and the line that says how the run
+/// ends.
 pub fn answer_trace<K: Sink>(
     alloc: Global,
     word: &[u8],
@@ -69,7 +70,7 @@ pub fn answer_trace<K: Sink>(
     }
 }
 
-// Answers `trace` to a table.
+// Answers `trace` for a table.
 fn answer_table<K: Sink>(
     alloc: Global,
     word: &[u8],
@@ -90,7 +91,7 @@ fn answer_table<K: Sink>(
     }
 }
 
-// Answers `trace` to a word of a table's letters.
+// Answers `trace` for a word of a table's letters.
 fn answer_word<K: Sink>(
     alloc: Global,
     word: &[u8],
@@ -138,8 +139,8 @@ fn give_trace<K: Sink>(
     }
 }
 
-// Gives the line of each moment from the start to the last one, at most `most_steps` steps later, in pieces, and keeps
-// in `text` what is behind them.
+// Gives, in pieces, the line of each configuration from the start to the last one, at most `most_steps` steps later,
+// and keeps in `text` the bytes that follow the last whole piece.
 fn give_moments<K: Sink>(
     sink: &mut K,
     text: &mut Vec<u8>,
@@ -174,7 +175,8 @@ fn give_moments<K: Sink>(
     })
 }
 
-// Appends the line of a moment, gives all whole pieces, and answers the quintuple that is applied next, if one is.
+// Appends the line of a configuration, gives all whole pieces, and returns the quintuple that is applied next, if there
+// is one.
 fn tell_moment<K: Sink>(
     sink: &mut K,
     text: &mut Vec<u8>,
@@ -209,7 +211,8 @@ fn tell_moment<K: Sink>(
     }
 }
 
-// Appends the line of a moment: its number, its state, the tape, and the number of the quintuple that is applied next.
+// Appends the line of a configuration: its number, its state, the tape, and the number of the quintuple that is applied
+// next.
 fn push_moment(
     text: &mut Vec<u8>,
     table: &Table,
@@ -232,7 +235,7 @@ fn push_moment(
     push(text, b"\n")
 }
 
-// Appends the number of the rule that is applied next, if one is.
+// Appends the number of the quintuple that is applied next, if there is one.
 pub(crate) fn push_rule(text: &mut Vec<u8>, rule: Option<u32>) -> Result<(), NoMemory>
     ensures { OnOk result (text.new.items ≡ text.old.items ++ rule_text rule) }
 {
@@ -245,7 +248,7 @@ pub(crate) fn push_rule(text: &mut Vec<u8>, rule: Option<u32>) -> Result<(), NoM
     }
 }
 
-// Gives what is kept, and behind it the line that says how the run comes out; answers its status.
+// Gives the bytes that are kept, and after them the line that says how the run ends. Returns its status.
 fn give_outcome<K: Sink>(
     sink: &mut K,
     text: &mut Vec<u8>,

@@ -1,4 +1,4 @@
--- Where `go` and `rev` stop, by the definition of a moment; steps and steps back; one text of a board.
+-- Where `go` and `rev` stop, by the definition of a moment; steps forward and back; one text for each circuit.
 use Rattle.std.specs.Prelude.{◌≡◌, ℕ, ◌+◌, ◌-◌, ◌<◌, ◌≤◌, true, List, [], ◌∷◌, ◌++◌, Option, None, Some}
 use Rattle.bn_lists.specs.Runs.{Reaches}
 use Rattle.bn_circuits.specs.Circuits.{Goes}
@@ -19,8 +19,7 @@ use Rattle.bn_view.specs.Viewed.{Comes}
 use Rattle.bn_reply_views.specs.SessionLaws.{PlaysOneWithLayers, PlaysWithLayers}
 use Rattle.bn_reply_views.specs.Viewing.{MayShow, ShowsLayers}
 
--- what is to be told of moments after u steps from the start: the state whose moment it is, in the board's own words,
--- or none
+-- what is reported of moments after u steps from the start: the state of the moment, or none
 pub data IsMomentAfter (f : Flat) (u : ℕ) (o : Option ℕ) : Type 0 where
   at_moment : (a : ℕ) → Comes f u a → o ≡ Some a → IsMomentAfter f u o
   no_moment : ((a : ℕ) → Comes f u a → ⊥) → o ≡ None → IsMomentAfter f u o
@@ -31,8 +30,8 @@ pub record IsHit (f : Flat) (breaks : List Breakpoint) (u : ℕ) : Type 0 where
   pub is_moment : IsMomentAfter f u moment
   pub holds : some_holds (board_after f u).place moment breaks ≡ true
 
--- From so many steps on, within e more, d is where a breakpoint first holds; or none holds, and d is where the e steps
--- end.
+-- From this number of steps on, within e more, d is the first configuration at which a breakpoint holds; or none holds,
+-- and d is the configuration after e steps.
 pub data IsNextHit (f : Flat) (breaks : List Breakpoint) (from e : ℕ) (d : Config) : Type 0 where
   at_next : (t : ℕ) → from < t → t ≤ from + e → Reaches (Goes f.circuit) t (flat_start f) d → IsHit f breaks t
       → ((u : ℕ) → from < u → u < t → IsHit f breaks u → ⊥) → IsNextHit f breaks from e d
@@ -61,7 +60,8 @@ RevsStopAtLastHit =
     → (t : Named) (e : ℕ) (s end : Session) (text : List ℕ) → IsOnRun f.circuit (flat_start f) s
     → PlaysOneWithLayers t f (Rev e) s end text → IsLastHit f s.breaks s.config.steps e end.config
 
--- where r + s steps can be made, `step r + s` and then `back s` leave the session where `step r` does, and say so
+-- if r + s steps can be made, `step r + s` followed by `back s` leaves the session where `step r` does, and reports the
+-- same
 abbrev pub StepsTakenBackAreSteps : Type 0
 StepsTakenBackAreSteps =
     (p : Program) (word : List ℕ) (l : Limits) (f : Flat) → IsFlatOf p word l f → (t : Named) (r s : ℕ)
@@ -69,7 +69,7 @@ StepsTakenBackAreSteps =
     → PlaysWithLayers t f (Step (r + s) ∷ Back s ∷ []) x y text → PlaysWithLayers t f (Step r ∷ []) x z other
     → (y ≡ z) × (text ≡ place_line d None ++ other)
 
--- of a board that may be shown there is one text at most
+-- a circuit that can be shown has at most one text
 abbrev pub BoardsShowOneText : Type 0
 BoardsShowOneText =
     (t : Named) (m : Translation) (b : Flattened) (text other : List ℕ) → IsReached (rotary_circuit b.net) b.config

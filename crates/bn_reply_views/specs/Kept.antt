@@ -1,4 +1,5 @@
--- The law of the trait by which a board is shown: its term stands with the clauses, which cite nothing of proofs.
+-- The law of the trait for showing a circuit. Its proof term is beside the clauses, because they cite nothing of
+-- proofs.
 use Rattle.std.proofs.Common.{sym, ap, subst, ◌∙◌}
 use Rattle.bn_circuits.specs.Circuits.{Goes}
 use Rattle.bn_lists.specs.Runs.{Reaches}
@@ -9,7 +10,7 @@ use Rattle.bn_boards.specs.Layouts.{IsExit, Layout}
 use Rattle.bn_board.specs.Flattened.{Flattened, IsSameBoard}
 use Rattle.bn_reply_views.specs.Viewing.{MayShow}
 
--- a board may be shown after other steps
+-- a circuit can be shown after further steps
 pub may_show_same : (t : Named) (m : Translation) (a b : Flattened) → IsSameBoard a b → MayShow t m a → MayShow t m b
 may_show_same t m a b same may = record {
   translates = may.translates;

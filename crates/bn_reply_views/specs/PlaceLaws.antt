@@ -1,4 +1,4 @@
--- One place in all: a view, a session and `step` of one number of steps.
+-- A view, a session and `step` with one number of steps show the same place.
 use Rattle.std.specs.Prelude.{◌≡◌, ℕ, ◌≤◌, List, [], ◌∷◌, ◌++◌, None}
 use Rattle.bn_base.specs.Number.{greatest}
 use Rattle.bn_circuits.specs.declared.place.Place.{Place}
@@ -17,8 +17,8 @@ use Rattle.bn_reply_views.specs.ViewReply.{ViewReplies}
 use Rattle.bn_reply_views.specs.ViewText.{element_line}
 use Rattle.bn_reply_views.specs.SessionReply.{SessionReplies}
 
--- The text to which `step` takes a compiled text in so many steps, the view after as many, and the answer to the script
--- of this one step show one place and one number of steps.
+-- The text to which `step` takes a compiled text in this many steps, the view after as many, and the answer to a script
+-- of this one step show the same place and number of steps.
 abbrev pub PlacesAreOneInAll : Type 0
 PlacesAreOneInAll =
     (bytes table script word : List ℕ) (l : Limits) (steps : ℕ) (text stepped seen answered : List ℕ)
@@ -30,7 +30,7 @@ PlacesAreOneInAll =
     × ((rest : List ℕ) × (seen ≡ element_line s.config.place s.config.steps ++ rest))
     × (answered ≡ place_line s.config None)
 
--- with a view as second line, the script shows behind the place what the view after as many steps shows
+-- if its second line is a view, the script shows after the place what the view after as many steps shows
 abbrev pub SessionsShowViews : Type 0
 SessionsShowViews =
     (bytes table script word : List ℕ) (l : Limits) (steps : ℕ) (text stepped seen answered : List ℕ)

@@ -1,5 +1,5 @@
--- What is answered to an input that has a script behind a line `%`, whatever board the script is played on (the script
--- and the text are this project's own profile).
+-- The answer to an input with a script after a line `%`, on any circuit (the script and the text are this project's own
+-- definitions).
 use Rattle.std.specs.Prelude.{◌≡◌, ℕ, List, [], ◌∷◌, codes, decimal}
 use Rattle.bn_base.specs.Cuts.{IsCut, IsUncut}
 use Rattle.bn_circuits.specs.declared.place.Place.{Place}
@@ -10,14 +10,14 @@ use Rattle.bn_session.specs.Scripts.{ScriptFault, IsFirstScriptFault, IsScript, 
 use Rattle.bn_session.specs.Scripts.{same_break}
 use Rattle.bn_session.specs.declared.command.Command.{Command}
 
--- the words of a fault of a script's line
+-- the words for an error in a line of a script
 abbrev pub script_fault_text : ScriptFault → List ℕ
 script_fault_text malformed = codes "form"
 script_fault_text no_state = codes "no state"
 script_fault_text same_break = codes "same break"
 script_fault_text no_break = codes "no break"
 
--- the line of a fault in this line of the script, counted from 1, and of an input without a script
+-- the line for an error in this line of the script, counted from 1, and for an input without a script
 abbrev pub script_fault_line : ℕ → ScriptFault → List ℕ
 script_fault_line number fault = line (codes "text: script line " ∷ decimal number ∷ codes " "
     ∷ script_fault_text fault ∷ [])
@@ -25,8 +25,8 @@ script_fault_line number fault = line (codes "text: script line " ∷ decimal nu
 abbrev pub uncut_line : List ℕ
 uncut_line = line (codes "text: no script" ∷ [])
 
--- What is answered to a script among states of these names, where `plays commands text` says that the text is the
--- answer to these commands: the script's first fault; or that answer. Nothing is told.
+-- The answer to a script with states of these names, where `plays commands text` states that the text is the answer to
+-- these commands: the script's first error, or that answer. A watch receives nothing.
 pub data ScriptReplies (names : List (List ℕ)) (plays : List Command → List ℕ → Type 0) (script : List ℕ)
     (status : Status) (text : List ℕ) (told : List Place) : Type 0 where
   faulty : (number : ℕ) (fault : ScriptFault) → IsFirstScriptFault names script number fault
@@ -35,8 +35,8 @@ pub data ScriptReplies (names : List (List ℕ)) (plays : List Command → List 
   played : (commands : List Command) → IsScript names script commands → plays commands text
       → status ≡ statuses.Done → told ≡ [] → ScriptReplies names plays script status text told
 
--- What is answered to these bytes, where `answers table script` is what is answered to a table and a script: no line is
--- the one before a script; or what is answered to the table before it and the script behind it.
+-- The answer to these bytes, where `answers table script` is the answer to a table and a script: no line separates a
+-- script; or the answer to the table before the line and the script after it.
 pub data CutReplies (answers : List ℕ → List ℕ → Status → List ℕ → List Place → Type 0) (bytes : List ℕ)
     (status : Status) (text : List ℕ) (told : List Place) : Type 0 where
   uncut : IsUncut bytes → text ≡ uncut_line → status ≡ statuses.Text → told ≡ []

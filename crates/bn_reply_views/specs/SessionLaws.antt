@@ -1,4 +1,4 @@
--- Where a script comes to on the board of a machine: what the laws of playing say where every layer is shown.
+-- Where a script leads on the circuit of a machine: the laws of playing, with a view that shows every layer.
 use Rattle.std.specs.Prelude.{◌≡◌, ℕ, List, Option}
 use Rattle.bn_circuits.specs.Stepping.{run}
 use Rattle.bn_machine.specs.Machine.{Program}
@@ -12,14 +12,14 @@ use Rattle.bn_session.specs.declared.command.Command.{Command}
 use Rattle.bn_session.specs.declared.command.Command.TheVariants.{Step, Back, Go, Rev}
 use Rattle.bn_reply_views.specs.Showing.{TellsLayers}
 
--- a script on the board of f, with every layer for a view
+-- a script on the circuit of f, with every layer as view
 abbrev pub PlaysWithLayers : Named → Flat → List Command → Session → Session → List ℕ → Type 0
 PlaysWithLayers t f = Plays f.circuit (moment_at f.layout) (TellsLayers t f)
 
 abbrev pub PlaysOneWithLayers : Named → Flat → Command → Session → Session → List ℕ → Type 0
 PlaysOneWithLayers t f = PlaysOne f.circuit (moment_at f.layout) (TellsLayers t f)
 
--- a script that begins on the run of the board from its start stays on it
+-- a script that begins on the run of the circuit from its start stays on that run
 abbrev pub SessionsStayOnTheRun : Type 0
 SessionsStayOnTheRun =
     (p : Program) (word : List ℕ) (l : Limits) (f : Flat) → IsFlatOf p word l f
@@ -34,7 +34,7 @@ IsMove (Go e) = Unit {0}
 IsMove (Rev e) = Unit {0}
 IsMove _ = ⊥
 
--- each place that is told is that of the run from the start, after as many steps as its line says
+-- each reported place is that of the run from the start, after the number of steps in its line
 abbrev pub ToldPlacesAreOfTheRun : Type 0
 ToldPlacesAreOfTheRun =
     (p : Program) (word : List ℕ) (l : Limits) (f : Flat) → IsFlatOf p word l f
@@ -42,8 +42,8 @@ ToldPlacesAreOfTheRun =
     → PlaysOneWithLayers t f x s end text → IsMove x
     → (label : Option (List ℕ)) × (text ≡ place_line (run f.circuit (flat_start f) end.config.steps) label)
 
--- `go` stops at the least later step, within its number, at which a condition holds; where there is none, where the run
--- of so many steps ends
+-- `go` stops at the least later step, within its number, at which a condition holds; if there is none, at the end of
+-- its steps
 abbrev pub GoesStopAtLeastHit : Type 0
 GoesStopAtLeastHit =
     (t : Named) (f : Flat) (e : ℕ) (s end : Session) (text : List ℕ) → IsOnRun f.circuit (flat_start f) s

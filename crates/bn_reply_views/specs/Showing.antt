@@ -1,4 +1,4 @@
--- What the text of a view is made of: a table's names and letters, and a translation's states.
+-- The sources of the text of a view: a table's names and letters, and a translation's states.
 use Rattle.std.specs.Prelude.{◌≡◌, ℕ, ◌<◌, List}
 use Rattle.bn_circuits.specs.declared.config.Config.{Config}
 use Rattle.bn_netlist_laws.specs.Sentences.{line_of_place}
@@ -12,12 +12,12 @@ use Rattle.bn_view.specs.Viewed.{IsViewOf}
 use Rattle.bn_view.specs.declared.layers.Layers.{Layers}
 use Rattle.bn_reply_views.specs.ViewText.{view_text}
 
--- the table has a name for the state, if it is one
+-- the table has a name for the state, if there is one
 abbrev pub IsNamedState : Named → MachineState → Type 0
 IsNamedState t (AtState j) = j < t.machine.states
 IsNamedState t (Within m) = Unit {0}
 
--- the layers can be written: the place is a line of an element, and there are names and letters for what is shown
+-- the layers can be written: the place is a line of an element, and everything shown has a name or a letter
 pub record CanBeWritten (t : Named) (m : Translation) (v : Layers) : Type 0 where
   pub place : (line_of_place v.place).line < 4
   pub exit : HasNames t m v.exit
@@ -26,6 +26,6 @@ pub record CanBeWritten (t : Named) (m : Translation) (v : Layers) : Type 0 wher
   pub one : HaveLetters t 1 v.tapes.one.cells
   pub three : HaveLetters t 3 v.tapes.three.cells
 
--- the text is that of the view of f where its board has come to d
+-- the text is that of the view of f if its circuit has reached d
 abbrev pub TellsLayers : Named → Flat → Config → List ℕ → Type 0
 TellsLayers t f d text = (v : Layers) × IsViewOf f d v × (text ≡ view_text t f v)

@@ -1,4 +1,4 @@
--- What the laws of this crate say, each a field of `Laws`.
+-- The statements of the laws of this crate, each a field of `Laws`.
 use Rattle.std.specs.Prelude.{◌≡◌, ℕ, List, ◌++◌}
 use Rattle.bn_circuits.specs.declared.place.Place.{Place}
 use Rattle.bn_machine.specs.Outcome.{Limits}
@@ -11,7 +11,8 @@ use Rattle.bn_reply_relations.specs.CompileReply.{CompileReplies}
 use Rattle.bn_reply_views.specs.ViewReply.{ViewReplies}
 use Rattle.bn_reply_views.specs.ViewText.{element_line}
 
--- The view after so many steps begins with the place and the steps to which `step` takes the compiled text in as many.
+-- The view after a number of steps begins with the place and the steps that `step` reaches from the compiled text in as
+-- many steps.
 abbrev pub ViewsShowSteps : Type 0
 ViewsShowSteps =
     (bytes word : List ℕ) (l : Limits) (steps : ℕ) (text stepped : List ℕ) (status : Status) (told heard : List Place)

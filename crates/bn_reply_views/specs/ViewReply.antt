@@ -1,5 +1,5 @@
--- What the command `view` answers: every layer of the board of a machine and a word in a window, after a number of
--- steps (the board and the text are this project's own profile).
+-- The answer of the command `view`: every layer of the circuit of a machine and a word in a window, after a number of
+-- steps (circuit and text are this project's own definitions).
 use Rattle.std.specs.Prelude.{◌≡◌, ℕ, List, []}
 use Rattle.bn_circuits.specs.declared.place.Place.{Place}
 use Rattle.bn_machine.specs.Outcome.{Limits}
@@ -16,7 +16,8 @@ use Rattle.bn_view.specs.Viewed.{IsViewOf}
 use Rattle.bn_view.specs.declared.layers.Layers.{Layers}
 use Rattle.bn_reply_views.specs.ViewText.{view_text}
 
--- the text is that of the view of the board after so many steps, or after as many as can be made; and nothing is told
+-- the text is that of the view of the circuit after this many steps, or after as many as can be made; a watch receives
+-- nothing
 pub record TellsView (steps : ℕ) (t : Named) (f : Flat) (status : Status) (text : List ℕ)
     (told : List Place) : Type 0 where
   pub view : Layers
@@ -26,11 +27,11 @@ pub record TellsView (steps : ℕ) (t : Named) (f : Flat) (status : Status) (tex
   pub text_is : text ≡ view_text t f view
   pub silent : told ≡ []
 
--- what `view` answers to a greatest number of steps, a word, limits and these bytes
+-- the answer of `view` to a greatest number of steps, a word, limits and these bytes
 abbrev pub ViewReplies : ℕ → List ℕ → Limits → List ℕ → Status → List ℕ → List Place → Type 0
 ViewReplies steps = WindowReplies (TellsView steps)
 
--- it has one answer to all numbers of steps, words, limits that may be asked for, and bytes
+-- it has exactly one answer to all numbers of steps, words, allowed limits and bytes
 abbrev pub ViewIsSettled : Type 0
 ViewIsSettled = (steps : ℕ) (word : List ℕ) (l : Limits) (bytes : List ℕ) → AreSmall l
     → IsSettled (ViewReplies steps word l bytes)

@@ -1,5 +1,5 @@
--- The text of a view of a board (this project's own profile): seven lines, of where the signal is, and of the last
--- moment.
+-- The text of a view of a circuit (this project's own definition): seven lines, on the place of the signal and on the
+-- last moment.
 use Rattle.std.specs.Prelude.{ℕ, ℤ, List, [], ◌∷◌, ◌++◌, codes, decimal, slice_index_or}
 use Rattle.bn_circuits.specs.declared.place.Place.{Place}
 use Rattle.bn_netlist_laws.specs.Sentences.{place_text}
@@ -26,12 +26,12 @@ use Rattle.bn_view.specs.declared.layers.ModuleAt.TheVariants.{CellLine as AtCel
 abbrev pub element_line : Place → ℕ → List ℕ
 element_line p steps = line (codes "element " ∷ place_text p ∷ codes " steps " ∷ decimal steps ∷ [])
 
--- where a cell is
+-- the place of a cell
 abbrev pub cell_text : ℕ → ℤ → List ℕ
 cell_text tape position = codes "module tape " ++ (decimal tape ++ (codes " cell " ++ position_text position))
 
--- the module, of a machine whose tapes have so many symbols, with the input line that is entered, or that it is inside;
--- and of a signal that has left this line, its exit's
+-- the module, for a machine whose tapes have this many symbols, with the input port that the signal enters, or
+-- `inside`; for a signal that has left, the given line of its exit
 abbrev pub module_line : List ℕ → List ℕ → ModuleAt → List ℕ
 module_line zs exit (ControlLine i) = line (codes "module control line " ∷ control_line_text zs i ∷ [])
 module_line zs exit ControlInside = line (codes "module control inside" ∷ [])
@@ -48,7 +48,7 @@ stage_text stages.Compute = codes "compute"
 stage_text stages.Copy = codes "copy"
 stage_text stages.Retrace = codes "retrace"
 
--- the one-tape machine's state, or the quintuple within whose step it is
+-- the one-tape machine's state, or the quintuple that is being applied
 abbrev pub machine_text : Named → MachineState → List ℕ
 machine_text t (AtState j) = codes "state " ++ slice_index_or t.names j []
 machine_text t (Within m) = codes "quintuple " ++ decimal m

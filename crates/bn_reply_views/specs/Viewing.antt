@@ -1,4 +1,4 @@
--- How a board is shown while a script is played on it, and what is answered then.
+-- How a circuit is shown while a script is played on it, and the answers.
 use Rattle.std.specs.Prelude.{◌≡◌, ℕ, List, [], ◌∷◌, codes, decimal}
 use Rattle.bn_circuits.specs.Circuits.{Goes}
 use Rattle.bn_lists.specs.Runs.{Reaches}
@@ -22,8 +22,8 @@ use Rattle.bn_view.specs.Viewed.{IsBoardFor}
 use Rattle.bn_reply_views.specs.Showing.{TellsLayers}
 use Rattle.bn_reply_views.specs.ScriptReply.{script_fault_line}
 
--- The board is that of a table's machine and of this translation, and the table has names for whatever exit its layout
--- finds on its run.
+-- The circuit is that of a table's machine and of this translation, and the table has a name for every exit that its
+-- layout finds on its run.
 pub record MayShow (t : Named) (m : Translation) (b : Flattened) : Type 0 where
   pub translates : IsTranslation t.machine m
   pub word : List ℕ
@@ -33,12 +33,12 @@ pub record MayShow (t : Named) (m : Translation) (b : Flattened) : Type 0 where
   pub names : (d : Config) → Reaches (Goes (rotary_circuit b.net)) d.steps (origin b) d → (e : Exit)
       → IsExit b.layout d.place e → HasNames t m e
 
--- the text is that of the layers of the board, whatever word and limits it is for
+-- the text is that of the layers of the circuit, for some word and limits
 abbrev pub ShowsLayers : Named → Translation → Flattened → List ℕ → Type 0
 ShowsLayers t m b text =
     (word : List ℕ) (l : Limits) (f : Flat) → IsBoardFor t.machine word l f m b → TellsLayers t f b.config text
 
--- the line that says this of a script's line, counted from 1
+-- the line that reports this error of a script's line, counted from 1
 abbrev pub what_line : ℕ → List ℕ → List ℕ
 what_line number what = line (codes "text: script line " ∷ decimal number ∷ codes " " ∷ what ∷ [])
 

@@ -1,4 +1,4 @@
-//! What the commands `view` and `session` answer.
+//! The answers of the commands `view` and `session`.
 #![tactic(auto)]
 
 mod laws;

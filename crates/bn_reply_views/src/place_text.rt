@@ -9,7 +9,7 @@ use bn_circuits::{Line, Place};
 use bn_element::{EAST, NORTH, SOUTH};
 use bn_reply::{NoMemory, push};
 
-// Appends a place: the line that the signal is about to enter, or the one by which it has left.
+// Appends a place: the line that the signal is about to enter, or the line by which it has left.
 pub(crate) fn push_place(text: &mut Vec<u8>, place: Place) -> Result<(), NoMemory>
     requires { (line_of_place place).line < 4 }
     ensures added { OnOk result (text.new.items ≡ text.old.items ++ place_text place) }

@@ -1,4 +1,4 @@
-//! What is answered where an input has no script, or its script has a fault.
+//! The answers to an input without a script, and to a script with an error.
 
 ghost use Rattle.std.specs.Prelude.{◌≡◌, IfOk};
 ghost use Rattle.bn_reply_views.specs.ScriptReply.{uncut_line};
@@ -19,7 +19,7 @@ pub fn without_script(alloc: Global) -> Result<Reply, NoMemory>
     })
 }
 
-/// The answer to a script with a fault.
+/// The answer to a script with an error.
 pub fn refuse_script(alloc: Global, refusal: ScriptRefusal) -> Result<Reply, NoMemory>
     ensures { IfOk result (λ r. IsScriptRefused refusal r.status r.text.items) }
 {
@@ -32,7 +32,7 @@ pub fn refuse_script(alloc: Global, refusal: ScriptRefusal) -> Result<Reply, NoM
     }
 }
 
-// The answer to a script with a fault in one of its lines, counted from 1.
+// The answer to a script with an error in one of its lines, counted from 1.
 fn refuse_line(alloc: Global, line: u64, what: &str) -> Result<Reply, NoMemory>
     ensures status { IfOk result (λ r. r.status ≡ Status.Text) }
     ensures text { IfOk result (λ r. r.text.items ≡ what_line line what.now) }

@@ -22,9 +22,10 @@ use bn_session::{Script, play, read_script};
 use bn_table::Table;
 use std::alloc::Global;
 
-/// What `session` answers to a word, a window and some bytes, which are a table, a line `%` and a script: whether there
-/// is such a line, the table's machine is in standard form, the word is one of its letters and fits, the board hasn't
-/// too many elements, and the script has no fault; and then the script's answers, played on the board from its start.
+/// The answer of `session` to a word, a window and some bytes, which are a table, a line `%` and a script. It refuses,
+/// in this order: bytes without such a line; a table whose machine is not in standard form; a word with other letters
+/// or too long for the window; a circuit with too many elements; a script with an error. Otherwise the answer is that
+/// of the script, played on the circuit from its start.
 pub fn reply_session(
     alloc: Global,
     word: &[u8],
@@ -40,7 +41,7 @@ pub fn reply_session(
     }
 }
 
-// What `session` answers to the bytes of a table and a script.
+// The answer of `session` to the bytes of a table and a script.
 fn session_input(
     alloc: Global,
     word: &[u8],
@@ -60,7 +61,7 @@ fn session_input(
     }
 }
 
-// What is answered to a script and a board at its start.
+// The answer to a script and a circuit at its start.
 fn session_board(
     alloc: Global,
     table: &Table,
@@ -80,7 +81,7 @@ fn session_board(
     }
 }
 
-// The answer to a script that is played on a board at its start.
+// The answer to a script that is played on a circuit at its start.
 fn play_script(
     alloc: Global,
     table: &Table,

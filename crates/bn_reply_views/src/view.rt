@@ -21,9 +21,10 @@ use bn_table::Table;
 use bn_view::view;
 use std::alloc::Global;
 
-/// What `view` answers to a word, a window, a greatest number of steps and some bytes: whether they are a table with a
-/// machine in standard form, the word is one of its letters and fits, and the board hasn't too many elements; and then
-/// every layer of the board after so many steps, or after as many as can be made.
+/// The answer of `view` to a word, a window, a greatest number of steps and some bytes. It refuses, in this order:
+/// bytes that are no table whose machine is in standard form; a word with other letters or too long for the window; a
+/// circuit with too many elements. Otherwise the answer is every layer of the circuit after that many steps, or after
+/// as many as can be made.
 pub fn reply_view(
     alloc: Global,
     word: &[u8],
@@ -46,7 +47,7 @@ pub fn reply_view(
     }
 }
 
-// The text of the view of a board of a table's machine: seven lines, of the layers where the board is in its run.
+// The text of the view of the circuit of a table's machine: seven lines on its present configuration.
 pub(crate) fn layers_text(
     alloc: Global,
     table: &Table,

@@ -1,4 +1,4 @@
-//! The text of a view of a board.
+//! The text of a view of a circuit.
 
 ghost use Rattle.std.specs.Prelude.{◌≡◌, ℕ, ◌<◌, ◌++◌, ◌∷◌, [], List, codes, length, Some, IfOk, OnOk, OnErr};
 ghost use Rattle.std.specs.Prelude.{slice_get};
@@ -50,8 +50,8 @@ pub(crate) fn view_text(
     Ok(text)
 }
 
-/// Appends the line that says where the signal is, and after how many steps. After `NoMemory` a front of the line may
-/// stand behind the text.
+/// Appends the line with the place of the signal and the number of steps. After `NoMemory` a prefix of the line may be
+/// at the end of the text.
 pub fn push_element(text: &mut Vec<u8>, place: Place, steps: u64) -> Result<(), NoMemory>
     requires { (line_of_place place).line < 4 }
     ensures added { OnOk result (text.new.items ≡ text.old.items ++ element_line place steps) }
@@ -64,7 +64,7 @@ pub fn push_element(text: &mut Vec<u8>, place: Place, steps: u64) -> Result<(), 
     push(text, b"\n")
 }
 
-// Appends the line of the module in which the signal is, or by which exit it has left.
+// Appends the line of the module that holds the signal, or of the exit by which it has left.
 fn push_where(
     text: &mut Vec<u8>,
     table: &Table,
@@ -83,8 +83,8 @@ fn push_where(
     }
 }
 
-/// Appends the line of the module in which the signal is, of a board of a machine whose tapes have so many symbols;
-/// none where the signal has left. After `NoMemory` a front of the line may stand behind the text.
+/// Appends the line of the module that holds the signal, for a machine whose tapes have this many symbols. Appends
+/// nothing if the signal has left. After `NoMemory` a prefix of the line may be at the end of the text.
 pub fn push_module(
     text: &mut Vec<u8>,
     counts: SymbolCounts,
@@ -120,7 +120,7 @@ pub fn push_module(
     }
 }
 
-// Appends where a cell is.
+// Appends the place of a cell.
 fn push_cell(text: &mut Vec<u8>, tape: u32, position: i64) -> Result<(), NoMemory>
     ensures added { OnOk result (text.new.items ≡ text.old.items ++ cell_text tape position) }
     ensures refused { OnErr result (GrewInPart text.old.items text.new.items (cell_text tape position)) }
@@ -168,7 +168,7 @@ fn push_stage(text: &mut Vec<u8>, stage: Stage) -> Result<(), NoMemory>
     }
 }
 
-// Appends the one-tape machine's state, or the quintuple within whose step it is.
+// Appends the one-tape machine's state, or the quintuple that is being applied.
 fn push_machine_state(
     text: &mut Vec<u8>,
     table: &Table,

@@ -1,4 +1,4 @@
-//! Who shows the layers of a board while a script is played on it.
+//! The writer of the layers of a circuit while a script is played on it.
 
 ghost use Rattle.std.specs.Prelude.{◌≡◌, ◌++◌, OnErr, OnOk};
 
@@ -10,7 +10,7 @@ use bn_session::Shows;
 use bn_table::Table;
 use std::alloc::Global;
 
-// A table and its machine's translation, by which the layers of a board are shown.
+// A table and the translation of its machine, from which the layers of a circuit are written.
 #[derive(Drop)]
 pub(crate) struct Viewer<'a> {
     pub(crate) table: &'a Table,

@@ -1,4 +1,4 @@
--- How a script is played on a board, and what is left where memory runs out.
+-- How a script is played on a circuit, and what remains if memory runs out.
 use Rattle.std.specs.Prelude.{◌≡◌, ℕ, List, [], ◌++◌}
 use Rattle.bn_circuits.specs.declared.config.Config.{Config}
 use Rattle.bn_circuits.specs.RotaryNets.{rotary_circuit}
@@ -8,15 +8,15 @@ use Rattle.bn_session.specs.Breakpoints.{Breakpoint}
 use Rattle.bn_session.specs.Plays.{Session, session, PlaysOne, Plays, IsLeftWithin}
 use Rattle.bn_session.specs.declared.command.Command.{Command}
 
--- the same board in another configuration
+-- the same circuit in another configuration
 abbrev pub board_at : Flattened → Config → Flattened
 board_at b c = record b { config = c }
 
--- what views of a board may show of its configurations, where they may show this of boards
+-- what views of a circuit may show of its configurations, if they may show this of circuits
 abbrev pub shown_on : (Flattened → List ℕ → Type 0) → Flattened → Config → List ℕ → Type 0
 shown_on shows b c text = shows (board_at b c) text
 
--- a command, and a script, lead a board with these breakpoints to this session, and this is the answer
+-- a command, or a script, leads a circuit with these breakpoints to this session, and this is the answer
 abbrev pub PlaysOneOn :
     (Flattened → List ℕ → Type 0) → Flattened → List Breakpoint → Command → Session → List ℕ → Type 0
 PlaysOneOn shows b breaks x end text =
@@ -27,7 +27,7 @@ abbrev pub PlaysOn :
 PlaysOn shows b breaks xs end text =
     Plays (rotary_circuit b.net) (moment_at b.layout) (shown_on shows b) xs (session b.config breaks) end text
 
--- The script was played: the board is at this configuration, and the text has grown by the answer.
+-- The script was played: the circuit is at this configuration, and the text has grown by the answer.
 pub record IsPlayed (shows : Flattened → List ℕ → Type 0) (b : Flattened) (xs : List Command) (c : Config)
     (old new : List ℕ) : Type 0 where
   pub end : Session
@@ -36,8 +36,8 @@ pub record IsPlayed (shows : Flattened → List ℕ → Type 0) (b : Flattened) 
   pub config : c ≡ end.config
   pub written : new ≡ old ++ text
 
--- The script was left within a command: the board is at the configuration after it, and the text has grown by the
--- answers to the commands before it and a front of its own.
+-- The script was left within a command: the circuit is at the configuration after it, and the text has grown by the
+-- answers to the commands before it and a prefix of its own.
 pub record IsStopped (shows : Flattened → List ℕ → Type 0) (b : Flattened) (xs : List Command) (c : Config)
     (old new : List ℕ) : Type 0 where
   pub text : List ℕ
@@ -45,7 +45,8 @@ pub record IsStopped (shows : Flattened → List ℕ → Type 0) (b : Flattened)
       IsLeftWithin (rotary_circuit b.net) (moment_at b.layout) (shown_on shows b) xs (session b.config []) c text
   pub written : new ≡ old ++ text
 
--- One command was played, or left: the configuration is that after it, and the text has grown by a front of its answer.
+-- One command was played, or left: the configuration is that after it, and the text has grown by a prefix of its
+-- answer.
 pub record IsOnePlayed (shows : Flattened → List ℕ → Type 0) (b : Flattened) (breaks : List Breakpoint)
     (x : Command) (end : Session) (old new : List ℕ) : Type 0 where
   pub text : List ℕ
@@ -65,7 +66,7 @@ pub record IsOneLeft (shows : Flattened → List ℕ → Type 0) (b : Flattened)
 abbrev pub Grows : (List ℕ → Type 0) → List ℕ → List ℕ → Type 0
 Grows IsText old new = (text : List ℕ) × IsText text × (new ≡ old ++ text)
 
--- the text has grown by a front of one of these
+-- the text has grown by a prefix of one of these
 pub record GrowsByFront (IsText : List ℕ → Type 0) (old new : List ℕ) : Type 0 where
   pub front : List ℕ
   pub rest : List ℕ

@@ -24,7 +24,7 @@ abbrev pub enters : ℕ → Place → Bool
 enters e (Enter f line) = f == e
 enters e (Left f line) = false
 
--- whether a breakpoint holds where the signal is at this place, and this is a moment of this state, or no moment
+-- whether a breakpoint holds at this place of the signal, where this is a moment of this state, or no moment
 abbrev pub holds : Place → Option ℕ → Condition → Bool
 holds place moment (AtState state) = is_state_number state moment
 holds place moment (AtElement e) = enters e place

@@ -1,5 +1,5 @@
--- How breakpoints are kept: their conditions in a slab, the slab's keys by label, and a mark at each element at which
--- one may hold.
+-- The representation of breakpoints: their conditions in a slab, the slab's keys by label, and a mark at each element
+-- at which one may hold.
 use Rattle.std.specs.Prelude.{◌≡◌, ◌≢◌, ℕ, nat_lt, Bool, true, false, List, [], ◌∷◌, length, map, slice_index_or}
 use Rattle.std.specs.Prelude.{slice_set, IsSome, if◌then◌else◌}
 use Rattle.std.specs.Option.{unwrap_or}
@@ -11,7 +11,7 @@ use Rattle.bn_session.specs.Breakpoints.{Breakpoint, breakpoint}
 use Rattle.bn_session.specs.declared.condition.Condition.{Condition}
 use Rattle.bn_session.specs.declared.condition.Condition.TheVariants.{AtState, AtElement}
 
--- a label as it is owned, with its key
+-- an owned label, with its key
 abbrev pub Entry : Type 0
 Entry = Vec ℕ Global × ℕ
 
@@ -36,7 +36,7 @@ abbrev pub IsFree : ℕ → List Entry → Type 0
 IsFree key [] = Unit {0}
 IsFree key (e ∷ es) = (e.1 ≢ key) × IsFree key es
 
--- whether a breakpoint may hold where the signal is
+-- whether a breakpoint may hold at the place of the signal
 abbrev pub mark_at : List Bool → Place → Bool
 mark_at marks (Enter e line) = slice_index_or marks e true
 mark_at marks (Left e line) = false
@@ -46,12 +46,12 @@ abbrev pub IsMarked : List Bool → Condition → Type 0
 IsMarked marks (AtState state) = Unit {0}
 IsMarked marks (AtElement e) = slice_index_or marks e true ≡ true
 
--- the marks with one more
+-- the marks with one added
 abbrev pub with_mark : List Bool → Condition → List Bool
 with_mark marks (AtState state) = marks
 with_mark marks (AtElement e) = if nat_lt e (length marks) then slice_set marks e true else marks
 
--- each key has a value and no two labels have one key, and elements have their marks
+-- each key has a value, no two labels have the same key, and elements have their marks
 abbrev pub AreKept : Slab Condition → List Entry → List Bool → Type 0
 AreKept slab [] marks = Unit {0}
 AreKept slab (e ∷ es) marks =

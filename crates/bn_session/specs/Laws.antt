@@ -10,26 +10,26 @@ use Rattle.bn_session.specs.Plays.{Session, stops, given, PlaysOne, Plays}
 use Rattle.bn_session.specs.declared.command.Command.{Command}
 use Rattle.bn_session.specs.declared.command.Command.TheVariants.{Go}
 
--- bytes are a script of one list of commands
+-- bytes are a script of at most one list of commands
 abbrev pub ScriptsAreOne : Type 0
 ScriptsAreOne =
     (names : List (List ℕ)) (bytes : List ℕ) (xs ys : List Command) → AreApart names → IsScript names bytes xs
     → IsScript names bytes ys → xs ≡ ys
 
--- bytes with a first fault are no script
+-- bytes with a first error are no script
 abbrev pub FaultyScriptsAreNone : Type 0
 FaultyScriptsAreNone =
     (names : List (List ℕ)) (bytes : List ℕ) (line : ℕ) (fault : ScriptFault) (xs : List Command) → AreApart names
     → IsFirstScriptFault names bytes line fault → IsScript names bytes xs → ⊥
 
--- there is one first fault
+-- there is at most one first error
 abbrev pub FirstFaultsAreOne : Type 0
 FirstFaultsAreOne =
     (names : List (List ℕ)) (bytes : List ℕ) (line number : ℕ) (fault other : ScriptFault) → AreApart names
     → IsFirstScriptFault names bytes line fault → IsFirstScriptFault names bytes number other
     → (line ≡ number) × (fault ≡ other)
 
--- bytes are a script, or have a first fault
+-- bytes are a script, or have a first error
 abbrev pub ScriptsReadOrFault : Type 0
 ScriptsReadOrFault =
     (names : List (List ℕ)) (bytes : List ℕ)
@@ -38,14 +38,14 @@ ScriptsReadOrFault =
 
 -- ---- how scripts are played
 
--- a script has one answer and one end
+-- a script has at most one answer and one final session
 abbrev pub PlaysAreOne : Type 0
 PlaysAreOne =
     (k : Circuit) (moment : Config → Option ℕ) (shows : Config → List ℕ) (xs : List Command) (s t u : Session)
     (text other : List ℕ) → Plays k moment (given shows) xs s t text → Plays k moment (given shows) xs s u other
     → (t ≡ u) × (text ≡ other)
 
--- a script has an answer and an end
+-- a script has an answer and a final session
 abbrev pub PlaysAreThere : Type 0
 PlaysAreThere =
     (k : Circuit) (moment : Config → Option ℕ) (shows : Config → List ℕ) (xs : List Command) (s : Session)
@@ -55,14 +55,14 @@ PlaysAreThere =
 abbrev pub IsOnRun : Circuit → Config → Session → Type 0
 IsOnRun k c0 s = Reaches (Goes k) s.config.steps c0 s.config
 
--- every place that a script comes to is that of the run from the start, after as many steps as its line says
+-- every place that a script reports is that of the run from the start, after the number of steps in its line
 abbrev pub PlacesAreOfTheRun : Type 0
 PlacesAreOfTheRun =
     (k : Circuit) (moment : Config → Option ℕ) (shows : Config → List ℕ) (c0 : Config) → IsCircuit k
     → c0.steps ≡ 0 → (xs : List Command) (s t : Session) (text : List ℕ) → IsOnRun k c0 s
     → Plays k moment (given shows) xs s t text → IsOnRun k c0 t
 
--- views that show the same on the run from the start give one answer
+-- views that show the same on the run from the start give the same answer
 abbrev pub PlaysAgree : Type 0
 PlaysAgree =
     (k : Circuit) (moment : Config → Option ℕ) (shows others : Config → List ℕ) (c0 : Config) → IsCircuit k
@@ -70,8 +70,8 @@ PlaysAgree =
     → (xs : List Command) (s t : Session) (text : List ℕ) → IsOnRun k c0 s
     → Plays k moment (given shows) xs s t text → Plays k moment (given others) xs s t text
 
--- Within e steps after c the run from c0 first meets the test at d; or it doesn't meet it, and d is where the e steps
--- end.
+-- Within e steps after c the run from c0 first satisfies the test at d; or it does not satisfy it, and d is the
+-- configuration after the e steps.
 pub data IsLeastHit (k : Circuit) (test : Config → Bool) (c0 c : Config) (e : ℕ) (d : Config) : Type 0 where
   is_hit : (t : ℕ) → c.steps < t → t ≤ c.steps + e → Reaches (Goes k) t c0 d → test d ≡ true
       → ((u : ℕ) (x : Config) → c.steps < u → u < t → Reaches (Goes k) u c0 x → test x ≡ false)
@@ -80,8 +80,8 @@ pub data IsLeastHit (k : Circuit) (test : Config → Bool) (c0 c : Config) (e : 
       → ((u : ℕ) (x : Config) → c.steps < u → u ≤ c.steps + e → Reaches (Goes k) u c0 x → test x ≡ false)
       → IsLeastHit k test c0 c e d
 
--- `go` stops at the least later step, within its number, at which a condition holds; where there is none, where the run
--- of so many steps ends
+-- `go` stops at the least later step, within its number, at which a condition holds; if there is none, at the end of
+-- its steps
 abbrev pub GoesStopAtLeast : Type 0
 GoesStopAtLeast =
     (k : Circuit) (moment : Config → Option ℕ) (shows : Config → List ℕ) (c0 : Config) (e : ℕ) (s t : Session)
@@ -91,10 +91,10 @@ GoesStopAtLeast =
 -- ---- the laws
 
 pub record Laws : Type 0 where
-  -- Bytes are a script of one list of commands, or have one first fault, and never both.
+  -- Bytes are a script of exactly one list of commands, or have exactly one first error, and never both.
   pub scripts_have_one_reading : ScriptsAreOne × FaultyScriptsAreNone × FirstFaultsAreOne × ScriptsReadOrFault
-  -- A script has one answer and one end.
+  -- A script has exactly one answer and one final session.
   pub plays_have_one_answer : PlaysAreOne × PlaysAreThere
-  -- A script stays on the run from the start: each place is that of as many steps as its line says, and `go` stops at
-  -- the least later step at which a breakpoint holds. So views that agree on this run give the same answers.
+  -- A script stays on the run from the start: each place is that of the number of steps in its line, and `go` stops at
+  -- the least later step at which a breakpoint holds. Views that agree on this run therefore give the same answers.
   pub plays_stay_on_the_run : PlacesAreOfTheRun × GoesStopAtLeast × PlaysAgree

@@ -1,5 +1,5 @@
--- How a script is played on a circuit, where it is known of which state a configuration is the moment, and what a view
--- of it may show (this project's own profile).
+-- How a script is played on a circuit, given which state a configuration is the moment of, and what a view of a
+-- configuration may show (this project's own definition).
 use Rattle.std.specs.Prelude.{◌≡◌, ℕ, ◌<◌, ◌≤◌, ◌==◌, Bool, true, false, List, [], ◌∷◌, ◌++◌, Option, Some, None, codes}
 use Rattle.std.specs.Prelude.{decimal, if◌then◌else◌}
 use Rattle.bn_circuits.specs.Circuits.{Circuit}
@@ -12,7 +12,7 @@ use Rattle.bn_session.specs.declared.command.Command.TheVariants.{Step, Back, Go
 use Rattle.bn_session.specs.declared.command.Command.TheVariants.{View}
 use Rattle.bn_session.specs.declared.condition.Condition.TheVariants.{AtState, AtElement}
 
--- what a session is at between two commands: a configuration, and the breakpoints in the order in which they were set
+-- a session between two commands: a configuration, and the breakpoints in the order in which they were set
 pub record Session : Type 0 where
   pub config : Config
   pub breaks : List Breakpoint
@@ -20,8 +20,8 @@ pub record Session : Type 0 where
 abbrev pub session : Config → List Breakpoint → Session
 session config breaks = record { config = config; breaks = breaks }
 
--- Where a way ends that is watched by a test, where `far j` is j steps on: at the least j from 1 to e at which the test
--- holds; at e where there is none.
+-- The end of a walk that a test watches, where `far j` is the configuration j steps on: the least j from 1 to e at
+-- which the test holds, or e if there is none.
 pub data IsStop (test : Config → Bool) (far : ℕ → Config) (e : ℕ) (d : Config) : Type 0 where
   at_hit : (j : ℕ) → 1 ≤ j → j ≤ e → test (far j) ≡ true → ((i : ℕ) → 1 ≤ i → i < j → test (far i) ≡ false)
       → d ≡ far j → IsStop test far e d
@@ -31,14 +31,14 @@ pub data IsStop (test : Config → Bool) (far : ℕ → Config) (e : ℕ) (d : C
 abbrev pub stops : (Config → Option ℕ) → List Breakpoint → Config → Bool
 stops moment breaks c = some_holds c.place (moment c) breaks
 
--- the label that is named where a way from c has ended at d: that of the first breakpoint that holds there, and none
--- where no step was made
+-- the label that is reported at the end d of a walk from c: that of the first breakpoint that holds there, and none if
+-- no step was made
 abbrev pub label_that_holds : (Config → Option ℕ) → List Breakpoint → Config → Config → Option (List ℕ)
 label_that_holds moment breaks c d = if d.steps == c.steps then None else first_label d.place (moment d) breaks
 
 -- ---- lines
 
--- a label is named behind the place
+-- a label is written after the place
 abbrev pub named_text : Option (List ℕ) → List ℕ
 named_text None = []
 named_text (Some label) = codes " break " ++ label
@@ -89,7 +89,7 @@ Plays k moment shows (x ∷ xs) s t text =
     × Plays k moment shows xs u t rest × (text ≡ first ++ rest)
 
 -- The script was left within a command: the configuration is that after this command, and the answer has the lines of
--- the commands before it and a front of its own.
+-- the commands before it and a prefix of its own.
 pub record IsLeftWithin (k : Circuit) (moment : Config → Option ℕ) (shows : Config → List ℕ → Type 0)
     (xs : List Command) (s : Session) (c : Config) (text : List ℕ) : Type 0 where
   pub before : List Command

@@ -5,34 +5,35 @@ use Rattle.bn_session.specs.Sentences.{ScriptSentence, IsSayableInScript, script
 use Rattle.bn_session.specs.Scripts.{Asks, AskFor, ScriptFault, malformed, IsFaultyLine}
 use Rattle.bn_session.specs.declared.command.Command.{Command}
 
--- the fault is in the line of this number
+-- the error is in the line of this number
 abbrev pub AtLine : ℕ → (ScriptFault → Type 0) → ℕ → ScriptFault → Type 0
 AtLine number IsOf line fault = (line ≡ number) × IsOf fault
 
--- the sentence asks for this command, after which these labels stand
+-- the sentence requests this command, after which these labels are in use
 abbrev pub AsksFor : List (List ℕ) → List (List ℕ) → ScriptSentence → Command → List (List ℕ) → Type 0
 AsksFor names standing s x after = Asks names standing s x × (after ≡ standing_after standing x)
 
--- the line asks for this command, after which these labels stand
+-- the line requests this command, after which these labels are in use
 pub record IsAsked (names standing : List (List ℕ)) (line : List ℕ) (x : Command) (after : List (List ℕ)) : Type 0 where
   pub says : ScriptSentence
   pub spelled : line ≡ script_sentence_text says
   pub sayable : IsSayableInScript says
   pub asked : AsksFor names standing says x after
 
--- the line has a form, and this fault
+-- the line has a form, and this error
 pub record HasFault (names standing : List (List ℕ)) (line : List ℕ) (fault : ScriptFault) : Type 0 where
   pub says : ScriptSentence
   pub spelled : line ≡ script_sentence_text says
   pub sayable : IsSayableInScript says
   pub faulty : IsFaultyLine names standing says fault
 
--- the first fault of a whole line
+-- the first error of a whole line
 abbrev pub IsLineFault : List (List ℕ) → List (List ℕ) → List ℕ → ScriptFault → Type 0
 IsLineFault names standing line malformed = (s : ScriptSentence) → IsSayableInScript s → line ≢ script_sentence_text s
 IsLineFault names standing line fault = HasFault names standing line fault
 
--- what is left begins with a line that asks for this command, after which these labels stand, and this is behind it
+-- the rest begins with a line that requests this command, after which these labels are in use, and this is the rest
+-- after it
 pub record AsksNext (names standing : List (List ℕ)) (left : List ℕ) (x : Command) (behind : List ℕ)
     (after : List (List ℕ)) : Type 0 where
   pub says : ScriptSentence
@@ -45,7 +46,7 @@ abbrev pub Advances : List (List ℕ) → List (List ℕ) → List ℕ → Optio
 Advances names standing left None behind after = left ≡ []
 Advances names standing left (Some x) behind after = AsksNext names standing left x behind after
 
--- the bytes are lines that ask for these commands, and what is left
+-- the bytes are lines that request these commands, and a rest
 pub record HasRead (names : List (List ℕ)) (bytes left : List ℕ) (xs : List Command) : Type 0 where
   pub sentences : List ScriptSentence
   pub begins : bytes ≡ script_text sentences ++ left

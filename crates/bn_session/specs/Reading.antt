@@ -1,4 +1,4 @@
--- Reading a line of a script as a function of its bytes: proofs go through it, and no public clause cites it.
+-- Reading a line of a script as a function of its bytes. Proofs use it, and no public clause cites it.
 use Rattle.std.specs.Prelude.{bytes_eq, ℕ, nat_le, List, take, drop, Option, Some, None, option_map, option_and_then}
 use Rattle.std.specs.Prelude.{if◌then◌else◌, codes}
 use Rattle.std.specs.List.{prefix_len}
@@ -11,7 +11,7 @@ use Rattle.bn_session.specs.Sentences.{is_label}
 use Rattle.bn_session.specs.declared.sentence.Sentence.{Sentence as Kept}
 use Rattle.bn_session.specs.declared.sentence.Sentence.TheVariants as kept
 
--- what the program keeps of a sentence says this
+-- the program's representation of a sentence means this
 abbrev pub said : Kept → ScriptSentence
 said (kept.Step e) = Step e
 said (kept.Back e) = Back e
@@ -22,7 +22,7 @@ said (kept.BreakElement label e) = BreakElement label.now e
 said (kept.Drop label) = Drop label.now
 said kept.View = View
 
--- a number of 1 at least behind a word
+-- a number of at least 1 after a word
 abbrev pub at_least_one : ℕ → Option ℕ
 at_least_one n = if nat_le 1 n then Some n else None
 
@@ -36,7 +36,7 @@ label_by bytes = if is_label bytes then Some bytes else None
 unfoldable pub label_after : List ℕ → List ℕ → Option (List ℕ)
 label_after word line = option_and_then label_by (word_taken word line)
 
--- a name behind a word
+-- a name after a word
 abbrev pub name_by : List ℕ → Option (List ℕ)
 name_by bytes = if is_state_name bytes then Some bytes else None
 
@@ -47,13 +47,13 @@ name_after word line = option_and_then name_by (word_taken word line)
 abbrev pub label_len : List ℕ → ℕ
 label_len bytes = prefix_len is_ascii_alphanumeric bytes
 
--- what stands behind the label of a breakpoint
+-- the rest after the label of a breakpoint
 unfoldable pub condition_in : List ℕ → List ℕ → Option ScriptSentence
 condition_in label words =
     option_or (option_map (BreakState label) (name_after (codes " state ") words))
     (option_map (BreakElement label) (number_after (codes " element ") words))
 
--- a label and what stands behind it
+-- a label and the rest after it
 abbrev pub labelled : List ℕ → List ℕ → Option ScriptSentence
 labelled label words = if is_label label then condition_in label words else None
 
@@ -66,7 +66,7 @@ breakpoint_after word line = option_and_then breakpoint_in (word_taken word line
 abbrev pub view_in : List ℕ → Option ScriptSentence
 view_in line = if bytes_eq line (codes "view") then Some View else None
 
--- what a line says
+-- the content of a line
 unfoldable pub sentence_in : List ℕ → Option ScriptSentence
 sentence_in line =
     option_or (option_map Step (number_after (codes "step ") line))

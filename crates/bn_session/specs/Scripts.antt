@@ -1,5 +1,5 @@
--- Scripts: the commands that their lines ask for, and the first line with a fault. A line is judged by what the lines
--- before it ask for.
+-- Scripts: the commands that their lines request, and the first line with an error. The lines before a line determine
+-- which labels it may use.
 use Rattle.std.specs.Prelude.{◌≡◌, ◌≢◌, ℕ, ◌+◌, true, false, List, [], ◌∷◌, ◌++◌, length, slice_get, Some, Contains}
 use Rattle.bn_session.specs.Labels.{stands, standing_after, standing_by}
 use Rattle.bn_session.specs.Sentences.{ScriptSentence, Step, Back, Go, Rev, BreakState, BreakElement, Drop, View}
@@ -9,7 +9,7 @@ use Rattle.bn_session.specs.declared.command.Command.TheVariants as commands
 use Rattle.bn_session.specs.declared.refusal.ScriptRefusal.{ScriptRefusal}
 use Rattle.bn_session.specs.declared.refusal.ScriptRefusal.TheVariants as refusals
 
--- among states with these names, where these labels stand, the sentence asks for this command
+-- among states with these names, with these labels in use, the sentence requests this command
 abbrev pub Asks : List (List ℕ) → List (List ℕ) → ScriptSentence → Command → Type 0
 Asks names standing (Step e) x = x ≡ commands.Step e
 Asks names standing (Back e) x = x ≡ commands.Back e
@@ -22,7 +22,7 @@ Asks names standing (BreakElement label e) x = (stands label standing ≡ false)
 Asks names standing (Drop label) x = (stands label standing ≡ true) × (x ≡ commands.Drop label)
 Asks names standing View x = x ≡ commands.View
 
--- the sentences, one after another, ask for these commands, where these labels stand before the first
+-- the sentences, one after another, request these commands, with these labels in use before the first
 abbrev pub AskFor : List (List ℕ) → List (List ℕ) → List ScriptSentence → List Command → Type 0
 AskFor names standing [] xs = xs ≡ []
 AskFor names standing (s ∷ ss) xs =
@@ -37,14 +37,14 @@ pub record IsScript (names : List (List ℕ)) (bytes : List ℕ) (xs : List Comm
 
 -- ---- faults
 
--- The faults of a line: it has no form; no state has the name; the label stands already; the label doesn't stand.
+-- The errors of a line: it has no form; no state has the name; the label is already in use; the label is not in use.
 pub data ScriptFault : Type 0 where
   malformed : ScriptFault
   no_state : ScriptFault
   same_break : ScriptFault
   no_break : ScriptFault
 
--- the first fault of a line that has its form and says this
+-- the first error of a line that has its form and this content
 abbrev pub IsFaultyLine : List (List ℕ) → List (List ℕ) → ScriptSentence → ScriptFault → Type 0
 IsFaultyLine names standing (BreakState label name) no_state = ¬ Contains names name
 IsFaultyLine names standing (BreakState label name) same_break = Contains names name × (stands label standing ≡ true)
@@ -52,13 +52,13 @@ IsFaultyLine names standing (BreakElement label e) same_break = stands label sta
 IsFaultyLine names standing (Drop label) no_break = stands label standing ≡ false
 IsFaultyLine names standing _ _ = ⊥
 
--- something is left, and it doesn't begin with a whole line that has a form
+-- something is left, and it does not begin with a whole line that has a form
 pub record IsMalformedLine (left : List ℕ) : Type 0 where
   pub some : left ≢ []
   pub unsaid : (s : ScriptSentence) (behind : List ℕ) → IsSayableInScript s
       → left ≢ script_sentence_text s ++ 10 ∷ behind
 
--- what is left begins with a whole line that has a form and this fault
+-- the rest begins with a whole line that has a form and this error
 pub record BeginsFaulty (names standing : List (List ℕ)) (left : List ℕ) (fault : ScriptFault) : Type 0 where
   pub says : ScriptSentence
   pub behind : List ℕ
@@ -66,12 +66,12 @@ pub record BeginsFaulty (names standing : List (List ℕ)) (left : List ℕ) (fa
   pub sayable : IsSayableInScript says
   pub faulty : IsFaultyLine names standing says fault
 
--- what is left begins with a line whose first fault is this
+-- the rest begins with a line whose first error is this
 abbrev pub BeginsWithFaultyLine : List (List ℕ) → List (List ℕ) → List ℕ → ScriptFault → Type 0
 BeginsWithFaultyLine names standing left malformed = IsMalformedLine left
 BeginsWithFaultyLine names standing left fault = BeginsFaulty names standing left fault
 
--- The line of this number, counted from 1, is the first with a fault, and this is its first.
+-- The line of this number, counted from 1, is the first with an error, and this is its first error.
 pub record IsFirstScriptFault (names : List (List ℕ)) (bytes : List ℕ) (line : ℕ) (fault : ScriptFault) : Type 0 where
   pub before : List ScriptSentence
   pub commands : List Command
@@ -81,7 +81,7 @@ pub record IsFirstScriptFault (names : List (List ℕ)) (bytes : List ℕ) (line
   pub asked : AskFor names [] before commands
   pub here : BeginsWithFaultyLine names (standing_by commands) left fault
 
--- the refusal names a line and a fault of which this holds, or there was no memory
+-- the refusal names a line and an error for which this holds, or memory ran out
 abbrev pub IsRefusalOf : (ℕ → ScriptFault → Type 0) → ScriptRefusal → Type 0
 IsRefusalOf holds (refusals.Form line) = holds line malformed
 IsRefusalOf holds (refusals.NoState line) = holds line no_state

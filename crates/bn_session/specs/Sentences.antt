@@ -1,14 +1,14 @@
--- What a line of a script says, and how it is written. Each line says one thing, in one spelling: words and numbers
--- with single spaces between them, and byte 10 at its end. The form is this project's own profile.
+-- The content of a line of a script, and how it is written. Each line has one content, in one spelling: words and
+-- numbers with single spaces between them, and byte 10 at its end. The form is this project's own definition.
 use Rattle.std.specs.Prelude.{◌≡◌, ℕ, ◌≤◌, nat_le, ◌&&◌, Bool, true, List, [], ◌∷◌, ◌++◌, length, codes, decimal}
 use Rattle.std.specs.List.{list_all}
 use Rattle.std.specs.Char.{is_ascii_alphanumeric}
 use Rattle.bn_base.specs.Number.{greatest}
 use Rattle.bn_csv.specs.Forms.{is_state_name}
 
--- What a line says: at most so many steps forward, or back; the same, at least one step, until a breakpoint holds; a
--- breakpoint with this label, at the moments of the state of this name, or where the signal enters this element; that
--- the breakpoint with this label goes; that the layers are shown.
+-- The content of a line: at most this many steps forward, or back; the same, at least one step, until a breakpoint
+-- holds; a breakpoint with this label, at the moments of the state of this name, or where the signal enters this
+-- element; the removal of the breakpoint with this label; a view of the layers.
 pub data ScriptSentence : Type 0 where
   Step : ℕ → ScriptSentence
   Back : ℕ → ScriptSentence
@@ -23,7 +23,7 @@ pub data ScriptSentence : Type 0 where
 abbrev pub is_label : List ℕ → Bool
 is_label label = nat_le 1 (length label) && nat_le (length label) 16 && list_all is_ascii_alphanumeric label
 
--- the line that says it, without its byte 10
+-- the line with this content, without its byte 10
 abbrev pub script_sentence_text : ScriptSentence → List ℕ
 script_sentence_text (Step e) = codes "step " ++ decimal e
 script_sentence_text (Back e) = codes "back " ++ decimal e
@@ -39,8 +39,8 @@ abbrev pub script_text : List ScriptSentence → List ℕ
 script_text [] = []
 script_text (s ∷ ss) = script_sentence_text s ++ 10 ∷ script_text ss
 
--- The sentence can be written: its numbers are at most the greatest that is read, and 1 at least where a step is to be
--- made; its labels and names have their forms.
+-- The sentence can be written: its numbers are at most the greatest that is read, and at least 1 for a walk; its labels
+-- and names have their forms.
 abbrev pub IsSayableInScript : ScriptSentence → Type 0
 IsSayableInScript (Step e) = e ≤ greatest
 IsSayableInScript (Back e) = e ≤ greatest

@@ -1,4 +1,4 @@
-//! The breakpoints that stand while a script is played.
+//! The breakpoints while a script is played.
 
 ghost use Rattle.std.specs.Prelude.{◌≡◌, ◌++◌, ◌∷◌, [], None, Some, true, false, IfOk, OnOk, MatchOption};
 ghost use Rattle.std.specs.Option.{option_map};
@@ -14,14 +14,14 @@ use slab::Slab;
 use std::alloc::Global;
 use std::marker::Model;
 
-/// The breakpoints that stand. Contracts see the list of them, in the order in which they were set.
+/// The breakpoints. Contracts see their list, in the order in which they were set.
 #[derive(Drop)]
 pub(crate) struct Breaks {
     alloc: Global,
     conditions: Slab<Condition>,
     keys: IndexMap<Vec<u8>, usize>,
-    // Whether a breakpoint may hold where the signal enters an element, for each element of the board. A mark may stay
-    // when the breakpoint goes.
+    // For each element of the circuit, whether a breakpoint may hold where the signal enters it. A mark may remain
+    // after the breakpoint is removed.
     marks: Vec<bool>,
 }
 
@@ -38,7 +38,7 @@ impl Model for Breaks {
 }
 
 impl Breaks {
-    /// No breakpoint, on a board of so many elements.
+    /// No breakpoint, on a circuit of this many elements.
     pub(crate) fn new(alloc: Global, elements: u32) -> Result<Breaks, NoMemory>
         ensures { IfOk result (λ breaks. breaks ≡ []) }
     {
@@ -74,7 +74,7 @@ impl Breaks {
         }
     }
 
-    /// Takes the breakpoint with a label away. The others keep their places.
+    /// Removes the breakpoint with a label. The others keep their places.
     pub(crate) fn remove(&mut self, label: &[u8])
         ensures { self.new ≡ without_break label.now self.old }
     {
@@ -98,7 +98,7 @@ impl Breaks {
         first_held(&self.conditions, &self.keys, place, moment)
     }
 
-    // Whether a breakpoint may hold: not unless this is a moment, or the signal enters an element that has a mark.
+    // Whether a breakpoint may hold: only at a moment, or where the signal enters an element with a mark.
     fn may_hold(&self, place: Place, moment: Option<u32>) -> bool
         ensures { result ≡ false → some_holds place moment self.now ≡ false }
     {
@@ -127,7 +127,7 @@ fn first_held<'a>(
     None
 }
 
-// Whether there is a mark where the signal is.
+// Whether there is a mark at the element that the signal enters.
 fn is_marked(marks: &[bool], place: Place) -> bool
     ensures { result ≡ mark_at marks.now place }
 {

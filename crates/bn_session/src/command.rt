@@ -2,15 +2,15 @@
 
 use crate::label::Label;
 
-/// A command of a script (this project's own profile).
+/// A command of a script (this project's own definition).
 #[derive(Drop)]
 pub enum Command {
-    /// Makes at most so many element steps forward.
+    /// Makes at most this many element steps forward.
     Step(u64),
-    /// Takes at most so many element steps back.
+    /// Undoes at most this many element steps.
     Back(u64),
-    /// Makes element steps forward, at least one where one can be made, until a breakpoint holds, none can be made, or
-    /// so many are made, which are 1 at least.
+    /// Makes element steps forward, at least one if possible, until a breakpoint holds, no step is possible, or this
+    /// many are made. The number is at least 1.
     Go(u64),
     /// The same backward.
     Rev(u64),
@@ -25,11 +25,11 @@ pub enum Command {
     BreakElement {
         /// The breakpoint's label.
         label: Label,
-        /// The element's number: at most 2^62, and perhaps of no element of the board.
+        /// The element's number: at most 2^62. The circuit may have no such element.
         element: u64,
     },
-    /// Takes the breakpoint with this label away.
+    /// Removes the breakpoint with this label.
     Drop(Label),
-    /// Shows the layers of the board.
+    /// Shows the layers of the circuit.
     View,
 }

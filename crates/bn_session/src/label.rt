@@ -39,7 +39,7 @@ impl Label {
         Ok(Label { bytes })
     }
 
-    /// The bytes of the label. It takes no memory.
+    /// The bytes of the label. Allocates no memory.
     pub fn as_slice(&self) -> &[u8]
         ensures bytes { result.now ≡ self.now }
         ensures form { forms.is_label self.now ≡ true }
@@ -55,7 +55,7 @@ pub(crate) fn is_label(bytes: &[u8]) -> bool
     1 <= bytes.len() && bytes.len() <= MOST_BYTES && has_label_bytes(bytes)
 }
 
-// Whether each byte may stand in a label.
+// Whether each byte is allowed in a label.
 fn has_label_bytes(bytes: &[u8]) -> bool
     ensures { result ≡ list_all is_ascii_alphanumeric bytes.now }
 {

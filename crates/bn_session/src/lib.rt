@@ -1,4 +1,4 @@
-//! Sessions on a board: scripts of commands, how they are read, and how they are played.
+//! Sessions on a circuit: scripts of commands, how they are read, and how they are played.
 #![tactic(auto)]
 
 mod breaks;

@@ -1,4 +1,4 @@
-//! The lines that a session answers.
+//! The lines of a session's answer.
 
 ghost use Rattle.std.specs.Prelude.{◌≡◌, ◌<◌, ◌++◌, ◌∷◌, [], OnOk, OnErr, IfOk, codes, decimal};
 ghost use Rattle.std.specs.Option.{option_copied};
@@ -11,7 +11,7 @@ use bn_circuits::Place;
 use bn_element::{EAST, NORTH, SOUTH};
 use std::alloc::Global;
 
-// Appends the line that says where a board is, and the label that is named there. After `NoMemory` nothing was
+// Appends the line with the place of the signal, and the label that is reported there. After `NoMemory` nothing was
 // appended.
 pub(crate) fn write_place(
     alloc: Global,
@@ -41,7 +41,7 @@ pub(crate) fn write_label(
     push(out, &line)
 }
 
-// The line that says where a board is.
+// The line with the place of the signal.
 fn place_line(alloc: Global, board: &Board, named: Option<&[u8]>) -> Result<Vec<u8>, NoMemory>
     ensures { IfOk result (λ line. line.items ≡ place_line board.now.config (option_copied named.entry)) }
 {
@@ -64,7 +64,7 @@ fn label_line(alloc: Global, word: &[u8], label: &[u8]) -> Result<Vec<u8>, NoMem
     Ok(line)
 }
 
-// Appends where the signal is.
+// Appends the place of the signal.
 fn push_place(text: &mut Vec<u8>, place: Place) -> Result<(), NoMemory>
     requires { (line_of_place place).line < 4 }
     ensures { OnOk result (text.new.items ≡ text.old.items ++ place_text place) }
@@ -95,7 +95,7 @@ fn push_line(text: &mut Vec<u8>, element: u32, line: u32) -> Result<(), NoMemory
     }
 }
 
-// Appends a label that is named, and the line's end.
+// Appends a label that is reported, and the end of the line.
 fn push_named(text: &mut Vec<u8>, named: Option<&[u8]>) -> Result<(), NoMemory>
     ensures { OnOk result (text.new.items ≡ text.old.items ++ (named_text (option_copied named.entry) ++ 10 ∷ [])) }
 {

@@ -19,10 +19,11 @@ use bn_board::Board;
 use bn_packed::Direction;
 use std::alloc::Global;
 
-/// Plays a script on a board, from no breakpoint, and appends its answer: a line for each command but the views, for
-/// which `shows` appends a text. After `NoMemory` either nothing has changed, or the script was left within a command:
-/// the board is at the configuration after this command, and `out` has grown by the answers to the commands before it
-/// and a front of its own. Its contract also tells what every board keeps. (This project's own profile.)
+/// Plays a script on a circuit, from no breakpoint, and appends its answer: a line for each command except the views,
+/// for which `shows` appends a text. After `NoMemory` either nothing has changed, or the script was left within a
+/// command: the circuit is at the configuration after this command, and `out` has grown by the answers to the commands
+/// before it and a prefix of the answer to this one. The contract also states what holds of every circuit afterwards.
+/// (This project's own definition.)
 pub fn play<W: Shows>(
     alloc: Global,
     board: &mut Board,

@@ -2,10 +2,11 @@
 
 use bn_base::NoMemory;
 
-/// Why bytes are no script: the first line with a fault, counted from 1, and that line's first fault, in this order.
+/// Why bytes are no script: the first line with an error, counted from 1, and the first error of that line, in this
+/// order.
 #[derive(Clone, Copy, PartialEq, Eq, Debug)]
 pub enum ScriptRefusal {
-    /// The line has none of the forms, or it lacks its byte 10.
+    /// The line has none of the forms, or lacks its byte 10.
     Form {
         /// The line's number, from 1.
         line: u64,
@@ -15,17 +16,17 @@ pub enum ScriptRefusal {
         /// The line's number, from 1.
         line: u64,
     },
-    /// The label of a breakpoint to be set stands at that point of the script.
+    /// The label of a breakpoint to be set is already in use at that point of the script.
     SameBreak {
         /// The line's number, from 1.
         line: u64,
     },
-    /// The label of a breakpoint to be taken away doesn't stand at that point of the script.
+    /// The label of a breakpoint to be removed is not in use at that point of the script.
     NoBreak {
         /// The line's number, from 1.
         line: u64,
     },
-    /// There was no memory.
+    /// Memory ran out.
     NoMemory,
 }
 

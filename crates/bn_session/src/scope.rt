@@ -1,4 +1,4 @@
-//! What the names in a script stand for, as far as it has been read.
+//! The meaning of the names in a script, as far as it has been read.
 
 ghost use Rattle.std.specs.Prelude.{◌≡◌, ◌++◌, ◌∷◌, [], IfOk, IfErr, OnOk, true, false};
 ghost use Rattle.bn_session.specs.Labels.{stands};
@@ -17,8 +17,7 @@ use bn_base::{Lines, NextLine, NoMemory};
 use bn_quad::QuadNames;
 use std::alloc::Global;
 
-/// The states, and the labels that stand. (`number` is here the number of a line, counted from 1, which refusals
-/// name.)
+/// The states, and the labels in use. (`number` is the number of a line, counted from 1, which refusals name.)
 #[derive(Drop)]
 pub(crate) struct Scope<'a> {
     alloc: Global,
@@ -39,7 +38,7 @@ impl<'a> Scope<'a> {
         }
     }
 
-    /// Reads the next line, and answers its command; `None` exactly where nothing is left.
+    /// Reads the next line and returns its command; `None` exactly if no line is left.
     pub(crate) fn read_line(
         &mut self,
         lines: &mut Lines<'_>,
@@ -75,7 +74,7 @@ impl<'a> Scope<'a> {
         self.command_of(sentence, number)
     }
 
-    // The command for which a sentence asks.
+    // The command that a sentence requests.
     fn command_of(&mut self, sentence: Sentence<'_>, number: u64) -> Result<Command, ScriptRefusal>
         requires { IsSayableInScript (said sentence) }
         ensures asked { IfOk result (λ x.
@@ -141,7 +140,7 @@ impl<'a> Scope<'a> {
         Ok(Command::BreakElement { label, element })
     }
 
-    // The end of a breakpoint.
+    // The removal of a breakpoint.
     fn drop_label(&mut self, label: &[u8], number: u64) -> Result<Command, ScriptRefusal>
         requires { is_label label.now ≡ true }
         ensures asked { IfOk result (λ x.
@@ -158,7 +157,7 @@ impl<'a> Scope<'a> {
         Ok(Command::Drop(label))
     }
 
-    // A label that is new: it stands from now on.
+    // A new label: it is in use from now on.
     fn new_label(&mut self, label: &[u8]) -> Result<Label, NoMemory>
         requires form { is_label label.now ≡ true }
         requires new { stands label.now self.old.standing ≡ false }

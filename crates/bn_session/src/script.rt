@@ -11,8 +11,8 @@ use bn_quad::QuadNames;
 use std::alloc::Global;
 use std::marker::Model;
 
-/// A script: commands, one after another. A label that is set is new, and one that is taken away stands. Contracts see
-/// the list of the commands.
+/// A script: commands, one after another. A label that is set is new, and a label that is removed is in use. Contracts
+/// see the list of the commands.
 #[derive(Drop)]
 pub struct Script {
     commands: Vec<Command>,
@@ -34,7 +34,7 @@ impl Script {
     ghost use Rattle.std.specs.Prelude.{◌≡◌, []};
     ghost use Rattle.bn_session.specs.Labels.{AreOrderly};
 
-    /// The commands, in the order of their lines. It takes no memory.
+    /// The commands, in the order of their lines. Allocates no memory.
     pub fn commands(&self) -> &[Command]
         ensures commands { result.now ≡ self.now }
         ensures orderly { AreOrderly [] self.now }
@@ -43,11 +43,11 @@ impl Script {
     }
 }
 
-/// Reads a script, one command a line, over a machine of quadruples with these names. `Ok` comes exactly for a script.
-/// A refusal names the first line with a fault, counted from 1, and the first fault of that line, in this order:
-/// `Form` where the line has none of the forms or lacks its byte 10, `NoState` where no state has its name,
-/// `SameBreak` where its label stands already at that point of the script, and `NoBreak` where its label doesn't.
-/// (This project's own profile.)
+/// Reads a script, one command a line, over a machine of quadruples with these names. The result is `Ok` exactly for a
+/// script. A refusal names the first line with an error, counted from 1, and the first error of that line, in this
+/// order: `Form` if the line has none of the forms or lacks its byte 10, `NoState` if no state has its name,
+/// `SameBreak` if its label is already in use at that point of the script, and `NoBreak` if its label is not. (This
+/// project's own definition.)
 pub fn read_script(alloc: Global, bytes: &[u8], names: &QuadNames) -> Result<Script, ScriptRefusal>
     ensures read { IfOk result (λ script. IsScript names.now.states bytes.now script) }
     ensures refused { IfErr result (IsRefusalOf (IsFirstScriptFault names.now.states bytes.now)) }

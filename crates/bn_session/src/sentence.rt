@@ -1,4 +1,4 @@
-//! What a line of a script says.
+//! The content of a line of a script.
 
 ghost use Rattle.std.specs.Prelude.{◌≡◌, ◌==◌, ◌≤◌, length, None, Some, MatchOption};
 ghost use Rattle.std.specs.Option.{option_map};
@@ -10,7 +10,7 @@ use crate::label::is_label;
 use bn_base::read_u64;
 use bn_csv::is_state_name;
 
-/// What a line of a script says, before its names are looked up.
+/// The content of a line of a script, before its names are looked up.
 #[derive(Clone, Copy)]
 pub(crate) enum Sentence<'a> {
     /// `step E`
@@ -31,7 +31,7 @@ pub(crate) enum Sentence<'a> {
     View,
 }
 
-// What a line says, without its byte 10; `None` exactly where it has no form.
+// The content of a line, without its byte 10; `None` exactly if it has none of the forms.
 #[tactic(auto, unfolding(crate::specs::Reading::sentence_in))]
 pub(crate) fn sentence_in(line: &[u8]) -> Option<Sentence<'_>>
     ensures { option_map said result ≡ sentence_in line.now }
@@ -70,7 +70,7 @@ fn breakpoint_after<'a>(line: &'a [u8], word: &[u8]) -> Option<Sentence<'a>>
     condition_in(label, condition)
 }
 
-// The breakpoint with this label and the condition behind it.
+// The breakpoint with this label and the condition after it.
 #[tactic(auto, unfolding(crate::specs::Reading::condition_in))]
 fn condition_in<'a>(label: &'a [u8], words: &'a [u8]) -> Option<Sentence<'a>>
     ensures { option_map said result ≡ condition_in label.now words.now }
@@ -82,7 +82,7 @@ fn condition_in<'a>(label: &'a [u8], words: &'a [u8]) -> Option<Sentence<'a>>
     Some(Sentence::BreakElement { label, element })
 }
 
-// How many ASCII letters and digits stand at the front.
+// The number of ASCII letters and digits at the front.
 fn label_len(bytes: &[u8]) -> usize
     ensures value { result ≡ label_len bytes.now }
     ensures within { result ≤ length bytes.now }
@@ -117,7 +117,7 @@ fn name_after<'a>(line: &'a [u8], word: &[u8]) -> Option<&'a [u8]>
     }
 }
 
-// The number in a line that is this word and a number of 1 at least.
+// The number in a line that is this word and a number of at least 1.
 #[tactic(auto, unfolding(crate::specs::Reading::ordinal_after))]
 fn ordinal_after(line: &[u8], word: &[u8]) -> Option<u64>
     ensures { result ≡ ordinal_after word.now line.now }
@@ -144,7 +144,7 @@ fn number_after(line: &[u8], word: &[u8]) -> Option<u64>
     Some(number)
 }
 
-// What stands behind this word at the front of a line.
+// The rest of a line after this word at its front.
 #[tactic(auto, using(crate::proofs::WordLemmas::words))]
 fn behind<'a>(line: &'a [u8], word: &[u8]) -> Option<&'a [u8]>
     ensures { MatchOption result (word_taken word.now line.now ≡ None)

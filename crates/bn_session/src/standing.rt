@@ -1,4 +1,4 @@
-//! The labels that stand while a script is read.
+//! The labels in use while a script is read.
 
 ghost use Rattle.std.specs.Prelude.{◌≡◌, ◌++◌, ◌∷◌, [], false, OnOk};
 ghost use Rattle.bn_session.specs.Labels.{stands, without};
@@ -8,7 +8,7 @@ use indexmap::IndexSet;
 use std::alloc::Global;
 use std::marker::Model;
 
-/// The labels that stand, in the order in which they were set. Contracts see the list of them.
+/// The labels in use, in the order in which they were set. Contracts see their list.
 #[derive(Drop)]
 pub(crate) struct Standing {
     alloc: Global,
@@ -34,7 +34,7 @@ impl Standing {
         }
     }
 
-    /// Whether a label stands.
+    /// Whether a label is in use.
     pub(crate) fn contains(&self, label: &[u8]) -> bool
         ensures { result ≡ stands label.now self.now }
     {
@@ -51,7 +51,7 @@ impl Standing {
         Ok(())
     }
 
-    /// Takes a label away. The others keep their places.
+    /// Removes a label. The others keep their places.
     pub(crate) fn remove(&mut self, label: &[u8])
         ensures { self.new ≡ without label.now self.old }
     {

@@ -8,7 +8,7 @@ use indexmap::IndexMap;
 use std::alloc::Global;
 use std::marker::Model;
 
-/// The names of the states, with the numbers of those that were asked for: each name is looked for once. Contracts see
+/// The names of the states, with the numbers of those that were looked up: each name is searched once. Contracts see
 /// the list of the names.
 #[derive(Drop)]
 pub(crate) struct States<'a> {
@@ -39,7 +39,7 @@ impl<'a> States<'a> {
         }
     }
 
-    /// The number of the state with a name, counted from 0; `None` exactly where no state has the name.
+    /// The number of the state with a name, counted from 0; `None` exactly if no state has the name.
     pub(crate) fn find(&mut self, name: &[u8]) -> Result<Option<u32>, NoMemory>
         ensures found { IfOk result (λ found. MatchOption found (¬ Contains self.old name.now)
             (λ number. slice_get self.old number ≡ Some name.now)) }
@@ -55,7 +55,7 @@ impl<'a> States<'a> {
         Ok(Some(number))
     }
 
-    // Keeps the number of the state with a name.
+    // Stores the number of the state with a name.
     fn note(&mut self, name: &[u8], number: u32) -> Result<(), NoMemory>
         requires { slice_get self.old number ≡ Some name.now }
         ensures { self.new ≡ self.old }

@@ -1,4 +1,4 @@
-//! Watched ways on a board.
+//! Watched walks on a circuit.
 
 ghost use Rattle.std.specs.Prelude.{◌≡◌, None, Some, MatchOption};
 ghost use Rattle.bn_circuits.specs.RotaryNets.{rotary_circuit};
@@ -13,7 +13,7 @@ use crate::breaks::Breaks;
 use bn_board::Board;
 use bn_packed::Direction;
 
-// Steps in this direction until a breakpoint holds, none can be made, or so many are made.
+// Steps in this direction until a breakpoint holds, no step is possible, or this many are made.
 pub(crate) fn go(board: &mut Board, breaks: &Breaks, direction: Direction, count: u64)
     ensures stop { IsStop (stops (moment_at board.old.layout) breaks.now)
         (run_along direction (rotary_circuit board.old.net) board.old.config) count board.new.config }
@@ -35,14 +35,14 @@ fn walk_on(board: &mut Board, breaks: &Breaks, direction: Direction, count: u64)
     }
 }
 
-// Whether a breakpoint holds where the board is.
+// Whether a breakpoint holds at the circuit's configuration.
 fn breaks_at(board: &Board, breaks: &Breaks) -> bool
     ensures { result ≡ stops (moment_at board.now.layout) breaks.now board.now.config }
 {
     breaks.some_holds(board.place(), board.moment())
 }
 
-// The label that is named where a way has ended that began when so many steps were made.
+// The label that is reported at the end of a walk that began after this many steps.
 pub(crate) fn named<'a>(board: &Board, breaks: &'a Breaks, steps: u64) -> Option<&'a [u8]>
     ensures { (c : Config) → steps ≡ c.steps → MatchOption result
         (label_that_holds (moment_at board.now.layout) breaks.now c board.now.config ≡ None)

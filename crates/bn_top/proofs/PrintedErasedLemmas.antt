@@ -1,6 +1,6 @@
 -- What `erase` printed, given to `drive`.
 use Rattle.std.specs.Prelude.{◌≡◌, ℕ, ◌≤◌, List, length, refl, ⊤}
-use Rattle.std.proofs.Common.{arith, inl, inr, subst, sym, ◌^◌, ◌∙◌}
+use Rattle.std.proofs.Common.{arith, inl, inr, subst, sym, ◌^◌}
 use Rattle.std.proofs.lemmas.Bool.{cases_lt}
 use Rattle.bn_circuits.specs.declared.net.TheConstants.{MOST_ELEMENTS}
 use Rattle.bn_circuits.specs.declared.place.Place.{Place}
@@ -24,11 +24,10 @@ use Rattle.bn_top.specs.Answers.{Answers}
 use Rattle.bn_top.proofs.CommandClauseLemmas.{request_reply}
 use Rattle.bn_top.proofs.TextLemmas.{done_reply}
 use Rattle.bn_erase_laws.specs.EraseWindows.{erasing_steps}
-use Rattle.bn_erase.proofs.ThereLemmas.{erasings-there}
 use Rattle.bn_reply_erase.proofs.PrintedSizeLemmas.{erase-read}
 use Rattle.bn_reply_builds.specs.ErasedRuns.{CircuitLeaves, erased_end}
 use Rattle.bn_reply_builds.proofs.ErasedEndLemmas.{ends-tell_halts, erased-come_out, erased-end}
-use Rattle.bn_reply_builds.proofs.ErasedTableLemmas.{joint, standard, table_is}
+use Rattle.bn_reply_builds.proofs.ErasedTableLemmas.{table_is}
 use Rattle.bn_top.specs.PrintedTables.{DriveAnswers, EndsTellHalts, ErasedTablesComeOut, ErasedTablesEnd}
 use Rattle.bn_top.specs.PrintedTables.{ErasedTablesErase, ErasedTablesTellOutput}
 

@@ -1,5 +1,5 @@
--- The answer of the workbench to words and bytes: a text, a status, and the places that a watch is told (this project's
--- own profile). It rests on the definitions of texts, tables and circuits alone.
+-- The answer of the workbench to arguments and bytes: a text, a status, and the places that a watch is told (this
+-- project's own profile). It uses the definitions of texts, tables and circuits alone.
 use Rattle.std.specs.Prelude.{◌≡◌, ℕ, ◌<◌, ◌≤◌, List, [], ◌∷◌, ◌++◌, length, true, false, codes}
 use Rattle.bn_circuits.specs.declared.place.Place.{Place}
 use Rattle.bn_words.specs.Requests.{Request, HasForm, HasNoForm, reads_input, Step, Back, Check, Machine, Trace}
@@ -38,11 +38,11 @@ use Rattle.bn_reply.specs.Streams.{size_text}
 use Rattle.bn_reply.specs.declared.status.Status.{Status}
 use Rattle.bn_reply.specs.declared.status.Status.TheVariants.{Usage, Size}
 
--- the line of words that have no form
+-- the line that is printed for arguments that have no form
 abbrev pub usage_text : List ℕ
 usage_text = codes "usage" ++ 10 ∷ []
 
--- what is answered to a request and an input within the limit
+-- the answer to a request and an input within the limit
 abbrev pub Replies : Request → List ℕ → Status → List ℕ → List Place → Type 0
 Replies (Step e) = StepReplies e
 Replies (Back e) = BackReplies e
@@ -75,8 +75,8 @@ Replies (Element k n) = λ bytes. ElementReplies k n
 Replies Erase = EraseReplies
 Replies (EraseRun word n) = EraseRunReplies word n
 
--- The answer, by the first cause that applies: the words ask for nothing; they ask for what needs no input; the input
--- is too long; else what is answered to the request and the input.
+-- The answer, by the first case that applies: the arguments have no form; they ask for a command that reads no input;
+-- the input is too long; otherwise the answer to the request and the input.
 pub data Answers (words : List (List ℕ)) (bytes : List ℕ) (status : Status) (text : List ℕ)
     (told : List Place) : Type 0 where
   no_form : HasNoForm words → status ≡ Usage → text ≡ usage_text → told ≡ [] → Answers words bytes status text told

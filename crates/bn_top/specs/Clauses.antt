@@ -1,4 +1,4 @@
--- How a call of the workbench ends, over the outside as one thing; and the same clause by clause.
+-- How a call of the workbench ends, in one record over the outside; and the same as separate clauses.
 use Rattle.std.specs.Prelude.{◌≡◌, ◌≢◌, ℕ, ◌≤◌, ◌<◌, List, [], length, Some, IfSome, ◌⊎◌}
 use Rattle.bn_io.specs.Faults.{Rose, CountsUnless}
 use Rattle.bn_io.specs.Told.{Grows}
@@ -14,7 +14,7 @@ use Rattle.bn_top.specs.Told as told
 use Rattle.bn_top.specs.Told.{EndsWithoutInput, NeedsNoInput, UsageEnds}
 use Rattle.bn_top.specs.Outside.{Ends, EndsOn, IsWithoutFault, NeedNoInput, ReadsAll, FailsReading}
 
--- The clauses apart, by their names.
+-- The separate clauses, by their names.
 pub record ClausesApart (words : List (List ℕ)) (status : Status) (b a : Outside) : Type 0 where
   pub answered : IsAnswer status
       → IfSome b.left (λ bytes. told.IsAnswered words bytes status b.taken a.taken b.told a.told)
@@ -39,8 +39,9 @@ pub record ClausesApart (words : List (List ℕ)) (status : Status) (b a : Outsi
   pub later_source : CountsUnless (FailsReading status b a) b.read_faults a.read_faults
   pub later_sink : CountsUnless (status ≡ WriteFault) b.write_faults a.write_faults
 
--- How the call ends; that without a fault there is an answer unless memory is wanting; when usage comes; how it ends
--- where the words need no input; how much is read elsewhere; and that no failure but the one that is told was counted.
+-- How the call ends; that an answer comes if no device fails and memory suffices; when `usage` comes; how the call ends
+-- if the arguments need no input; how much is read otherwise; and that no failure was counted but the one that is
+-- reported.
 pub record CallEnds (words : List (List ℕ)) (status : Status) (b a : Outside) : Type 0 where
   pub ends : Ends words status b a
   pub complete : IsWithoutFault b a → IsAnswer status ⊎ (status ≡ NoMemory)
@@ -50,12 +51,12 @@ pub record CallEnds (words : List (List ℕ)) (status : Status) (b a : Outside) 
   pub read : (NeedsNoInput words → ⊥) → ReadsAll status b a
   pub later : IsLater (FailsReading status b a) (status ≡ WriteFault) b a
 
--- how the call ends gives each of the clauses apart
+-- how the call ends implies each of the separate clauses
 abbrev pub EndsGiveClauses : Type 0
 EndsGiveClauses = (words : List (List ℕ)) (status : Status) (b a : Outside)
     → CallEnds words status b a → ClausesApart words status b a
 
--- and they give it
+-- and they imply it
 abbrev pub ClausesGiveEnds : Type 0
 ClausesGiveEnds = (words : List (List ℕ)) (status : Status) (b a : Outside)
     → ClausesApart words status b a → CallEnds words status b a

@@ -1,4 +1,4 @@
--- What the whole answer tells of what further commands print.
+-- What the whole answer implies for what further commands print.
 use Rattle.std.specs.Prelude.{ℕ, List, Option, IfSome}
 use Rattle.bn_circuits.specs.declared.place.Place.{Place}
 use Rattle.bn_reply.specs.Codes.{IsAnswer}
@@ -7,7 +7,7 @@ use Rattle.bn_headline.specs.CommandHeadlines.{BackCommand, BennettCommand, Mach
 use Rattle.bn_top.specs.QuadHeadlines.{BuildHeadline, DriveCircuitHeadline, DriveHeadline, InverseCommand}
 use Rattle.bn_top.specs.Told.{IsAnswered}
 
--- the sink took what these commands print, each in its own terms
+-- the sink received what these commands print, each in its own terms
 pub record TellsCommands (words : List (List ℕ)) (bytes : List ℕ) (status : Status)
     (taken took : Option (List ℕ)) : Type 0 where
   pub machine : MachineCommand words bytes status taken took
@@ -19,7 +19,7 @@ pub record TellsCommands (words : List (List ℕ)) (bytes : List ℕ) (status : 
   pub drive : DriveHeadline words bytes status taken took
   pub drive_circuit : DriveCircuitHeadline words bytes status taken took
 
--- the answer tells it
+-- the answer implies it
 abbrev pub AnswersTellCommands : Type 0
 AnswersTellCommands =
     (words : List (List ℕ)) (left : Option (List ℕ)) (status : Status) (taken took : Option (List ℕ))

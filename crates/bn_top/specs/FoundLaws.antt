@@ -1,4 +1,4 @@
--- What the whole answer gives for the headline where the window is found.
+-- What the whole answer implies for the headline of the automatic window.
 use Rattle.std.specs.Prelude.{ℕ, List, Option, IfSome}
 use Rattle.bn_circuits.specs.declared.place.Place.{Place}
 use Rattle.bn_reply.specs.Codes.{IsAnswer}
@@ -6,7 +6,7 @@ use Rattle.bn_reply.specs.declared.status.Status.{Status}
 use Rattle.bn_headline.specs.FoundHeadline.{TellsFoundWindow}
 use Rattle.bn_top.specs.Told.{IsAnswered}
 
--- the answer gives the headline for a window that is found
+-- the answer implies the headline of the automatic window
 abbrev pub AnswersTellFound : Type 0
 AnswersTellFound =
     (words : List (List ℕ)) (left : Option (List ℕ)) (status : Status) (taken took : Option (List ℕ))

@@ -1,4 +1,4 @@
--- What the whole answer gives for the headline by the machine alone.
+-- What the whole answer implies for the headline by the machine alone.
 use Rattle.std.specs.Prelude.{ℕ, List, Option, IfSome}
 use Rattle.bn_circuits.specs.declared.place.Place.{Place}
 use Rattle.bn_reply.specs.Codes.{IsAnswer}
@@ -7,7 +7,7 @@ use Rattle.bn_top.specs.Told.{IsAnswered, TellsGenerate}
 use Rattle.bn_headline.specs.Generated.{GeneratedHeadline}
 use Rattle.bn_headline.specs.MachineHeadline.{MachineHeadline, MachineHeadlineWithin}
 
--- the answer gives the headline by the machine alone, and that with a greatest number of steps
+-- the answer implies the headline by the machine alone, without and with a greatest number of element steps
 abbrev pub AnswersTellMachine : Type 0
 AnswersTellMachine =
     (words : List (List ℕ)) (left : Option (List ℕ)) (status : Status) (taken took : Option (List ℕ))
@@ -17,7 +17,7 @@ AnswersTellMachine =
     → IfSome left (λ bytes. MachineHeadline words bytes status taken took)
     × IfSome left (λ bytes. MachineHeadlineWithin words bytes status taken took)
 
--- and what `generate` tells gives its own
+-- and what `generate` prints implies its own headline
 abbrev pub GeneratedClauseTells : Type 0
 GeneratedClauseTells =
     (words : List (List ℕ)) (status : Status) (taken took : Option (List ℕ))

@@ -1,5 +1,5 @@
--- A reply on an input in memory, with all headlines of its answer as one: what the clauses of the top call say of it,
--- each by its name.
+-- A reply on an input in memory, with all headlines of its answer in one record: what the clauses of the top call
+-- state, each by its name.
 use Rattle.std.specs.Prelude.{ℕ, List, [], Option, Some}
 use Rattle.bn_circuits.specs.declared.place.Place.{Place}
 use Rattle.bn_reply.specs.Codes.{IsAnswer}
@@ -15,9 +15,9 @@ use Rattle.bn_headline.specs.FoundHeadline.{TellsFoundWindow}
 use Rattle.bn_top.specs.Answers.{Answers}
 use Rattle.bn_top.specs.CommandLaws.{TellsCommands}
 
--- The answer to these words and bytes tells how the machine's own bounded run comes out, with a greatest number of
--- steps too, by the circuit, where the window is found, and where the words are `generate`; and what other commands
--- print, each in its own terms.
+-- The answer to these arguments and bytes reports how the machine's own bounded run ends, without and with a greatest
+-- number of element steps, by the circuit, in the automatic window, and for `generate`; and what other commands print,
+-- each in its own terms.
 pub record TellsHeadlines (words : List (List ℕ)) (bytes : List ℕ) (status : Status)
     (taken took : Option (List ℕ)) : Type 0 where
   pub headline : MachineHeadline words bytes status taken took
@@ -29,8 +29,8 @@ pub record TellsHeadlines (words : List (List ℕ)) (bytes : List ℕ) (status :
   pub generated : GeneratedHeadline words status taken took
   pub commands : TellsCommands words bytes status taken took
 
--- The reply is the answer to these words and bytes, and the watch heard its places; its status is that of an answer;
--- and it tells the headlines.
+-- The reply is the answer to these arguments and bytes, and the watch heard its places; its status is that of an
+-- answer; and it states the headlines.
 pub record IsReplyTo (words : List (List ℕ)) (bytes : List ℕ) (reply : Reply)
     (told heard : Option (List Place)) : Type 0 where
   pub answered : IsReplied (Answers words bytes) reply told heard

@@ -1,4 +1,4 @@
--- Words and bytes have at most one answer, and words with a form have one.
+-- Arguments and bytes have at most one answer, and arguments with a form have one.
 use Rattle.std.specs.Prelude.{ℕ, List}
 use Rattle.bn_reply.specs.Answering.{HasAnswer, IsOneAnswer}
 use Rattle.bn_words.specs.Requests.{Request, HasForm}
@@ -23,38 +23,38 @@ RequestsAreAnswered = (words : List (List ℕ)) (request : Request) (bytes : Lis
 -- ---- the laws
 
 pub record Laws : Type 0 where
-  -- Words and bytes have at most one answer: one status, one text, and one list of places to tell.
+  -- Arguments and bytes have at most one answer: one status, one text, and one list of places.
   pub one_answer : AnswersAreOne
-  -- To words that ask for something, and all bytes, there is an answer.
+  -- Arguments with a form have an answer on all bytes.
   pub each_request_has_an_answer : RequestsAreAnswered
-  -- How a call ends says the same as its clauses apart, each by its name.
+  -- How a call ends says the same as the separate clauses.
   pub ends_give_clauses : EndsGiveClauses × ClausesGiveEnds
-  -- The whole answer gives the headline by the machine alone.
+  -- The whole answer implies the headline by the machine alone.
   pub answers_tell_machine : AnswersTellMachine
-  -- The whole answer gives the headline for a window that is found.
+  -- The whole answer implies the headline of the automatic window.
   pub answers_tell_found : AnswersTellFound
-  -- The whole answer tells what `machine`, `bennett`, `step`, `back`, `inverse`, `build` and `drive` print, each in its
-  -- own terms.
+  -- The whole answer implies what `machine`, `bennett`, `step`, `back`, `inverse`, `build` and `drive` print, each in
+  -- its own terms.
   pub answers_tell_commands : AnswersTellCommands
-  -- What `generate` answers gives its own headline.
+  -- The answer to `generate` implies its own headline.
   pub generate_tells_machine : GeneratedClauseTells
-  -- What the workbench prints may be given to it again: what `compile`, `build` or `realise` printed, given to `step E`
-  -- and that to `back E`, is printed again byte for byte, for every E that it takes; the mirror of what `mirror`
-  -- printed is the first text with no steps counted; and what `farm` printed, where it is within the limit of an input,
-  -- undoes the schedule.
+  -- What the workbench prints can be given to it again. What `compile`, `build` or `realise` printed, given to `step E`
+  -- and that to `back E`, is printed again byte for byte, for every E that `step` takes. The inverse circuit of what
+  -- `mirror` printed is the first text with no steps counted. What `farm` printed undoes the schedule, if it is within
+  -- the limit of an input.
   pub printed_texts_return :
       CompiledTextsReturn × BuiltTextsReturn × RealisedTextsReturn × MirroredTextsReturn × FarmedTextsReturn
-  -- What `compile` prints is what `build` prints of what `bennett` prints.
+  -- `compile` prints what `bennett` and then `build` print.
   pub compiling_is_building : CompilingIsBuildingAgain
-  -- Of the table that `erase` prints, `drive` tells the end only with the output alone on the tapes.
+  -- Given the table that `erase` prints, `drive` reports the end only with the output alone on the tapes.
   pub erased_tables_erase : ErasedTablesErase
-  -- And only where both machines halt in the window, each on the other's word.
+  -- It does so only if both machines halt in the window, each on the other's word.
   pub ends_tell_halts : EndsTellHalts
-  -- Where they do, it comes to the end, for each number of element steps from the circuit's cost on.
+  -- If they do, the signal leaves by the end for each number of element steps from the circuit's cost on.
   pub erased_tables_come_out : ErasedTablesComeOut
-  -- So with 2^52 element steps or more it tells y alone, unless the circuit is refused for its size.
+  -- So with 2^52 element steps or more `drive` prints y alone, unless the circuit is refused for its size.
   pub erased_tables_tell_output : ErasedTablesTellOutput
-  -- Whatever the machines do, no drive of it goes on for ever.
+  -- Whatever the machines do, no such `drive` goes on for ever.
   pub erased_tables_end : ErasedTablesEnd
   -- The inverse of the inverse has the entries of the first table.
   pub inversed_tables_return : InversedTablesReturn

@@ -1,5 +1,5 @@
--- Tables of quadruples that the workbench printed, given to it again: the sentences that a user would want of `bennett`
--- and `build`, and of `erase` and `drive`, over the workbench's own relation, limits of the input and all.
+-- Tables of quadruples that the workbench printed, given to it again: what a user expects of `bennett` and `build`, and
+-- of `erase` and `drive`, over the workbench's own relation, with the limits of the input.
 use Rattle.std.specs.Prelude.{◌≡◌, ◌⊎◌, ℕ, ◌^◌, ◌≤◌, List, length, ⊤}
 use Rattle.bn_csv.specs.Entries.{entries_of}
 use Rattle.bn_circuits.specs.declared.place.Place.{Place}
@@ -21,11 +21,11 @@ use Rattle.bn_top.specs.Answers.{Answers}
 use Rattle.bn_erase_laws.specs.EraseWindows.{erasing_steps}
 use Rattle.bn_reply_builds.specs.ErasedRuns.{CircuitLeaves, TablesEndIn, TablesHaltIn, erased_end}
 
--- what the workbench answers to `drive`, with the word on tape 1, in the window, for at most so many element steps
+-- the answer of the workbench to `drive`, with the word on tape 1, in the window, for at most this many element steps
 abbrev pub DriveAnswers : List ℕ → Limits → List ℕ → ℕ → Status → List ℕ → List Place → Type 0
 DriveAnswers word l table most = Answers (words_of (Drive (One (Letters word)) l most)) table
 
--- What `compile` printed of a table is what `build` prints of what `bennett` prints of that table, byte for byte.
+-- `build` prints, byte for byte, what `compile` printed of a table, if it is given what `bennett` prints of that table.
 abbrev pub CompilingIsBuildingAgain : Type 0
 CompilingIsBuildingAgain =
     (bytes word text table again : List ℕ) (l : Limits) (a b : Status) (told silent heard : List Place)
@@ -41,8 +41,8 @@ InversedTablesReturn =
     → Answers (words_of Inverse) bytes Done text told → Answers (words_of Inverse) text status again heard
     → (status ≡ Done) × (entries_of again ≡ entries_of bytes)
 
--- What `drive` answers to the table that `erase` printed: it tells the end only where each machine halts on the other's
--- word, and then it tells that output alone; and where they do, it tells no machine that is stuck.
+-- The answer of `drive` to the table that `erase` printed reports the end only if each machine halts on the other's
+-- word, and then it reports that output alone; if they do, it never reports a machine that is stuck.
 abbrev pub ErasedTablesErase : Type 0
 ErasedTablesErase =
     (bytes word table : List ℕ) (silent : List Place) → Answers (words_of Erase) bytes Done table silent
@@ -54,7 +54,7 @@ ErasedTablesErase =
     × ((v w : ℕ) (y : List ℕ) → HaltsAfter (joined t u).first x v y → HaltsAfter (joined t u).second y w x
     → status ≡ Stuck → ⊥)
 
--- it tells the end only where both machines halt in the window, each on the other's word
+-- it reports the end only if both machines halt in the window, each on the other's word
 abbrev pub EndsTellHalts : Type 0
 EndsTellHalts =
     (bytes word table : List ℕ) (silent : List Place) → Answers (words_of Erase) bytes Done table silent
@@ -63,7 +63,7 @@ EndsTellHalts =
     → HasForm (words_of (Drive (One (Letters word)) l most)) (Drive (One (Letters word)) l most)
     → DriveAnswers word l table most Done text told → (v w : ℕ) × (y : List ℕ) × TablesHaltIn t u x l v w y
 
--- Where they do, the signal of its circuit comes to its end, and `drive` answers so.
+-- If they do, the signal of its circuit leaves by the end, and `drive` answers so.
 abbrev pub ErasedTablesComeOut : Type 0
 ErasedTablesComeOut =
     (bytes word table : List ℕ) (silent : List Place) → Answers (words_of Erase) bytes Done table silent
@@ -72,7 +72,7 @@ ErasedTablesComeOut =
     → (count : ℕ) × CircuitLeaves (DriveAnswers word l table) count (erasing_steps x y v w) Finished
     (λ cost text. text ≡ erased_end (joined t u) l y count cost (erasing_steps x y v w))
 
--- So with 2^52 element steps or more, which are enough in each window that may be asked for, it answers the end with y
+-- So with 2^52 element steps or more, which are enough in each window within the limits, it answers the end with y
 -- alone, unless the circuit has too many elements.
 abbrev pub ErasedTablesTellOutput : Type 0
 ErasedTablesTellOutput =
@@ -84,7 +84,7 @@ ErasedTablesTellOutput =
     → (status ≡ Size) ⊎ ((status ≡ Done) × ((count cost : ℕ)
     × (text ≡ erased_end (joined t u) l y count cost (erasing_steps x y v w))))
 
--- Whatever they do, the signal leaves in exactly its cost, where the word fits on tape 1, and `drive` answers so.
+-- Whatever they do, the signal leaves in exactly its cost, if the word fits on tape 1, and `drive` answers so.
 abbrev pub ErasedTablesEnd : Type 0
 ErasedTablesEnd =
     (bytes word table : List ℕ) (silent : List Place) → Answers (words_of Erase) bytes Done table silent

@@ -1,5 +1,5 @@
--- What `inverse`, `build` and `drive` print of a table of quadruples (Bennett 1973 for the quadruples, Morita 2017 for
--- the elements; words, windows and texts are this project's own profile). Each speaks of an input within the limit.
+-- What `inverse`, `build` and `drive` print for a table of quadruples (Bennett 1973 for the quadruples, Morita 2017 for
+-- the elements; words, windows and texts are this project's own profile). Each assumes an input within the limit.
 use Rattle.std.specs.Prelude.{◌≡◌, ◌↔◌, ℕ, ◌≤◌, List, [], ◌∷◌, length, Option, codes}
 use Rattle.bn_lists.specs.Runs.{Reaches}
 use Rattle.bn_circuits.specs.declared.place.Place.{Place}
@@ -24,26 +24,26 @@ use Rattle.bn_reply_builds.specs.DriveHeadline.{IsGiven, TellsDriven}
 use Rattle.bn_reply_builds.specs.OwnDrives.{HasOwnRun}
 use Rattle.bn_words.specs.Requests.{Build, Drive, HasForm}
 
--- Each step of m is a step back of w, so n steps are n steps back; where the one is deterministic the other is
--- reversible, and the other way round; and where the one is uniform, so is the other.
+-- Each step of m is a step of w backward, so n steps are n steps backward; one is deterministic exactly if the other is
+-- reversible; and one is uniform exactly if the other is.
 pub record TakesBack (m w : Quadruples) : Type 0 where
   pub follows : (n : ℕ) (c d : Configuration ℕ) → Reaches (Follows m.rules) n c d ↔ Reaches (Follows w.rules) n d c
   pub deterministic : IsDeterministic m.rules ↔ IsReversible w.rules
   pub reversible : IsReversible m.rules ↔ IsDeterministic w.rules
   pub uniform : IsUniformMachine m ↔ IsUniformMachine w
 
--- Where the word is `inverse`, and the bytes read as a table of quadruples: the sink took the table of the inverse,
--- which takes the machine's steps back. That text is read as a table again, whose machine is the inverse but for the
--- numbers of its states and symbols, each name kept.
+-- If the argument is `inverse` and the bytes read as a table of quadruples, the sink received the table of the inverse,
+-- which undoes the machine's steps. That text reads as a table again, whose machine is the inverse with its states and
+-- symbols renumbered, each name kept.
 unfoldable pub InverseCommand : List (List ℕ) → List ℕ → Status → Option (List ℕ) → Option (List ℕ) → Type 0
 InverseCommand words bytes status taken took =
     words ≡ codes "inverse" ∷ [] → length bytes ≤ MOST_INPUT_BYTES → (t : QuadTable) → ReadsQuadruples bytes t
     → (status ≡ Done) × Grows taken took (inverse_text t) × TakesBack t.machine (inverse_of t.machine)
     × ((u : QuadTable) × ReadsQuadruples (inverse_text t) u × ReadsBack (inverse_of t.machine) t.names u)
 
--- Where the words ask for a drive, and whatever words, window and table of a uniform machine are given: the machine's
--- own run in the window ends, and the sink took the text that reports its end, or that the signal is inside the circuit
--- after the greatest number of element steps.
+-- If the arguments ask for `drive` with a table of a uniform machine, words and a window, the machine's own run in the
+-- window ends, and the sink received the text that reports its end, or that the signal is inside the circuit after the
+-- greatest number of element steps.
 unfoldable pub DriveHeadline : List (List ℕ) → List ℕ → Status → Option (List ℕ) → Option (List ℕ) → Type 0
 DriveHeadline words bytes status taken took =
     (asked : TapeWords) (l : Limits) (most : ℕ) → HasForm words (Drive asked l most) → length bytes ≤ MOST_INPUT_BYTES
@@ -51,9 +51,9 @@ DriveHeadline words bytes status taken took =
     → (run : HasOwnRun t l one two three) × (text : List ℕ) × Grows taken took text
     × TellsDriven most t l run.steps run.last run.exit status text
 
--- By the circuit: the sink took the text of the run of what the machine is built to, within the greatest number of
--- element steps. That run comes in exactly its cost to the exit that the machine's own run names, where the clock has
--- room, and so many steps back lead back.
+-- By the circuit: the sink received the text of the run of the machine's circuit, within the greatest number of element
+-- steps. That run leaves in exactly its cost by the exit that the machine's own run names, if the clock has room, and
+-- as many steps back restore the start.
 unfoldable pub DriveCircuitHeadline : List (List ℕ) → List ℕ → Status → Option (List ℕ) → Option (List ℕ) → Type 0
 DriveCircuitHeadline words bytes status taken took =
     (asked : TapeWords) (l : Limits) (most : ℕ) → HasForm words (Drive asked l most) → length bytes ≤ MOST_INPUT_BYTES
@@ -62,8 +62,9 @@ DriveCircuitHeadline words bytes status taken took =
     → (text : List ℕ) × (told : List Place) × Grows taken took text
     × TellsRuns most t l (words_on t.machine one two three) status text told
 
--- Where the words ask for a build: the sink took the text of a board at its start, which runs in exactly its cost to
--- the exit that the machine's own run in the window names, where the clock has room, and whose steps can be taken back.
+-- If the arguments ask for `build`, the sink received the text of a circuit at its start. The circuit runs in exactly
+-- its cost to the exit that the machine's own run in the window names, if the clock has room, and its steps can be
+-- undone.
 unfoldable pub BuildHeadline : List (List ℕ) → List ℕ → Status → Option (List ℕ) → Option (List ℕ) → Type 0
 BuildHeadline words bytes status taken took =
     (asked : TapeWords) (l : Limits) → HasForm words (Build asked l) → length bytes ≤ MOST_INPUT_BYTES

@@ -1,4 +1,4 @@
--- What a sink has taken and a watch has heard when the workbench ends.
+-- What a sink has received and a watch has heard when the workbench ends.
 use Rattle.std.specs.Prelude.{◌≡◌, ◌≢◌, ℕ, List, [], ◌∷◌, false, Option, codes, decimal}
 use Rattle.bn_circuits.specs.declared.place.Place.{Place}
 use Rattle.bn_io.specs.Faults.{Rose}
@@ -14,7 +14,7 @@ use Rattle.bn_top.specs.Answers.{Answers, usage_text}
 use Rattle.bn_reply.specs.declared.status.Status.{Status}
 use Rattle.bn_reply.specs.declared.status.Status.TheVariants.{Usage, ReadFault, WriteFault, NoMemory}
 
--- The answer was given whole: the sink took its text, and the watch heard its places.
+-- The answer was given whole: the sink received its text, and the watch heard its places.
 pub record IsAnswered (words : List (List ℕ)) (bytes : List ℕ) (status : Status) (taken took : Option (List ℕ))
     (told heard : Option (List Place)) : Type 0 where
   pub text : List ℕ
@@ -33,26 +33,26 @@ abbrev pub IsBroken : List (List ℕ) → List ℕ → Option (List ℕ) → Opt
     → Option (List Place) → Type 0
 IsBroken words bytes taken took told heard = streams.IsBroken (Answers words bytes) taken took told heard
 
--- Where the words form no command the sink takes the line that says so, or a front of it where it fails.
+-- If the arguments have no form, the sink received the line that says so, or a prefix of it if it fails.
 abbrev pub UsageEnds : Status → Option (List ℕ) → Option (List ℕ) → Type 0
 UsageEnds Usage taken took = Grows taken took usage_text
 UsageEnds WriteFault taken took = GrowsByFront taken took usage_text
 UsageEnds _ taken took = ⊥
 
--- The sink took a front of the line that says that reading failed, after the source failed.
+-- The sink received a prefix of the line that says that reading failed, after the source failed.
 pub record IsReadFaultCut (before now : ℕ) (taken took : Option (List ℕ))
     (told heard : Option (List Place)) : Type 0 where
   pub source : Rose before now
   pub grows : GrowsByFront taken took read_fault_text
   pub hears : Hears told [] heard
 
--- the words ask for what needs no input
+-- the arguments ask for a command that needs no input
 pub record NeedsNoInput (words : List (List ℕ)) : Type 0 where
   pub request : Request
   pub form : HasForm words request
   pub unread : reads_input request ≡ false
 
--- how such an answer ends: it is that to no bytes at all
+-- how such an answer ends: it is the answer to no bytes at all
 pub record EndsWithoutInput (words : List (List ℕ)) (result : Status) (taken took : Option (List ℕ))
     (told heard : Option (List Place)) : Type 0 where
   pub answered : IsAnswer result → IsAnswered words [] result taken took told heard
@@ -60,8 +60,8 @@ pub record EndsWithoutInput (words : List (List ℕ)) (result : Status) (taken t
   pub broken : result ≡ NoMemory → IsBroken words [] taken took told heard
   pub unread : result ≢ ReadFault
 
--- where the words are `generate` and a number of increments, the sink took a text that tells the run of the machine of
--- so many increments
+-- if the arguments are `generate` and a number of increments, the sink received a text that reports the run of the
+-- machine of that many increments
 abbrev pub TellsGenerate : List (List ℕ) → Status → Option (List ℕ) → Option (List ℕ) → Type 0
 TellsGenerate words status taken took =
     (k : ℕ) → IsRoundCount k → words ≡ codes "generate" ∷ decimal k ∷ []

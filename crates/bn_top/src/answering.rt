@@ -1,4 +1,5 @@
-//! The one way of every command: from its words to the text that it gives, and the match that names each command once.
+//! The one path of every command, from its arguments to the text that it prints, with the match that names each command
+//! once.
 
 ghost use Rattle.std.specs.Prelude.{◌≡◌, ℕ, ◌+◌, ◌≤◌, Some, drop, length, map};
 ghost use Rattle.std.specs.String.{string_bytes};
@@ -32,7 +33,7 @@ use bn_reply_views::{reply_session, reply_view};
 use bn_words::{ConfigurationRequest, Request, WholeRequest, read_words};
 use std::alloc::Global;
 
-// Answers the words of a command line: reads from the input what their command wants, and gives the sink the text.
+// Answers the arguments of a command line: reads from the input what the command needs, and gives the text to the sink.
 pub(crate) fn answer_words<I: Input, K: Sink, W: Watch>(
     alloc: Global,
     words: &[String],
@@ -61,7 +62,7 @@ pub(crate) fn answer_words<I: Input, K: Sink, W: Watch>(
     }
 }
 
-// Answers what is asked of a configuration text, which is read in pieces.
+// Answers a command on a configuration text, which is read in pieces.
 fn answer_configuration<I: Input, K: Sink, W: Watch>(
     alloc: Global,
     asked: &ConfigurationRequest,
@@ -87,7 +88,7 @@ fn answer_configuration<I: Input, K: Sink, W: Watch>(
     }
 }
 
-// Answers what is asked of a whole input: the bytes that are lent, or those that are read to the end.
+// Answers a command on a whole input: on the bytes that are lent, or on those that are read to the end.
 fn answer_whole<I: Input, K: Sink, W: Watch>(
     alloc: Global,
     asked: &WholeRequest<'_>,
@@ -110,7 +111,7 @@ fn answer_whole<I: Input, K: Sink, W: Watch>(
     status
 }
 
-// Answers what is asked of bytes that are lent, as of all that an input had left: of them it takes at most one more
+// Answers a command on bytes that are lent, as on all that an input had left. Of a longer input it takes one byte more
 // than the limit.
 fn answer_lent<K: Sink, W: Watch>(
     alloc: Global,
@@ -131,7 +132,7 @@ fn answer_lent<K: Sink, W: Watch>(
     answer_bytes(alloc, asked, bytes, sink, watch)
 }
 
-// Answers what is asked of an input that is read to its end first.
+// Answers a command on an input that is first read to its end.
 fn answer_read<I: Input, K: Sink, W: Watch>(
     alloc: Global,
     asked: &WholeRequest<'_>,
@@ -153,7 +154,7 @@ fn answer_read<I: Input, K: Sink, W: Watch>(
     }
 }
 
-// Answers what is asked of these bytes, which are a whole input within the limit.
+// Answers a command on these bytes, which are a whole input within the limit.
 fn answer_bytes<K: Sink, W: Watch>(
     alloc: Global,
     asked: &WholeRequest<'_>,

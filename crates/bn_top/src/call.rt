@@ -21,10 +21,9 @@ use bn_io::{Sink, Source};
 use bn_reply::Status;
 use std::alloc::Global;
 
-/// Answers the words of a command line: reads the input from the source where the words have a
-/// form and its command reads one, gives the answer's text to the sink, and answers the status.
-/// Where the command is `step`, `back`, `run`, `drive` or `generate`, it tells the watch the place
-/// after each element step.
+/// Answers the arguments of a command line: reads the input from the source if the arguments have a form and the
+/// command reads an input, gives the text to the sink, and returns the status. If the command is `step`, `back`, `run`,
+/// `drive` or `generate`, it tells the watch the place of the signal after each element step.
 pub fn workbench<S: Source, K: Sink, W: Watch>(
     alloc: Global,
     words: &Vec<String>,
@@ -32,41 +31,44 @@ pub fn workbench<S: Source, K: Sink, W: Watch>(
     sink: &mut K,
     watch: &mut W,
 ) -> Status
-    // The headline: the answer to words that ask for a run tells how the machine's own bounded run comes out.
+    // The headline: the answer to `run` reports how the machine's own bounded run ends.
     ensures headline { IsAnswer result → IfSome (S.left source.old)
         (λ bytes. MachineHeadline (map string_bytes words.now.items) bytes result (K.taken sink.old)
         (K.taken sink.new)) }
 
-    // And so with a greatest number of steps.
+    // The same with a greatest number of element steps.
     ensures headline_within { IsAnswer result → IfSome (S.left source.old)
         (λ bytes. MachineHeadlineWithin (map string_bytes words.now.items) bytes result (K.taken sink.old)
         (K.taken sink.new)) }
 
-    // The headline by the circuit: its signal comes in exactly its cost to that exit, and steps back lead back.
+    // The headline by the circuit: the signal leaves by that exit in exactly its cost, and as many steps back restore
+    // the start.
     ensures headline_circuit { IsAnswer result → IfSome (S.left source.old)
         (λ bytes. CircuitHeadline (map string_bytes words.now.items) bytes result (K.taken sink.old)
         (K.taken sink.new)) }
 
-    // The headline where the window is found: it is the one that the machine's own bounded runs name.
+    // The headline for the automatic window: the window is the one that the machine's own bounded runs name.
     ensures found { IsAnswer result → IfSome (S.left source.old)
         (λ bytes. TellsFoundWindow (map string_bytes words.now.items) bytes result (K.taken sink.old)
         (K.taken sink.new)) }
 
-    // And by the machine alone: its elements, exit, steps and tapes in that window; or that its circuit is too large.
+    // The same by the machine alone: the elements, exit, steps and tapes in that window, or the number of elements of a
+    // circuit that is too large.
     ensures found_machine { IsAnswer result → IfSome (S.left source.old)
         (λ bytes. FoundMachineHeadline (map string_bytes words.now.items) bytes result (K.taken sink.old)
         (K.taken sink.new)) }
 
-    // And by the circuit, which is there: it comes in exactly its cost to that exit, and steps back lead back.
+    // The same by the circuit, which exists: the signal leaves by that exit in exactly its cost, and as many steps back
+    // restore the start.
     ensures found_circuit { IsAnswer result → IfSome (S.left source.old)
         (λ bytes. FoundCircuitHeadline (map string_bytes words.now.items) bytes result (K.taken sink.old)
         (K.taken sink.new)) }
 
-    // The headline of `generate`, whatever the source tells.
+    // The headline of `generate`. It holds for every source.
     ensures generated { IsAnswer result →
         GeneratedHeadline (map string_bytes words.now.items) result (K.taken sink.old) (K.taken sink.new) }
 
-    // What `machine` and `bennett` print of a table in standard form, and `step` and `back` of a text that spells a
+    // What `machine` and `bennett` print for a table in standard form, and `step` and `back` for a text that spells a
     // configuration, each in its own terms.
     ensures machine { IsAnswer result → IfSome (S.left source.old)
         (λ bytes. MachineCommand (map string_bytes words.now.items) bytes result (K.taken sink.old)
@@ -81,7 +83,7 @@ pub fn workbench<S: Source, K: Sink, W: Watch>(
         (λ bytes. BackCommand (map string_bytes words.now.items) bytes result (K.taken sink.old)
         (K.taken sink.new)) }
 
-    // What `inverse` and `build` print of a table of quadruples.
+    // What `inverse` and `build` print for a table of quadruples.
     ensures inverse { IsAnswer result → IfSome (S.left source.old)
         (λ bytes. InverseCommand (map string_bytes words.now.items) bytes result (K.taken sink.old)
         (K.taken sink.new)) }
@@ -89,7 +91,8 @@ pub fn workbench<S: Source, K: Sink, W: Watch>(
         (λ bytes. BuildHeadline (map string_bytes words.now.items) bytes result (K.taken sink.old)
         (K.taken sink.new)) }
 
-    // The headline of `drive`: it tells how the own run of a uniform machine of quadruples ends; and by the circuit.
+    // The headline of `drive`: the own run of a uniform machine of quadruples in its window ends, and the answer
+    // reports how; and the same by the circuit.
     ensures drive { IsAnswer result → IfSome (S.left source.old)
         (λ bytes. DriveHeadline (map string_bytes words.now.items) bytes result (K.taken sink.old)
         (K.taken sink.new)) }
@@ -97,15 +100,15 @@ pub fn workbench<S: Source, K: Sink, W: Watch>(
         (λ bytes. DriveCircuitHeadline (map string_bytes words.now.items) bytes result (K.taken sink.old)
         (K.taken sink.new)) }
 
-    // How the call ends: what the sink took and the watch heard, what was read, and the counts of faults.
+    // How the call ends: what the sink received and the watch heard, what was read, and the counts of failures.
     ensures ends { CallEnds (map string_bytes words.now.items) result
         (outside (S.left source.old) (K.taken sink.old) (W.told watch.old) (S.faults source.old) (K.faults sink.old))
         (outside (S.left source.new) (K.taken sink.new) (W.told watch.new) (S.faults source.new) (K.faults sink.new)) }
 
-    // The source isn't asked for bytes after it has failed, nor after it has said that it has ended.
+    // The source is not read again after it has failed or has reported its end.
     ensures in_time { S.open source.old → S.overrun source.new → S.overrun source.old }
 
-    // Words that need no input: the source is as it was.
+    // If the arguments need no input, the source does not change.
     ensures unread { NeedNoInput (map string_bytes words.now.items) → source.new ≡ source.old }
 {
     answer_words(alloc, words.as_slice(), source, sink, watch)

@@ -1,4 +1,4 @@
-//! The workbench as one call: words and bytes in, bytes and a status out.
+//! The workbench as one call: arguments and bytes in, bytes and a status out.
 #![tactic(auto)]
 
 mod answering;

@@ -1,4 +1,4 @@
-//! The answer to words on an input that stands in memory.
+//! The answer to arguments on an input in memory.
 
 ghost use Rattle.std.specs.Prelude.{map, IfOk, OnErr};
 ghost use Rattle.std.specs.String.{string_bytes};
@@ -12,20 +12,20 @@ use bn_io::{SliceInput, VecSink};
 use bn_reply::{NoMemory, Reply, Status};
 use std::alloc::Global;
 
-/// Answers the words of a command line on an input in memory, which is not copied: the text and the
-/// status that `workbench` gives where its source tells this input. Where the command is `step`,
-/// `back`, `run`, `drive` or `generate`, it tells the watch the place after each element step.
+/// Answers the arguments of a command line on an input in memory, which is not copied: the text and the status are
+/// those that `workbench` gives if its source holds this input. If the command is `step`, `back`, `run`, `drive` or
+/// `generate`, it tells the watch the place of the signal after each element step.
 pub fn reply_in_memory<W: Watch>(
     alloc: Global,
     words: &[String],
     input: &[u8],
     watch: &mut W,
 ) -> Result<Reply, NoMemory>
-    // The answer, which tells the headlines.
+    // The answer, which states the headlines.
     ensures replied { IfOk result (λ r. IsReplyTo (map string_bytes words.now) input.now r (W.told watch.old)
         (W.told watch.new)) }
 
-    // What the watch heard where memory was wanting.
+    // What the watch heard if memory ran out.
     ensures no_memory { OnErr result (IsUnfinished (Answers (map string_bytes words.now) input.now)
         (W.told watch.old) (W.told watch.new)) }
 {

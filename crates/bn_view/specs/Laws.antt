@@ -1,4 +1,4 @@
--- What the laws of this crate say, each a field of `Laws`.
+-- The statements of the laws of this crate, each a field of `Laws`.
 use Rattle.std.specs.Prelude.{◌≤◌, ◌≡◌, ◌↔◌, ℕ, pos, List}
 use Rattle.bn_lists.specs.Runs.{Reaches}
 use Rattle.bn_circuits.specs.Circuits.{Circuit, Goes}
@@ -23,18 +23,18 @@ use Rattle.bn_view.specs.Viewed.{Comes, Finds, IsViewOf, MachineIsAt}
 
 -- ---- what is shown
 
--- by what a layout finds, one step and one state are shown
+-- a layout shows at most one step with one state
 abbrev pub ShownIsOne : Type 0
 ShownIsOne =
     (b : Layout) (k : Circuit) (c0 : Config) (initial t s a r e : ℕ) → IsShown (Finds b k c0) initial t s a
     → IsShown (Finds b k c0) initial t r e → (s ≡ r) × (a ≡ e)
 
--- and there is something that is shown
+-- and it shows at least one
 abbrev pub ShownIsThere : Type 0
 ShownIsThere =
     (b : Layout) (k : Circuit) (c0 : Config) (initial t : ℕ) → (s : ℕ) × (a : ℕ) × IsShown (Finds b k c0) initial t s a
 
--- on the way of a board what is shown by the layout is what is shown by the board's own moments
+-- along the run of a circuit, the layout shows what the circuit's own moments show
 abbrev pub ShownIsFound : Type 0
 ShownIsFound =
     (p : Program) (word : List ℕ) (l : Limits) (f : Flat) → IsFlatOf p word l f → IsAccepted p word l f
@@ -44,14 +44,14 @@ ShownIsFound =
 
 -- ---- modules
 
--- the signal is in one module at most
+-- the signal is in at most one module
 abbrev pub ModulesAreOne : Type 0
 ModulesAreOne = (b : Layout) (p : Place) (x y : ModuleAt) → IsModuleAt b p x → IsModuleAt b p y → x ≡ y
 
 -- ---- the machine
 
--- After s steps, in state a, the cells spell a configuration of the reversible machine, which stands for a moment of
--- the machine's own run from the word; and the head of the history stands at the machine's step.
+-- After s steps, in state a, the cells hold a configuration of the reversible machine that represents a configuration
+-- of the machine's own run from the word; and the head of the history is at the number of the machine's step.
 pub record StandsForMachine (p : Program) (word : List ℕ) (f : Flat) (s a : ℕ) : Type 0 where
   pub config : Configuration ℕ
   pub state : config.state ≡ a
@@ -62,7 +62,7 @@ pub record StandsForMachine (p : Program) (word : List ℕ) (f : Flat) (s a : �
   pub inside : step ≤ f.limits.steps
   pub at : MachineIsAt p word step (machine_state_by f.translation.final_state (name_of f.translation a))
 
--- in every configuration reached from the start, what is shown stands for the machine
+-- in every configuration reached from the start, what is shown represents the machine
 abbrev pub ViewsStand : Type 0
 ViewsStand =
     (p : Program) (word : List ℕ) (l : Limits) (f : Flat) → IsFlatOf p word l f → IsAccepted p word l f
@@ -71,7 +71,7 @@ ViewsStand =
 
 -- ---- views
 
--- wherever a board comes to on its way there is one view of it, and only one
+-- every configuration along the run of a circuit has exactly one view
 abbrev pub ViewsAreOne : Type 0
 ViewsAreOne =
     (p : Program) (word : List ℕ) (l : Limits) (f : Flat) → IsFlatOf p word l f → IsAccepted p word l f
@@ -86,14 +86,14 @@ ViewsAreThere =
 -- ---- the laws
 
 pub record Laws : Type 0 where
-  -- One step is shown, and there is one.
+  -- There is exactly one step that is shown.
   pub shown_is_one : ShownIsOne × ShownIsThere
-  -- On a board's way the layout finds what is shown by the board's own moments.
+  -- Along the run of a circuit the layout finds what the circuit's own moments show.
   pub shown_is_found : ShownIsFound
-  -- The signal is in one module at most.
+  -- The signal is in at most one module.
   pub modules_are_one : ModulesAreOne
-  -- In every configuration of a board that is reached from its start, what is shown stands for a moment of the
+  -- In every configuration that a circuit reaches from its start, what is shown represents a configuration of the
   -- machine's own run.
   pub views_stand : ViewsStand
-  -- Wherever a board comes to on its way there is one view of it, and only one.
+  -- Every configuration along the run of a circuit has exactly one view.
   pub views_are_one : ViewsAreOne × ViewsAreThere

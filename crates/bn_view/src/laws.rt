@@ -1,7 +1,7 @@
-//! Laws on what is shown of a board. The function does nothing: its contract is the laws.
+//! The laws on what a view shows. The function does nothing: its contract is the laws.
 ghost use Rattle.bn_view.specs.Laws.{Laws};
 
-/// Laws on what is shown of a board, a named field each.
+/// The laws on what a view shows, a named field each.
 pub fn view_laws()
     ensures { Laws }
 {}

@@ -1,4 +1,4 @@
-//! Views of a board: every layer of its configuration, and of the last moment that it has reached.
+//! Views of a circuit: every layer of its configuration, and of the last moment that it reached.
 #![tactic(auto)]
 
 mod laws;

@@ -1,4 +1,4 @@
-//! In which module the signal of a board is.
+//! The module that holds the signal of a circuit.
 
 ghost use Rattle.std.specs.Prelude.{◌≡◌, ℕ};
 ghost use Rattle.bn_network.specs.Controls.{symbol_count};
@@ -11,7 +11,7 @@ use bn_board::{Board, Located};
 use bn_cell::line_of;
 use bn_quad::QuadMachine;
 
-// The module in which the signal of a board of this machine is.
+// The module that holds the signal of a circuit of this machine.
 pub(crate) fn module_at(board: &Board, machine: &QuadMachine) -> ModuleAt
     requires { (t : ℕ) → IsTape t → symbol_count_at board.now.layout t ≡ symbol_count machine.now t }
     ensures { IsModuleAt board.now.layout board.now.config.place result }

@@ -1,4 +1,4 @@
-//! The view of a board.
+//! The view of a circuit.
 
 ghost use Rattle.std.specs.Prelude.{◌≡◌, ℕ, ◌<◌, pos, List, Some, IfOk};
 ghost use Rattle.bn_circuits.specs.Stepping.{run};
@@ -19,16 +19,16 @@ use bn_board::{Board, NoMemory, Spelled, SpelledTape};
 use bn_quad::QuadMachine;
 use std::alloc::Global;
 
-// The last moment of a board: its state, and what the cells showed then.
+// The last moment of a circuit: its state, and what the cells showed then.
 #[derive(Drop)]
 pub(crate) struct LastMoment {
     pub(crate) state: u32,
     pub(crate) tapes: Spelled,
 }
 
-/// Every layer of a board's configuration, and of the last moment that it has reached. The board is the one that was
-/// made of the translation's machine, in whatever configuration it has come to. It stays as it is; the last moment is
-/// found on a copy, which is stepped back: no log is kept. Its contract also tells what every board keeps.
+/// Every layer of a circuit's configuration, and of the last moment that it reached. The circuit is the one of the
+/// translation's machine, in any configuration that it can reach. It does not change: the last moment is found on a
+/// copy that is stepped back, so no log is kept. The contract also states what holds of every circuit afterwards.
 pub fn view(alloc: Global, board: &Board, translated: &Translated) -> Result<Layers, NoMemory>
     requires { IsBoardOf translated.now board.now }
     ensures place { IfOk result (λ v. v.place ≡ board.now.config.place) }
@@ -45,7 +45,7 @@ pub fn view(alloc: Global, board: &Board, translated: &Translated) -> Result<Lay
     layers_of(alloc, board, translated)
 }
 
-// The layers, with the last moment that the board's layout finds.
+// The layers, with the last moment that the circuit's layout finds.
 fn layers_of(alloc: Global, board: &Board, translated: &Translated) -> Result<Layers, NoMemory>
     requires { IsBoardOf translated.now board.now }
     ensures known { IfOk result (λ v. v.state < translated.now.machine.states) }
@@ -73,9 +73,9 @@ fn layers_of(alloc: Global, board: &Board, translated: &Translated) -> Result<La
     })
 }
 
-/// What the board of any machine of quadruples shows, in whatever configuration it has come to: where the signal is,
-/// and the last moment that it has reached, or its start where there is none. The board stays as it is; the last moment
-/// is found on a copy, which is stepped back: no log is kept. Its contract also tells what every board keeps.
+/// What the circuit of a machine of quadruples shows, in any configuration that it can reach: the place of the signal,
+/// and the last moment reached, or its start if there is none. The circuit does not change: the last moment is found on
+/// a copy that is stepped back, so no log is kept. The contract also states what holds of every circuit afterwards.
 pub fn view_board(
     alloc: Global,
     board: &Board,
@@ -96,7 +96,7 @@ pub fn view_board(
     })
 }
 
-// The last moment that a board has reached, found on a copy; or its start where there is none, with the state given.
+// The last moment that a circuit reached, found on a copy; or its start if there is none, with the given state.
 fn last_moment(alloc: Global, board: &Board, initial: u32) -> Result<LastMoment, NoMemory>
     ensures moment { IfOk result (IsLastMoment board.now initial) }
     ensures kept { IsBoardKept board.now }
@@ -107,7 +107,7 @@ fn last_moment(alloc: Global, board: &Board, initial: u32) -> Result<LastMoment,
     Ok(LastMoment { state, tapes })
 }
 
-// Steps back to the last moment, and answers its state; or to the start where there is none, and then the state given.
+// Steps back to the last moment and returns its state; or to the start if there is none, and returns the given state.
 fn go_back(board: &mut Board, initial: u32) -> u32
     ensures same { IsSameBoard board.old board.new }
     ensures kept { IsBoardKept board.new }
@@ -124,7 +124,7 @@ fn go_back(board: &mut Board, initial: u32) -> u32
     }
 }
 
-// The position of the head on a tape on which it stands at cell 0 or to the right of it.
+// The position of the head on a tape, where the head is at cell 0 or to the right of it.
 fn head_of(tape: &SpelledTape) -> u64
     requires { (i : ℕ) × (tape.now.head ≡ Some (pos i)) }
     ensures { tape.now.head ≡ Some (pos result) }

@@ -1,4 +1,4 @@
--- What a command line asks for, and the words that ask for it (this project's own profile).
+-- What a command line asks for, and the arguments that ask for it (this project's own profile).
 use Rattle.std.specs.Prelude.{◌≡◌, ℕ, ◌≤◌, Bool, true, false, List, [], ◌∷◌, Option, Some, None, IfSome, codes, decimal}
 use Rattle.bn_base.specs.Number.{greatest}
 use Rattle.bn_base.specs.declared.limits.TheConstants.{MOST_COUNT}
@@ -16,8 +16,8 @@ use Rattle.bn_words.specs.declared.request.Request.TheVariants as variants
 use Rattle.bn_words.specs.declared.request.ConfigurationRequest.TheVariants as config
 use Rattle.bn_words.specs.declared.request.WholeRequest.TheVariants as whole
 
--- What is asked for, a case a form: numbers, the letters of a word, words on tapes, the limits of a window, and a
--- greatest number of steps where there may be none.
+-- What is asked for, a case for each form: numbers, the letters of an input word, words on tapes, the limits of a
+-- window, and a greatest number of steps, which may be missing.
 pub data Request : Type 0 where
   Step : ℕ → Request
   Back : ℕ → Request
@@ -52,31 +52,30 @@ pub data Request : Type 0 where
 
 -- ---- its words
 
--- the four limits of a window in decimal digits, and what stands behind them
+-- the four limits of a window in decimal digits, and what follows them
 abbrev pub limit_words : Limits → List (List ℕ) → List (List ℕ)
 limit_words l rest = decimal l.left ∷ decimal l.right ∷ decimal l.steps ∷ decimal l.output ∷ rest
 
--- a word behind the byte `=`, the limits of a window, and what stands behind them
+-- a word after the byte `=`, the limits of a window, and what follows them
 abbrev pub window_words : List ℕ → Limits → List (List ℕ) → List (List ℕ)
 window_words word l rest = (61 ∷ word) ∷ limit_words l rest
 
--- a word on a tape: its letters behind the byte `=`, or its symbols' names behind the byte `:`
+-- a word on a tape: its letters after the byte `=`, or its symbols' names after the byte `:`
 abbrev pub word_argument : TapeWord → List ℕ
 word_argument (Letters bytes) = 61 ∷ bytes
 word_argument (Names bytes) = 58 ∷ bytes
 
--- the word on tape 1, or those on all tapes, and what stands behind them
+-- the word on tape 1, or those on all tapes, and what follows them
 abbrev pub tape_arguments : TapeWords → List (List ℕ) → List (List ℕ)
 tape_arguments (One word) rest = word_argument word ∷ rest
 tape_arguments (Three first second third) rest = word_argument first ∷ word_argument second ∷ word_argument third ∷ rest
 
--- the word of a greatest number of steps, or no word
+-- the argument of a greatest number of steps, or none
 abbrev pub steps_words : Option ℕ → List (List ℕ)
 steps_words None = []
 steps_words (Some e) = decimal e ∷ []
 
--- the words that ask for it: the command's name, and behind it words on tapes, numbers in decimal digits, or the word
--- `auto`
+-- the arguments that ask for it: the command's name, followed by words on tapes, numbers in decimal digits, or `auto`
 abbrev pub words_of : Request → List (List ℕ)
 words_of (Step e) = codes "step" ∷ decimal e ∷ []
 words_of (Back e) = codes "back" ∷ decimal e ∷ []
@@ -116,8 +115,8 @@ words_of (EraseRun word n) = codes "erase" ∷ (61 ∷ word) ∷ decimal n ∷ [
 abbrev pub IsOrdinal : ℕ → Type 0
 IsOrdinal n = (1 ≤ n) × (n ≤ MOST_COUNT)
 
--- each of its numbers is within its limit: a circuit's steps are at most 2^62, those of a drive 2^61, what is counted
--- of a machine at most the greatest count, there are from 1 to 4 increments, and an element has from 1 to 10 lines
+-- each of its numbers is within its limit: at most 2^62 element steps, 2^61 for a drive; what is counted of a machine
+-- at most the greatest count; from 1 to 4 increments; and from 1 to 10 lines of an element
 abbrev pub IsAllowed : Request → Type 0
 IsAllowed (Step e) = e ≤ greatest
 IsAllowed (Back e) = e ≤ greatest
@@ -142,12 +141,12 @@ IsAllowed _ = Unit {0}
 
 -- ---- words and requests
 
--- the words ask for this: they are its words, and it is allowed
+-- the arguments ask for this: they are its arguments, and it is allowed
 pub record HasForm (words : List (List ℕ)) (request : Request) : Type 0 where
   pub words_are : words ≡ words_of request
   pub allowed : IsAllowed request
 
--- the words ask for nothing
+-- the arguments ask for nothing
 abbrev pub HasNoForm : List (List ℕ) → Type 0
 HasNoForm words = (request : Request) → HasForm words request → ⊥
 
@@ -157,7 +156,7 @@ reads_input (Generate k) = false
 reads_input (Element k n) = false
 reads_input _ = true
 
--- what the program's request asks for: of a configuration text, of an input that is wanted whole, and in all
+-- the meaning of the program's request: on a configuration text, on an input that is needed whole, and in all
 abbrev pub of_configuration : declared_configuration.ConfigurationRequest → Request
 of_configuration (config.Step e) = Step e
 of_configuration (config.Back e) = Back e

@@ -1,4 +1,4 @@
--- What one word behind a command's name may be, and what is read of words.
+-- What one argument after a command's name may be, and what is read of arguments.
 use Rattle.std.specs.Prelude.{◌≡◌, ℕ, ◌≤◌, List, [], ◌∷◌, Option, MatchOption, decimal}
 use Rattle.bn_base.specs.Number.{greatest}
 use Rattle.bn_base.specs.declared.limits.TheConstants.{MOST_COUNT}
@@ -9,42 +9,42 @@ use Rattle.bn_words.specs.Requests.{HasForm, HasNoForm, request_of, word_argumen
 use Rattle.bn_words.specs.declared.request.Request as declared
 use Rattle.bn_words.specs.declared.request.TheConstants.{MOST_DRIVE_STEPS}
 
--- the word is the decimal text of this number, which is at most 2^62
+-- the argument is the decimal text of this number, which is at most 2^62
 pub record IsNumber (word : List ℕ) (number : ℕ) : Type 0 where
   pub spelled : word ≡ decimal number
   pub bound : number ≤ greatest
 
--- the word is none
+-- the argument is no number
 abbrev pub IsNoNumber : List ℕ → Type 0
 IsNoNumber word = (number : ℕ) → IsNumber word number → ⊥
 
--- the word is the decimal text of this number, which is at most the greatest count
+-- the argument is the decimal text of this number, which is at most the greatest count
 pub record IsCount (word : List ℕ) (number : ℕ) : Type 0 where
   pub spelled : word ≡ decimal number
   pub bound : number ≤ MOST_COUNT
 
--- the word is none
+-- the argument is no count
 abbrev pub IsNoCount : List ℕ → Type 0
 IsNoCount word = (number : ℕ) → IsCount word number → ⊥
 
--- the word is the decimal text of this number, which is at most that of a drive's steps
+-- the argument is the decimal text of this number, which is at most that of a drive's steps
 pub record AreDriveSteps (word : List ℕ) (number : ℕ) : Type 0 where
   pub spelled : word ≡ decimal number
   pub bound : number ≤ MOST_DRIVE_STEPS
 
--- the word is none
+-- the argument is no such number
 abbrev pub AreNoDriveSteps : List ℕ → Type 0
 AreNoDriveSteps word = (number : ℕ) → AreDriveSteps word number → ⊥
 
--- the word is these letters behind the byte `=`
+-- the argument is these letters after the byte `=`
 abbrev pub IsWord : List ℕ → List ℕ → Type 0
 IsWord word letters = word ≡ 61 ∷ letters
 
--- the word doesn't begin with this byte
+-- the argument does not begin with this byte
 abbrev pub IsNoWord : List ℕ → Type 0
 IsNoWord word = (letters : List ℕ) → IsWord word letters → ⊥
 
--- the word is this one on a tape, with its sign before it
+-- the argument is this word on a tape, with its sign before it
 abbrev pub IsTapeWord : List ℕ → TapeWord → Type 0
 IsTapeWord word read = word ≡ word_argument read
 
@@ -52,15 +52,15 @@ IsTapeWord word read = word ≡ word_argument read
 abbrev pub IsNoTapeWord : List ℕ → Type 0
 IsNoTapeWord word = (read : TapeWord) → IsTapeWord word read → ⊥
 
--- the four words are the limits of a window, each at most the greatest count
+-- the four arguments are the limits of a window, each at most the greatest count
 pub record AreLimits (words : List (List ℕ)) (l : Limits) : Type 0 where
   pub spelled : words ≡ decimal l.left ∷ decimal l.right ∷ decimal l.steps ∷ decimal l.output ∷ []
   pub small : AreSmall l
 
--- the words are none
+-- the arguments are none
 abbrev pub AreNoLimits : List (List ℕ) → Type 0
 AreNoLimits words = (l : Limits) → AreLimits words l → ⊥
 
--- what is read of words: what they ask for, or nothing where they ask for nothing
+-- what is read of arguments: what they ask for, or nothing if they ask for nothing
 abbrev pub AreRead : List (List ℕ) → Option declared.Request → Type 0
 AreRead words result = MatchOption result (HasNoForm words) (λ request. HasForm words (request_of request))

@@ -1,4 +1,4 @@
-//! The words of a command line: what they ask for, and the one reader.
+//! The arguments of a command line: what they ask for, and their one reader.
 #![tactic(auto)]
 
 mod laws;

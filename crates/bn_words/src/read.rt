@@ -1,4 +1,4 @@
-//! The one reader of a command line: how many words there are and what the first one names tell the forms apart.
+//! The one reader of a command line: the number of arguments and the name of the command tell the forms apart.
 
 ghost use Rattle.std.specs.Prelude.{◌≢◌, ◌∷◌, [], codes, map, MatchOption};
 ghost use Rattle.std.specs.String.{string_bytes};
@@ -11,7 +11,7 @@ use bn_gen::MOST_INCREMENTS;
 use bn_qtable::TapeWords;
 use bn_rlem::MOST_LINES;
 
-/// What the words of a command line ask for; `None` exactly where no request that is allowed has these words.
+/// What the arguments of a command line ask for; `None` exactly if no allowed request has these arguments.
 pub fn read_words(words: &[String]) -> Option<Request<'_>>
     ensures { MatchOption result (HasNoForm (map string_bytes words.now))
         (λ request. HasForm (map string_bytes words.now) (request_of request)) }
@@ -120,7 +120,7 @@ fn read_number<'a>(name: &str, number: &'a str) -> Option<Request<'a>>
     }
 }
 
-// The forms of a name and two words.
+// The forms of a name and two arguments.
 fn read_pair<'a>(name: &str, first: &'a str, second: &str) -> Option<Request<'a>>
     ensures { AreRead (name.now ∷ first.now ∷ second.now ∷ []) result }
 {
@@ -132,7 +132,7 @@ fn read_pair<'a>(name: &str, first: &'a str, second: &str) -> Option<Request<'a>
     }
 }
 
-// The form of `run` with a window that is to be found.
+// The form of `run` with the automatic window.
 fn read_auto<'a>(first: &'a str, second: &str) -> Option<Request<'a>>
     ensures { AreRead (codes "run" ∷ first.now ∷ second.now ∷ []) result }
 {

@@ -9,14 +9,14 @@ use bn_qtable::TapeWords;
 /// The greatest number of element steps of a drive.
 pub const MOST_DRIVE_STEPS: u64 = 1 << 61;
 
-/// What the words of a command line ask for, by what their command does with an input. A word W stands behind the byte
-/// `=`, and a window is four words l1 r1 n r3: tape 1 reaches from -l1 to r1, the history holds n steps, and the output
-/// tape reaches from 0 to r3.
+/// What the arguments of a command line ask for, by what the command does with an input. An input word W follows the
+/// byte `=`, and a window is four numbers l1 r1 n r3: tape 1 reaches from -l1 to r1, the history holds n steps, and the
+/// output tape reaches from 0 to r3.
 #[derive(Clone, Copy, Debug)]
 pub enum Request<'a> {
     /// A command that reads a configuration text, in pieces.
     OnConfiguration(ConfigurationRequest),
-    /// A command that wants its input whole.
+    /// A command that needs its input whole.
     OnWhole(WholeRequest<'a>),
     /// `generate k`: the run of the machine of k increments. It reads no input.
     Generate {
@@ -33,7 +33,7 @@ pub enum Request<'a> {
     },
 }
 
-/// What is asked of a configuration text, a variant a form.
+/// A command on a configuration text, a variant for each form.
 #[derive(Clone, Copy, Debug)]
 pub enum ConfigurationRequest {
     /// `step E`: at most E steps of a circuit.
@@ -50,11 +50,11 @@ pub enum ConfigurationRequest {
     Plan,
     /// `migrate`: a configuration text in version 2.
     Migrate,
-    /// `mirror`: a circuit whose steps are the steps back of the first.
+    /// `mirror`: the inverse circuit, whose steps are the steps back of the first.
     Mirror,
 }
 
-/// What is asked of an input that is wanted whole, a variant a form.
+/// A command on a whole input, a variant for each form.
 #[derive(Clone, Copy, Debug)]
 pub enum WholeRequest<'a> {
     /// `check`: the verdict on standard form.
@@ -93,7 +93,7 @@ pub enum WholeRequest<'a> {
     },
     /// `reversible`: the two verdicts on quadruples.
     Reversible,
-    /// `inverse`: the table of the machine that takes the steps of one of quadruples back.
+    /// `inverse`: the table of the machine that undoes the steps of a machine of quadruples.
     Inverse,
     /// `bennett`: the table of Bennett's reversible machine.
     Bennett,
@@ -106,30 +106,30 @@ pub enum WholeRequest<'a> {
     },
     /// `standard`: a machine that starts on the first letter, brought into standard form.
     Standard,
-    /// `compile =W l1 r1 n r3`: the text of the board of a machine and the word W in a window.
+    /// `compile =W l1 r1 n r3`: the text of the circuit of a machine and the word W in a window.
     Compile {
         /// The letters of the word.
         word: &'a [u8],
         /// The window.
         window: Windows,
     },
-    /// `layout =W l1 r1 n r3`: what the board of a machine and the word W in a window is made of.
+    /// `layout =W l1 r1 n r3`: the parts of the circuit of a machine and the word W in a window.
     Layout {
         /// The letters of the word.
         word: &'a [u8],
         /// The window.
         window: Windows,
     },
-    /// `build W l1 r1 r2 r3` and `build W1 W2 W3 l1 r1 r2 r3`: the text of the board of a uniform machine of quadruples
-    /// in a window, with a word on tape 1 or one on each tape. A word is letters behind the byte `=`, or names of
-    /// symbols with commas between behind the byte `:`.
+    /// `build W l1 r1 r2 r3` and `build W1 W2 W3 l1 r1 r2 r3`: the text of the circuit of a uniform machine of
+    /// quadruples in a window, with a word on tape 1 or one on each tape. A word is letters after the byte `=`, or
+    /// names of symbols, separated by commas, after the byte `:`.
     Build {
         /// The words on the tapes.
         words: TapeWords<'a>,
         /// The window.
         window: Windows,
     },
-    /// `drive` with the same words and E: the run of that board up to its exit, of at most E steps.
+    /// `drive` with the same arguments and E: the run of that circuit to its exit, of at most E steps.
     Drive {
         /// The words on the tapes.
         words: TapeWords<'a>,
@@ -138,7 +138,7 @@ pub enum WholeRequest<'a> {
         /// The greatest number of steps.
         most_steps: u64,
     },
-    /// `run =W l1 r1 n r3` and `run =W l1 r1 n r3 E`: the run of that board up to its exit, or of at most E steps.
+    /// `run =W l1 r1 n r3` and `run =W l1 r1 n r3 E`: the run of that circuit to its exit, or of at most E steps.
     Run {
         /// The letters of the word.
         word: &'a [u8],
@@ -147,12 +147,12 @@ pub enum WholeRequest<'a> {
         /// The greatest number of steps, where there is one.
         most_steps: Option<u64>,
     },
-    /// `run =W auto`: the run of that board in a window that the program finds.
+    /// `run =W auto`: the run of that circuit in the automatic window.
     RunAuto {
         /// The letters of the word.
         word: &'a [u8],
     },
-    /// `view =W l1 r1 n r3 E`: every layer of that board after at most E steps.
+    /// `view =W l1 r1 n r3 E`: every layer of that circuit after at most E steps.
     View {
         /// The letters of the word.
         word: &'a [u8],
@@ -161,15 +161,15 @@ pub enum WholeRequest<'a> {
         /// The greatest number of steps.
         most_steps: u64,
     },
-    /// `session =W l1 r1 n r3`: a script, behind the table and a line `%`, played on that board.
+    /// `session =W l1 r1 n r3`: a script, which follows the table and a line `%`, run on that circuit.
     Session {
         /// The letters of the word.
         word: &'a [u8],
         /// The window.
         window: Windows,
     },
-    /// `look` with the words of `drive`: every layer of the board of a uniform machine of quadruples after at most E
-    /// steps.
+    /// `look` with the arguments of `drive`: every layer of the circuit of a uniform machine of quadruples after at
+    /// most E steps.
     Look {
         /// The words on the tapes.
         words: TapeWords<'a>,
@@ -178,7 +178,7 @@ pub enum WholeRequest<'a> {
         /// The greatest number of steps.
         most_steps: u64,
     },
-    /// `play` with the words of `build`: a script, behind the table and a line `%`, played on that board.
+    /// `play` with the arguments of `build`: a script, which follows the table and a line `%`, run on that circuit.
     Play {
         /// The words on the tapes.
         words: TapeWords<'a>,
@@ -203,6 +203,6 @@ impl<'a> Request<'a> {
     pub fn reads_input(&self) -> bool
         ensures { result ≡ reads_input (request_of self.now) }
     {
-        !matches!(self, Request::Generate { .. })
+        !matches!(self, Request::Generate { .. } | Request::Element { .. })
     }
 }

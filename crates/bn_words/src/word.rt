@@ -1,4 +1,4 @@
-//! What one word behind a command's name says.
+//! What one argument after a command's name says.
 
 ghost use Rattle.std.specs.Prelude.{◌∷◌, [], MatchOption};
 ghost use Rattle.bn_network_assembly.specs.Assembled.{limits_of};
@@ -11,7 +11,7 @@ use bn_base::{MOST_COUNT, read_u64};
 use bn_network_assembly::Windows;
 use bn_qtable::TapeWord;
 
-// The number that fills a word, `None` exactly where none of at most 2^62 does.
+// The number that fills an argument, `None` exactly if no number up to 2^62 does.
 pub(crate) fn number_of(word: &str) -> Option<u64>
     ensures { MatchOption result (IsNoNumber word.now) (IsNumber word.now) }
 {
@@ -27,7 +27,7 @@ pub(crate) fn number_of(word: &str) -> Option<u64>
     }
 }
 
-// The number that fills a word, `None` exactly where none of at most the greatest count does.
+// The number that fills an argument, `None` exactly if no number up to the greatest count does.
 pub(crate) fn count_of(word: &str) -> Option<u32>
     ensures { MatchOption result (IsNoCount word.now) (IsCount word.now) }
 {
@@ -38,7 +38,7 @@ pub(crate) fn count_of(word: &str) -> Option<u32>
     Some(number as u32)
 }
 
-// The number that fills a word, `None` exactly where none of at most the greatest number of steps of a drive does.
+// The number that fills an argument, `None` exactly if no number up to the greatest number of steps of a drive does.
 pub(crate) fn drive_steps_of(word: &str) -> Option<u64>
     ensures { MatchOption result (AreNoDriveSteps word.now) (AreDriveSteps word.now) }
 {
@@ -49,7 +49,7 @@ pub(crate) fn drive_steps_of(word: &str) -> Option<u64>
     Some(number)
 }
 
-// The letters behind the byte `=`, `None` exactly where the word doesn't begin with it.
+// The letters after the byte `=`, `None` exactly if the argument does not begin with it.
 pub(crate) fn letters_of(word: &str) -> Option<&[u8]>
     ensures { MatchOption result (IsNoWord word.now) (λ letters. IsWord word.now letters.now) }
 {
@@ -59,7 +59,7 @@ pub(crate) fn letters_of(word: &str) -> Option<&[u8]>
     }
 }
 
-// The word on a tape: letters behind the byte `=`, or names behind the byte `:`; `None` exactly where it begins with
+// The word on a tape: letters after the byte `=`, or names after the byte `:`; `None` exactly if it begins with
 // neither.
 pub(crate) fn tape_word(word: &str) -> Option<TapeWord<'_>>
     ensures { MatchOption result (IsNoTapeWord word.now) (λ read. IsTapeWord word.now (tape_word_of read)) }
@@ -71,7 +71,7 @@ pub(crate) fn tape_word(word: &str) -> Option<TapeWord<'_>>
     }
 }
 
-// The window of four limits, `None` exactly where one of them is no count.
+// The window of four limits, `None` exactly if one of them is no count.
 pub(crate) fn window_of(left: &str, right: &str, steps: &str, output: &str) -> Option<Windows>
     ensures { MatchOption result (AreNoLimits (left.now ∷ right.now ∷ steps.now ∷ output.now ∷ []))
         (λ window. AreLimits (left.now ∷ right.now ∷ steps.now ∷ output.now ∷ []) (limits_of window)) }

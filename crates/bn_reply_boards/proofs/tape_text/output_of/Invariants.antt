@@ -1,5 +1,5 @@
 use Rattle.std.proofs.Common.{◌≡◌, ◌++◌, drop}
-use Rattle.bn_reply_laws.specs.RunText.{output_from}
+use Rattle.bn_reply_relations.specs.RunText.{output_from}
 use Rattle.bn_reply_boards.proofs.tape_text.output_of.Given as goal
 
 abbrev pub invariant-loop-cell : goal.invariant-loop-cell

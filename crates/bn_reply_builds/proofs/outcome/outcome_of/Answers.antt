@@ -1,6 +1,6 @@
 use Rattle.std.proofs.Common.{◌∙◌, ap, sym, subst}
 use Rattle.std.proofs.lemmas.Result.{IfOk-weaker}
-use Rattle.bn_board_spec.specs.Layouts.{IsExit, Layout, spelled_by}
+use Rattle.bn_boards.specs.Layouts.{IsExit, Layout, spelled_by}
 use Rattle.bn_reply_builds.proofs.OutcomeLemmas.{not_inside}
 use Rattle.bn_reply_builds.proofs.outcome.outcome_of.Goals as goal
 

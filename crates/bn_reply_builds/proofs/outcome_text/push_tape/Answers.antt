@@ -4,7 +4,7 @@ use Rattle.bn_reply.specs.Lines.{line, position_text}
 use Rattle.bn_reply.proofs.FrontLemmas.{behind_first, if_refused, in_first, of_equal}
 use Rattle.bn_quad.specs.Names.{symbols_on}
 use Rattle.bn_reply_builds.specs.DriveText.{drive_cells_text}
-use Rattle.bn_reply_laws.specs.RunText.{head_text}
+use Rattle.bn_reply_relations.specs.RunText.{head_text}
 use Rattle.bn_reply_boards.specs.Shown.{bounds_text}
 use Rattle.bn_reply_boards.proofs.CellTextLemmas.{bounds_apart}
 use Rattle.bn_reply_builds.proofs.outcome_text.push_tape.Goals as goal

@@ -1,7 +1,7 @@
 -- The letters so far stand behind the head, and the window has room for so many only.
 use Rattle.std.proofs.Common.{◌-◌, length}
-use Rattle.bn_reply_tables.proofs.OutputLemmas.{HasRead}
-use Rattle.bn_reply_tables.proofs.machine_run.output_of.Given as goal
+use Rattle.bn_reply_machines.proofs.OutputLemmas.{HasRead}
+use Rattle.bn_reply_machines.proofs.machine_run.output_of.Given as goal
 
 abbrev pub invariant-loop-symbol : goal.invariant-loop-symbol
 invariant-loop-symbol l = HasRead l.tape l.position l.output.items
