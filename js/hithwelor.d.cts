@@ -29,6 +29,8 @@ export type {
   ReversibleMachine,
   Rule,
   Run,
+  Move,
+  SequentialKind,
   SequentialMachine,
   Signal,
   Table,

@@ -237,6 +237,13 @@ export function machineClasses(answer) {
   class SequentialMachine extends Table {
     static FIELDS = ["state", "input", "next", "output"];
 
+    // The reversible element with one bit of memory, from 1 to 10 lines, and this number, counted from 0 (Morita 2017).
+    static element(lines, number) {
+      const {status, text} = answer(["element", spelled(lines), spelled(number)], "");
+      if (status !== DONE) throw new Refused(status, text);
+      return new SequentialMachine(text);
+    }
+
     // Its bank of rotary elements, in a state, with the signal at an input line.
     realise(state, line) {
       return new Circuit(this.ask(["realise", spelled(state), spelled(line)]));

@@ -295,7 +295,7 @@ export interface ErasingMachine extends ReversibleMachine {
 }
 
 /** A reversible sequential machine, by its table of moves: numbers from 1. */
-export interface SequentialMachine extends Table<{state: string; input: string; next: string; output: string}> {
+export interface SequentialMachine extends Table<Move> {
   /** Its bank of rotary elements, in a state, with the signal at an input line. */
   realise(state: Count, line: Count): Circuit;
 }
@@ -306,13 +306,27 @@ export interface Kind<It, Entry> {
   fromRules(rules: Iterable<Entry | readonly string[]>): It;
 }
 
+/** A move of a sequential machine. */
+export interface Move {
+  state: string;
+  input: string;
+  next: string;
+  output: string;
+}
+
+/** The class of sequential machines. */
+export interface SequentialKind extends Kind<SequentialMachine, Move> {
+  /** The reversible element with one bit of memory, from 1 to 10 lines, and this number, counted from 0. */
+  element(lines: Count, number: Count): SequentialMachine;
+}
+
 export interface Hithwelor {
   /** The status and the text of the program's answer to words and an input. */
   answer(words: Iterable<Bytes>, input?: Bytes): {status: number; text: string};
   answerBytes(words: Iterable<Bytes>, input?: Bytes): {status: number; text: Uint8Array};
   readonly Machine: Kind<Machine, Rule>;
   readonly ReversibleMachine: Kind<ReversibleMachine, Quadruple>;
-  readonly SequentialMachine: Kind<SequentialMachine, {state: string; input: string; next: string; output: string}>;
+  readonly SequentialMachine: SequentialKind;
   readonly ErasingMachine: {new (first: Machine, second: Machine): ErasingMachine};
   readonly Circuit: {new (text: string | Uint8Array): Circuit};
   /** Several circuits under a schedule of a circuit's number, from 1, and its steps, below 0 for back. */

@@ -25,6 +25,8 @@ MEANINGS = {
     "I": "the line",
     "E": "the number of element steps",
     "k": "how many times",
+    "element k": "the number of lines, from 1 to 10",
+    "element n": "the element's number, from 0 to (2k)! - 1",
 }
 FILES = ("MACHINE", "CIRCUIT", "TABLE", "SCRIPT", "SCHEDULE")
 
@@ -131,7 +133,9 @@ def matched(use: Use, names: list[str], given: list[str]) -> dict[str, list[str]
     check_order(use, names, given)
     if len(given) < least:
         missing = [it.strip("[].") for it in names if not it.startswith("[")][len(given)]
-        raise Stop(f"{use.command}: {missing} is missing: {MEANINGS[missing]}{hint_of(missing)}", usage=use.command)
+        raise Stop(
+            f"{use.command}: {missing} is missing: {meaning_of(use, missing)}{hint_of(missing)}", usage=use.command
+        )
     if len(given) > len(names) and not repeated:
         raise Stop(f"{use.command}: `{given[len(names)]}` is surplus", usage=use.command)
     found: dict[str, list[str]] = {}
@@ -144,6 +148,11 @@ def matched(use: Use, names: list[str], given: list[str]) -> dict[str, list[str]
         found.setdefault(bare, []).extend(rest[:count])
         del rest[:count]
     return found
+
+
+def meaning_of(use: Use, name: str) -> str:
+    """What stands for this name in the usage of a command."""
+    return MEANINGS.get(f"{use.command} {name}") or MEANINGS[name]
 
 
 def hint_of(missing: str) -> str:

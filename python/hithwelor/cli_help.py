@@ -3,7 +3,7 @@ from __future__ import annotations
 
 import textwrap
 
-from .cli_args import MEANINGS
+from .cli_args import meaning_of
 from .forms import Use, commands, forms, forms_of, options, parts_of, quoted, statuses, twins, uses
 
 WIDTH, WIDEST = 11, 100
@@ -63,7 +63,7 @@ def arguments_of(use: Use) -> list[str]:
     """A line for each argument of a command."""
     lines = []
     for name in dict.fromkeys(it.strip("[].") for it in use.arguments.split()):
-        meaning = MEANINGS[name]
+        meaning = meaning_of(use, name)
         if name in ("MACHINE", "CIRCUIT", "TABLE"):
             meaning = f"{meaning}, or - for standard input: {files_of(use)}"
         elif name == "WORD":

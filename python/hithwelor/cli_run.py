@@ -163,7 +163,7 @@ class Translation:
     def read_numbers(self) -> None:
         """The numbers of options and arguments, by their letters."""
         arguments = self.arguments
-        for letter in ("Q", "I", "k", "E"):
+        for letter in ("Q", "I", "k", "n", "E"):
             for word in arguments.named.get(letter, []):
                 self.values[letter] = whole(word, letter, arguments.command, letter)
         if "E" in self.letters():

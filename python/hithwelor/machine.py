@@ -384,6 +384,13 @@ class SequentialMachine(Table):
         """The numbers of the states, in the order of their first appearance."""
         return tuple(dict.fromkeys(name for entry in self.entries for name in (entry[0], entry[2])))
 
+    @classmethod
+    def element(cls, lines: SupportsIndex, number: SupportsIndex) -> SequentialMachine:
+        """The reversible element with one bit of memory, from 1 to 10 lines, and this number, counted from 0 (Morita 2017).
+        A number that no such element has raises `Refused`."""
+        words = [str(whole(lines, "lines", 10, 1)), str(whole(number, "number", MOST_ELEMENT_STEPS))]
+        return cls(checked(*answer(["element", *words]), DONE))
+
     def realise(self, state: SupportsIndex, line: SupportsIndex) -> Circuit:
         """The machine's bank of rotary elements, in a state, with the signal at an input line."""
         return Circuit(self.ask(["realise", whole(state, "state", MOST_STEPS, 1), whole(line, "line", MOST_STEPS, 1)]))
