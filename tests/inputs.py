@@ -111,6 +111,7 @@ FORMS = {
     "view": {DONE: VIEW},
     "session": {DONE: PLAYED % VIEW},
     "generate": {DONE: rf"increments {N}\n{RUN}"},
+    "element": {DONE: rf"(?:{N},{N},{N},{N}\n)+"},
     "erase": {
         DONE: rf"{QUADRUPLES}|halted {N}\nwork ={WORD}\noutput ={WORD}\n",
         STUCK: rf"stuck [^\n]+ {N}\n",
@@ -277,6 +278,7 @@ def drawn_words(draw, name):
         "view": [word, *window, number(0, 1, 1000, 9999)],
         "session": [word, *window],
         "generate": ["1"],
+        "element": [number(1, 2, 4, 10), number(0, 1, 23, 24, 289)],
     }
     words = [name, *forms.get(name, [])]
     if name == "run" and draw.random() < 0.2:
@@ -352,6 +354,7 @@ HOSTILE = [
     ("farm", ELEMENT + b"%\n+ 1 1", 3, "text: schedule line 1 form"),
     ("machine =12 5", EXAMPLES["increment.csv"], 5, "word: 2"),
     ("realise 3 1", EXAMPLES["two-moves.csv"], 5, "word: state"),
+    ("element 1 2", b"", 5, "word: number"),
     ("layout = 0 2 2 1", b"", 3, "text: empty"),
     ("layout =1 0 2 2 1", LEAST, 5, "word: 1"),
     ("build = 0 2 2 1", b"S,/,/,/,+,0,0\n", 3, "text: record 1 fields"),

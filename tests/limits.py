@@ -582,6 +582,17 @@ def generated_increments(by):
         )
 
 
+# ---- numbered elements, up to the last one with ten lines
+
+
+@case
+def numbered_elements(by):
+    last = [f"{i // 10 + 1},{i % 10 + 1},{2 - i // 10},{10 - i % 10}" for i in range(20)]
+    by.expect("the last element", ["element", "10", "2432902008176639999"], b"", last)
+    by.expect("an element too many", ["element", "10", "2432902008176640000"], b"", ["word: number"], WORD)
+    by.expect("the greatest number", ["element", "1", "4611686018427387904"], b"", ["word: number"], WORD)
+
+
 # ---- windows that the program finds, up to the first circuit that is too large
 
 

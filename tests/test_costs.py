@@ -23,6 +23,11 @@ pytestmark = [pytest.mark.slow, pytest.mark.engine]
 
 # Bytes an element at the peak, and seconds of the processor on an idle machine.
 MOST_OF_READING, MOST_OF_WRITING, MOST_OF_READING_SECONDS, MOST_OF_LOOKING_UP_SECONDS = 29, 25, 0.6, 2
+# A word whose run makes 5,383,404,320 element steps in this window, and the seconds for them: some 2 when each move of a
+# module is made at once, and above 20 element by element.
+LONG, LONG_WINDOW, LONG_STEPS, MOST_OF_LEAPING_SECONDS = f"={'1' * 400}", ["1", "401", "804", "402"], 5_383_404_320, 6
+# Bytes at the peak for a trace of 800,000 steps, whose text has 32 million; some 14 million are those of what measures it.
+TRACED_STEPS, MOST_OF_TRACING = 800_000, 25_000_000
 
 BENEATH = r"""#define _GNU_SOURCE
 #include <dlfcn.h>
@@ -86,7 +91,29 @@ def hold_looking_up(program):
     held(seconds, MOST_OF_LOOKING_UP_SECONDS * limits.slowness(), "`moments` with the most quadruples, seconds")
 
 
-HOLDS = [hold_reading, hold_writing, hold_looking_up]
+def hold_leaping(program):
+    """`run`, and `drive` of the same machine, of five thousand million element steps."""
+    table = places.text_of("examples/increment.csv").encode()
+    quadruples = launched(program, ["bennett"], table)[3]
+    left, *others = LONG_WINDOW
+    for words, text in (
+        (["run", LONG, left, *others], table),
+        (["drive", LONG, left, *others, str(10 * LONG_STEPS)], quadruples),
+    ):
+        _, seconds, _, out = launched(program, words, text)
+        assert f"\nsteps {LONG_STEPS}\n".encode() in out
+        held(seconds, MOST_OF_LEAPING_SECONDS * limits.slowness(), f"`{words[0]}` of a long run, seconds")
+
+
+def hold_tracing(program):
+    """`trace` of many steps: its text isn't kept."""
+    table = b"S,_,_,+,A\nA,_,_,+,B\nB,_,_,-,A\nC,_,_,0,F\n"
+    _, _, memory, out = launched(program, ["trace", "=", str(TRACED_STEPS)], table, limits.INSIDE)
+    assert out.endswith(f"running {TRACED_STEPS}\n".encode())
+    held(memory, MOST_OF_TRACING, "`trace` of many steps, bytes")
+
+
+HOLDS = [hold_reading, hold_writing, hold_looking_up, hold_leaping, hold_tracing]
 
 
 @pytest.mark.parametrize("hold", HOLDS, ids=lambda it: it.__name__)
@@ -113,6 +140,7 @@ def planted(proved_program, laid_before, tmp_path_factory):
     [
         ("a text kept whole", hold_reading),
         ("a text kept whole", hold_writing),
+        ("a text kept whole", hold_tracing),
         ("a byte at a time", hold_reading),
         ("64 bits a line", hold_reading),
     ],

@@ -18,7 +18,8 @@ from people import called
 from places import TOP, text_of
 
 TABLE = "crates/bn_words/specs/Requests.antt"
-INCREMENTS = "crates/bn_gen/src/machine.rt"
+# The files with the limits of one command alone.
+OWN_LIMITS = {"MOST_INCREMENTS": "crates/bn_gen/src/machine.rt", "MOST_LINES": "crates/bn_rlem/src/element.rt"}
 MAN_PAGE = "docs/use/workbench.1"
 # The kind of word that stands for each letter of a form.
 KINDS = {
@@ -29,6 +30,8 @@ KINDS = {
     "Q": "Ordinal MOST_COUNT",
     "I": "Ordinal MOST_COUNT",
     "k": "Ordinal MOST_INCREMENTS",
+    "element k": "Ordinal MOST_LINES",
+    "element n": "Count greatest",
     **dict.fromkeys(["l1", "r1", "n", "r2", "r3"], "Count MOST_COUNT"),
 }
 # Words that have no form, and what is said to them in one line.
@@ -99,6 +102,7 @@ def kind_of(number, allowed):
     for limit, kind in [
         (rf"\bIsOrdinal {number}\b", "Ordinal MOST_COUNT"),
         (rf"\bIsRoundCount {number}\b", "Ordinal MOST_INCREMENTS"),
+        (rf"\bIsLineCount {number}\b", "Ordinal MOST_LINES"),
     ]:
         if re.search(limit, allowed):
             return kind
@@ -165,8 +169,10 @@ def test_the_forms_are_the_programs():
 
 def limit_of(letter):
     """The greatest number of this letter, by the program's own limits."""
-    most = int(re.search(r"^pub const MOST_INCREMENTS: u32 = (\d+);$", text_of(INCREMENTS), flags=re.M)[1])
-    return {**GREATEST, "MOST_INCREMENTS": most}[KINDS[letter].split()[1]]
+    name = KINDS[letter].split()[1]
+    if name in OWN_LIMITS:
+        return int(re.search(rf"^pub const {name}: u32 = (\d+);$", text_of(OWN_LIMITS[name]), flags=re.M)[1])
+    return GREATEST[name]
 
 
 def told_limits(letter):
@@ -183,7 +189,9 @@ def test_the_limits_of_the_numbers_are_the_programs(letter):
 
 def test_the_commands_that_read_nothing_are_the_programs():
     names = {case: name for case, name, _, _ in cases()}
-    inputless = [names[it] for it in re.findall(r"^reads_input \((\w+) \w+\) = false$", text_of(TABLE), flags=re.M)]
+    inputless = [
+        names[it] for it in re.findall(r"^reads_input \((\w+)(?: \w+)+\) = false$", text_of(TABLE), flags=re.M)
+    ]
     assert commands("unread") == inputless
 
 

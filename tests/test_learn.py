@@ -12,7 +12,7 @@ import subprocess
 
 import places
 import pytest
-from hithwelor import answers
+from hithwelor import ReversibleMachine, answers
 
 PATTERNS = [
     "docs/learn/lecture*.md",
@@ -24,7 +24,7 @@ PATTERNS = [
 PAGES = sorted(
     os.path.relpath(path, places.TOP) for pattern in PATTERNS for path in glob.glob(os.path.join(places.TOP, pattern))
 )
-LECTURES = [f"docs/learn/lecture-{number}.md" for number in range(1, 5)]
+LECTURES = [f"docs/learn/lecture-{number}.md" for number in range(1, 6)]
 QUESTIONS = "docs/learn/questions.md"
 LINK = re.compile(r'\[[^\]]*\]\(([^()\s]+(?:\([^()]*\)[^()\s]*)*)(?: "([^"]*)")?\)')
 
@@ -100,7 +100,7 @@ def test_a_lecture_says_all_that_is_needed(page):
     text = places.text_of(page)
     wanted = [
         "The plan",
-        "On the board",
+        "On the blackboard",
         "Answers to what the plan asks",
         "In the terminal",
         "The sheet and the exercises",
@@ -157,3 +157,48 @@ def test_the_sources_of_the_questions_are_in_the_list():
         assert any(name in entry and entry.endswith(f"{year}.") for entry in entries), (name, year)
     for entry in entries:
         assert any(name in entry and entry.endswith(f"{year}.") for name, year in cited), entry
+
+
+references = places.tool("build/references")
+
+
+def entries():
+    return list(references.entries_of(places.text_of("docs", "learn", "references.bib")))
+
+
+def test_the_page_of_references_is_that_of_the_bibliography():
+    with open(references.BIBLIOGRAPHY, encoding="utf-8") as file:
+        assert len(entries()) == len(re.findall(r"(?m)^@", file.read())) == len({it["key"] for it in entries()})
+    page = places.text_of("docs", "learn", "references.md")
+    assert references.page_of(page, places.text_of("docs", "learn", "references.bib")) == page
+    for it in entries():
+        assert it["status"] in references.STATUSES and it["use"] and it["key"].endswith(it["year"]), it["key"]
+
+
+def test_the_sources_of_the_questions_are_in_the_bibliography():
+    listed = places.text_of(QUESTIONS).split("\n## Sources\n")[1]
+    titles = {it["title"]: it["year"] for it in entries()}
+    for line in re.findall(r"(?m)^- (.*)$", listed):
+        title = re.search(r'"(.*?)"|\*(.*?)\*', line)
+        assert titles[title[1] or title[2]] == line[-5:-1], line
+
+
+@pytest.mark.parametrize("page", [*LECTURES, "docs/learn/pebbles.md"])
+def test_an_author_and_a_year_are_in_the_bibliography(page):
+    """As `Kari 1994`, or `Mukai and others 2014`: the name before a year."""
+    years = {(name, it["year"]) for it in entries() for name in re.findall(r"\w+", it["author"])}
+    text = re.sub(r"(?ms)^```.*?^```", "", places.text_of(page))
+    found = re.findall(r"([^\W\d_]\w+)(?: and others)? \(?(1[89]\d\d|20\d\d)\b", text)
+    assert found and not [it for it in found if it[0][0].isupper() and it not in years]
+
+
+@pytest.mark.engine
+def test_the_elements_of_moritas_example_are_those_of_its_parts(answering):
+    machine = ReversibleMachine.open(os.path.join(places.TOP, "examples", "morita-parity.csv"))
+    windows = [(0, 3, 0, 0), (0, 4, 0, 0), (0, 3, 1, 0), (0, 3, 0, 1)]
+    whole, *others = (machine.build(["11", "", ""], window).elements for window in windows)
+    assert [it - whole for it in others] == [52, 22, 22] and whole == 462 == 4 * 52 + 2 * 22 + 210
+    page = places.text_of("docs", "learn", "morita.md")
+    assert "4·52 elements" in page and "have 2·22, and the control has 210: together 462." in page
+    for ones in range(9):
+        assert machine.moments("1" * ones).outcome.kind == ("stuck" if ones % 2 else "halted")

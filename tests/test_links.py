@@ -12,9 +12,10 @@ import pytest
 from places import TOP, text_of
 
 LINK = re.compile(r'!?\[[^\]]*\]\(([^()\s]+(?:\([^()]*\)[^()\s]*)*)(?: "[^"]*")?\)')
-# What holds names of pages but isn't text of this repository's own: what is built, and what an editor compares.
-BUILT = ("page/hithwelor.html", "bin/hithwelor", "tests/machines/", "CHANGELOG.md")
-NAME = re.compile(r"(?<![\w./-])docs/(?:learn|use|trust|develop|pictures)/[\w.-]+\.(?:md|1|svg|png)(?![\w.-]*\w)")
+# Files that may name pages that do not exist: what is built, texts of others, the record of changes, and a test that
+# invents a page.
+BUILT = ("page/hithwelor.html", "bin/hithwelor", "tests/machines/", "CHANGELOG.md", "tests/test_install.py")
+NAME = re.compile(r"(?<![\w./-])docs/[\w./-]+\.(?:md|1|svg|png)(?![\w.-]*\w)")
 
 
 def tracked():

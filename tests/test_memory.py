@@ -64,6 +64,7 @@ SMALL = [
     ("look =1 =0 = 0 1 1 0 4000", "controlled-not.csv"),
     ("play =11 =110 = 0 3 4 3", "adder-session.txt"),
     ("generate 1", None),
+    ("element 4 289", None),
     ("erase", "least-twice.txt"),
     ("erase =1 40", "not-twice.txt"),
     ("farm", "two-boards.txt"),

@@ -26,6 +26,7 @@ _hithwelor_options() {
     erase) echo "--steps --names --as --blank --halt --json --verbose --help -h" ;;
     realise) echo "--as --json --verbose --help -h" ;;
     generate) echo "--as --json --verbose --help -h" ;;
+    element) echo "--as --json --verbose --help -h" ;;
     drive) echo "--window --left --right --history --output --steps --element-steps --names --as --blank --halt --json --verbose --help -h" ;;
     look) echo "--at --window --left --right --history --output --steps --names --as --blank --halt --json --verbose --help -h" ;;
     play) echo "--interactive -i --window --left --right --history --output --steps --names --as --blank --halt --json --verbose --help -h" ;;
@@ -38,7 +39,7 @@ _hithwelor() {
     local word=${COMP_WORDS[COMP_CWORD]} command=${COMP_WORDS[1]-} list=""
     COMPREPLY=()
     if [ "$COMP_CWORD" = 1 ] || { [ "$COMP_CWORD" = 2 ] && [ "$command" = help ]; }; then
-        list="back bennett build check compile drive erase farm generate help inverse layout look machine migrate mirror moments plan play realise reversible run session standard step trace view"
+        list="back bennett build check compile drive element erase farm generate help inverse layout look machine migrate mirror moments plan play realise reversible run session standard step trace view"
         [[ ${COMP_WORDS[0]##*/} = hithwelor ]] && list+=" sweep plot"
     elif [ "${COMP_WORDS[COMP_CWORD - 1]}" = --as ]; then
         list="quintuples quadruples sequential circuit jflap yaml morphett bbchallenge"

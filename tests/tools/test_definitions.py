@@ -110,7 +110,7 @@ class Printing(unittest.TestCase):
     def test_what_stands_behind_a_relation_is_listed(self):
         status, text, _ = printed("CheckReplies")
         self.assertEqual(status, 0)
-        self.assertIn("Rattle.bn_standard.specs.Standard IsStandard ", text)
+        self.assertIn("Rattle.bn_machine.specs.Standard IsStandard ", text)
         self.assertIn("Rattle.bn_table.specs.Rows SpellsQuintuples ", text)
         self.assertNotIn("bn_netlist", text)
 
