@@ -1,6 +1,6 @@
 // The heap of the module for browsers: malloc, realloc and free over memory.grow, and the three functions by which
 // Rattle's `Global` calls them; on a machine of its own the toolchain's file does the same over the C library. Blocks
-// are aligned to 16 bytes. No proof covers this file: docs/EMBED.md names it among what is trusted.
+// are aligned to 16 bytes. No proof covers this file: docs/use/embed.md names it among what is trusted.
 typedef __SIZE_TYPE__ size_t;
 typedef unsigned char u8;
 

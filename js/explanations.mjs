@@ -43,6 +43,7 @@ export const EXPLANATIONS = [
   ["word: (\\d+) (\\d+)", "place {2} of the word on tape {1} has no symbol of that tape", "letters are the tape's symbols but the blank"],
   ["word: state", "the sequential machine has no such state", "states are counted from 1"],
   ["word: line", "the sequential machine has no such line", "lines are counted from 1"],
+  ["word: number", "no element has this number", "elements with k lines are numbered from 0 to (2k)! - 1"],
   ["size: input", "the input has more than 268,435,456 bytes", "give a smaller one"],
   ["size: symbols (\\d+) (\\d+)", "tape {1} has {2} symbols, more than 4,001", "write each symbol as two of a smaller alphabet"],
   ["size: word needs (\\d+)", "the word needs {1} cells right of the start", "--right {1} or more"],
@@ -53,5 +54,5 @@ export const EXPLANATIONS = [
   ["size: quadruples (\\d+)", "the machine would have {1} quadruples, more than 20,000", "give the machines fewer quintuples"],
   ["read fault", "the input can't be read: it is a folder, or closed", "give a file, or a pipe"],
 ];
-export const FORMS = ["step E", "back E", "check", "machine =W n", "trace =W n", "moments =W n", "moments =W1 =W2 =W3 n", "standard", "bennett", "reversible", "inverse", "realise Q I", "compile =W l1 r1 n r3", "layout =W l1 r1 n r3", "build =W l1 r1 r2 r3", "build =W1 =W2 =W3 l1 r1 r2 r3", "drive =W l1 r1 r2 r3 E", "drive =W1 =W2 =W3 l1 r1 r2 r3 E", "look =W l1 r1 r2 r3 E", "look =W1 =W2 =W3 l1 r1 r2 r3 E", "play =W l1 r1 r2 r3", "play =W1 =W2 =W3 l1 r1 r2 r3", "run =W l1 r1 n r3", "run =W l1 r1 n r3 E", "run =W auto", "view =W l1 r1 n r3 E", "session =W l1 r1 n r3", "plan", "migrate", "mirror", "farm", "generate k", "erase", "erase =W n"];
+export const FORMS = ["step E", "back E", "check", "machine =W n", "trace =W n", "moments =W n", "moments =W1 =W2 =W3 n", "standard", "bennett", "reversible", "inverse", "realise Q I", "compile =W l1 r1 n r3", "layout =W l1 r1 n r3", "build =W l1 r1 r2 r3", "build =W1 =W2 =W3 l1 r1 r2 r3", "drive =W l1 r1 r2 r3 E", "drive =W1 =W2 =W3 l1 r1 r2 r3 E", "look =W l1 r1 r2 r3 E", "look =W1 =W2 =W3 l1 r1 r2 r3 E", "play =W l1 r1 r2 r3", "play =W1 =W2 =W3 l1 r1 r2 r3", "run =W l1 r1 n r3", "run =W l1 r1 n r3 E", "run =W auto", "view =W l1 r1 n r3 E", "session =W l1 r1 n r3", "plan", "migrate", "mirror", "farm", "generate k", "element k n", "erase", "erase =W n"];
 export const MEANINGS = {"2": "the arguments can't be read, or a file is missing", "3": "the input has a fault in its form", "4": "the command doesn't take this machine", "5": "the word has a letter that the table doesn't have", "6": "the word, the circuit or the input is too large", "7": "the input can't be read: it is a folder, or closed", "8": "the output was not taken whole: it is closed, or its device is full", "9": "out of memory"};

@@ -79,7 +79,7 @@ export const GLOSSARY = [
   ["reversible",
     "Every configuration has at most one predecessor, so every step can be undone."],
   ["reversible sequential machine",
-    "A finite machine whose table maps a state and an input line to a state and an output line, one to one (Morita). Here a table may leave pairs out."],
+    "A finite machine whose table maps a state and an input port to a state and an output port, one to one. Total in Morita 2017; here a table may leave pairs out."],
   ["rotary element",
     "A box with a bar and four input and four output ports (Morita). A signal along the bar goes straight on; a signal across it turns right, and the bar turns."],
   ["row",

@@ -1,5 +1,5 @@
 // Reads what `layout` tells of a board: its modules by their elements, the states of the control and of the cells by their
-// columns, and the names of their lines. docs/FORMATS.md, Layout, has its text. It judges nothing: the text is the program's
+// columns, and the names of their lines. docs/use/formats.md, Layout, has its text. It judges nothing: the text is the program's
 // own.
 import {matchOf} from "./texts.js";
 

@@ -142,7 +142,7 @@ export class Moments {
     if ((it.state !== null || it.hasLeft) && !(isCopy && this.copyAt !== null)) this.stops.machine.push(start);
     if (isCopy) this.copyAt ??= q;
   }
-  // What the name of a state of Bennett's machine says: docs/FORMATS.md, Bennett's table.
+  // What the name of a state of Bennett's machine says: docs/use/formats.md, Bennett's table.
   /** @type {(name: string) => Pick<Moment, "name" | "stage" | "state" | "rule">} */
   kindOf(name) {
     if (name.startsWith("B")) return {name, stage: "copy", state: this.rules.at(-1)?.next ?? null, rule: null};

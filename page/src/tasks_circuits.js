@@ -122,7 +122,7 @@ export const CIRCUIT_TASKS = [
          "The machine is in state 2, and the signal comes in by port 2. How many steps does the whole move take?"],
    fields: [{key: "steps", label: "steps", size: 4}], check: checkMove},
   {number: 9, title: "How far a reading goes", machine: {key: "least", word: "", window: [0, 2, 2, 1], e: 6540},
-   ask: ["The circuit of the least machine has made its first row step after 6,540 steps. The control has just sent " +
+   ask: ["The circuit of the least machine has made its first quadruple step after 6,540 steps. The control has just sent " +
      "a command that reads tape 2, whose head is at cell 1.",
          "How many cells does the signal go through, there and back, before the answer is at the control? And after " +
            "how many element steps, from the start, is it there?"],

@@ -1,4 +1,4 @@
-// The types of what the page holds, for tsc alone: nothing of it is in the page. docs/FORMATS.md says where the numbers
+// The types of what the page holds, for tsc alone: nothing of it is in the page. docs/use/formats.md says where the numbers
 // come from. Unless it is said otherwise, what is counted is counted from 0: element steps from the start of the run,
 // elements as the circuit's text lists them, cells from the one on which a word begins, and left of it below 0. Tapes,
 // rules and the lines of a text are counted from 1, as the program counts them.
@@ -110,7 +110,7 @@ interface CellState { letter: string; hasHead: boolean }
 /** What all cells of a tape have alike: a state a column, a name a line, and the letters in the order of their numbers; and the
     cells themselves by their positions. */
 interface TapeLayout { columns: CellState[]; lines: string[]; letters: string[]; cells: Map<number, Bank> }
-/** What the board of a run is made of, as `layout` tells it: docs/FORMATS.md, Layout. `tapes` has those of tape 1, 2 and 3; `bases` and
+/** What the board of a run is made of, as `layout` tells it: docs/use/formats.md, Layout. `tapes` has those of tape 1, 2 and 3; `bases` and
     `rows` are those of the banks, in their order. */
 interface Layout {
   count: number; banks: Bank[]; control: { columns: ControlState[]; lines: { into: string; out: string }[] }; tapes: TapeLayout[];
