@@ -10,6 +10,7 @@ function plain(value, bench) {
 
 function called({kind, text, name, args}, bench) {
   const it = new bench[kind](text), what = it[name];
+  if (what === undefined) throw new TypeError(`${kind} has nothing called ${name}`);
   return plain(typeof what === "function" ? what.apply(it, args) : what, bench);
 }
 

@@ -57,7 +57,10 @@ class Parser(argparse.ArgumentParser):
         found = re.search(r"unrecognized arguments: (--?[\w-]+)", message)
         if found:
             names = [f"--{it}" for it in uses()[command].options]
-            close = difflib.get_close_matches(found[1].split("=")[0], names, 1, 0.5)
+            word = found[1].split("=")[0]
+            close = difflib.get_close_matches(word, names, 1, 0.5)
+            if word == "--element-steps" and "--at" in names:
+                close = ["--at"]
             behind = f"; did you mean {close[0]}?" if close else f"; a word that begins with - stands behind --"
             raise Stop(f"{command} has no option {found[1]}{behind}", usage=command)
         message = re.sub(r"argument (--[\w-]+)(/-\w)?: expected one argument", r"\1: its value is missing", message)

@@ -319,7 +319,8 @@ def tell_ending(status: int, text: bytes, arguments: Arguments) -> None:
         state, *rest = found[1].split(" ")
         letters = rest if found[0].startswith("exit") else rest[:-1]
         told = " ".join(letters)
-        way = " ".join(["trace", *arguments.files(), *(it or "''" for it in arguments.named.get("WORD", []))])
+        given = [f"--{it} {arguments.given[it]}" for it in ("as", "blank", "halt") if it in arguments.given]
+        way = " ".join(["trace", *arguments.files(), *(it or "''" for it in arguments.named.get("WORD", [])), *given])
         say(f"stuck: nothing is for state {state} and {told}; hithwelor {way} prints the way there")
     room = re.search(r"^exit window (\d) (left|right)$", text.decode(errors="replace"), flags=re.M)
     if room:

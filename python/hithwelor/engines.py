@@ -68,7 +68,10 @@ class Library(Engine):
 
     def __init__(self, path: str) -> None:
         self.path, self.kept, self.closed = path, threading.local(), False
-        self.call = ctypes.CDLL(path).hithwelor_answer
+        try:
+            self.call = ctypes.CDLL(path).hithwelor_answer
+        except (OSError, AttributeError) as fault:
+            raise Unavailable(f"{path} is not the program's shared library: {fault}") from fault
         self.call.restype = ctypes.c_uint32
         self.call.argtypes = [
             ctypes.c_char_p,

@@ -174,7 +174,10 @@ def halting_state(machine, wanted, where):
             raise Fault(f"{where}: no state is called {shown(wanted)}")
         halting = [wanted]
     if not halting:
-        raise Fault(f"{where}: no state halts, so no last rule can be there; --halt names a state")
+        left = {rule.state for rule in machine.rules}
+        ends = list(dict.fromkeys(rule.following for rule in machine.rules if rule.following not in left))
+        told = f"--halt names one: {', '.join(ends)}" if ends else "and each state has rules: add one in which it halts"
+        raise Fault(f"{where}: no state halts by its name; {told}")
     for rule in machine.rules:
         if rule.state in halting:
             raise Fault(
