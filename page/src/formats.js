@@ -141,8 +141,12 @@ function haltingOf(machine, wanted, where) {
   if (wanted !== null && !states.includes(wanted))
     throw new Error(`${where}: no state is called ${shown(wanted)}`);
   const halting = wanted === null ? machine.halting : [wanted];
-  if (!halting.length)
-    throw new Error(`${where}: no state halts, so no last rule can be there; --halt names a state`);
+  if (!halting.length) {
+    const left = new Set(machine.rules.map(it => it.state));
+    const ends = [...new Set(machine.rules.map(it => it.following))].filter(it => !left.has(it));
+    const told = ends.length ? `--halt names one: ${ends.join(", ")}` : "and each state has rules: add one in which it halts";
+    throw new Error(`${where}: no state halts by its name; ${told}`);
+  }
   const leaves = machine.rules.find(it => halting.includes(it.state));
   if (leaves)
     throw new Error(`${leaves.place}: leaves ${shown(leaves.state)}, in which the machine halts; `

@@ -80,7 +80,7 @@ function pastsPicture(run, at, {width, size, from}) {
   const went = from === null ? "" : `${why}, so here is the nearest step at which several fit: step ${moment.step}. `;
   const here = `${many} rules lead to this configuration, so it has ${String(many).toLowerCase()} possible pasts. The machine can't tell which came before:`;
   const said = pasts.length > 1 ? `${went}This step can't be undone. ${here}`
-    : pasts.length ? "Only one rule fits here, and at every step on this word. But the machine keeps nothing that would show it."
+    : pasts.length ? "Only one rule fits here, and at every step on this word so far. But the table has no rules for running backward."
       : "This is the start, so there is no past.";
   return `<div class="l-pasts" role="group" aria-label="possible pasts"><p class="fault">${said}</p><div class="l-row">${shown.join("")}</div></div>`;
 }
