@@ -1,0 +1,18 @@
+-- The least window by the extent of the head (this project's own definition). Lemmas say that it is the least.
+use Rattle.std.specs.Prelude.{ℕ, suc, ◌+◌, max, ℤ, pos, ◌+ℤ◌}
+use Rattle.bn_machine.specs.Outcome.{Limits}
+use Rattle.bn_extents.specs.Extents.{cells_right}
+
+-- From a word with so many letters, of a run of these steps that halts with its head at this position and so many
+-- letters in its output: the output and the blank behind it are copied.
+abbrev pub halted_limits : ℕ → ℕ → ℕ → ℕ → ℤ → ℕ → Limits
+halted_limits word left right steps head letters = record {
+  left = left;
+  right = max (max right word) (cells_right (head +ℤ pos (suc letters)));
+  steps = steps;
+  output = letters + 1;
+}
+
+-- the same of a run that is stuck: nothing is copied
+abbrev pub stuck_limits : ℕ → ℕ → ℕ → ℕ → Limits
+stuck_limits word left right steps = record { left = left; right = max right word; steps = steps; output = 0 }

@@ -1,0 +1,4 @@
+pub mod Extents
+pub mod LeastWindow
+pub mod Formula
+pub mod Laws

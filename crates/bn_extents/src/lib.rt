@@ -1,0 +1,6 @@
+//! How far the heads of a machine go, and the least window in which its bounded run ends as the machine itself does.
+#![tactic(auto)]
+
+mod laws;
+
+pub use laws::extents_laws;
