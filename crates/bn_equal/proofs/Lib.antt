@@ -1,0 +1,11 @@
+pub mod OrderLemmas
+pub mod AnswerLemmas
+pub mod LawLemmas
+pub mod RowLemmas
+pub mod SortLemmas
+pub mod ListLemmas
+pub mod ClassLemmas
+pub mod SearchLemmas
+pub mod WordLemmas
+pub mod ExploreLemmas
+pub mod ExistenceLemmas

@@ -1,0 +1,17 @@
+//! Equality of states of reversible sequential machines: whether two states answer every sequence of input lines alike,
+//! and the least sequence that tells them apart.
+#![tactic(auto)]
+
+mod apart;
+mod classes;
+mod comparison;
+mod explore;
+mod laws;
+mod meeting;
+mod pair;
+mod rows;
+mod search;
+
+pub use bn_lists::NoMemory;
+pub use comparison::{Comparison, Difference, compare};
+pub use laws::equal_laws;

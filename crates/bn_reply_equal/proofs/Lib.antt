@@ -1,0 +1,4 @@
+pub mod SecondLemmas
+pub mod ReadLemmas
+pub mod SettledLemmas
+pub mod ReplyLemmas

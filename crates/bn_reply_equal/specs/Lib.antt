@@ -1,0 +1,4 @@
+pub mod Second
+pub mod EqualReply
+pub mod Replied
+pub mod Laws
