@@ -6,7 +6,8 @@ use Rattle.bn_circuits.specs.declared.place.Place.{Place}
 use Rattle.bn_words.specs.Requests.{HasForm, IsAllowed, Request, of_configuration, of_whole, reads_input, Step, Back}
 use Rattle.bn_words.specs.Requests.{Check, Machine, Trace, Moments, ThreeMoments, Reversible, Inverse, Bennett, Realise}
 use Rattle.bn_words.specs.Requests.{Standard, Build, Compile, Drive, Layout, Run, RunAuto, View, Session, Look, Play}
-use Rattle.bn_words.specs.Requests.{Plan, Migrate, Mirror, Farm, Generate, Element, Erase, EraseRun}
+use Rattle.bn_words.specs.Requests.{Plan, Migrate, Mirror, Farm, Generate, Element, Erase, EraseRun, Window}
+use Rattle.bn_words.specs.Requests.{Behaviour, Crossings, Equal}
 use Rattle.bn_words.specs.declared.request.ConfigurationRequest as configuration
 use Rattle.bn_words.specs.declared.request.ConfigurationRequest.TheVariants as configuration_variants
 use Rattle.bn_words.specs.declared.request.WholeRequest as whole
@@ -27,6 +28,11 @@ use Rattle.bn_reply_relations.proofs.SettledLemmas.{back_settled, migrate_settle
 use Rattle.bn_reply_circuits.proofs.MirrorLemmas.{mirror_settled}
 use Rattle.bn_reply_circuits.proofs.FarmReplyLemmas.{farm-settled}
 use Rattle.bn_reply_circuits.proofs.RealiseLemmas.{realise_settled}
+use Rattle.bn_reply_behaviours.specs.BehaviourReply.{behaviour_text}
+use Rattle.bn_reply_behaviours.specs.CrossingsReply.{crossings_text}
+use Rattle.bn_reply_behaviours.proofs.SettledLemmas.{exploring_settled}
+use Rattle.bn_reply_equal.proofs.SettledLemmas.{equal_settled}
+use Rattle.bn_reply_windows.proofs.WindowLemmas.{window_settled}
 use Rattle.bn_reply_machines.proofs.StandardLemmas.{standard_settled}
 use Rattle.bn_reply_circuits.proofs.PlanReplyLemmas.{plan_settled}
 use Rattle.bn_reply_circuits.proofs.ElementReplyLemmas.{element_settled}
@@ -79,6 +85,10 @@ settled_by (Generate k) allowed = λ bytes. generate_settled k allowed
 settled_by (Element k n) allowed = λ bytes. element_settled k n
 settled_by Erase allowed = erase_settled
 settled_by (EraseRun word n) allowed = erase_run_settled word n
+settled_by (Window word n) allowed = window_settled word n
+settled_by (Behaviour n e names) allowed = λ bytes. exploring_settled behaviour_text n e names bytes allowed.0.0
+settled_by (Crossings n e names) allowed = λ bytes. exploring_settled crossings_text n e names bytes allowed.0.0
+settled_by (Equal q r) allowed = λ bytes. equal_settled q r bytes allowed.0.0 allowed.1.0
 
 -- what is asked for has one answer and only one
 pub settled : (words : List (List ℕ)) (request : Request) → HasForm words request → (bytes : List ℕ)
@@ -127,6 +137,8 @@ configuration_reads (configuration_variants.Back e) = refl
 configuration_reads configuration_variants.Plan = refl
 configuration_reads configuration_variants.Migrate = refl
 configuration_reads configuration_variants.Mirror = refl
+configuration_reads (configuration_variants.Behaviour n e names) = refl
+configuration_reads (configuration_variants.Crossings n e names) = refl
 
 pub whole_reads : (asked : whole.WholeRequest) → reads_input (of_whole asked) ≡ true
 whole_reads whole_variants.Check = refl
@@ -152,3 +164,5 @@ whole_reads (whole_variants.Play words window) = refl
 whole_reads whole_variants.Farm = refl
 whole_reads whole_variants.Erase = refl
 whole_reads (whole_variants.EraseRun word n) = refl
+whole_reads (whole_variants.Window word n) = refl
+whole_reads (whole_variants.Equal q r) = refl

@@ -5,7 +5,8 @@ use Rattle.bn_circuits.specs.declared.place.Place.{Place}
 use Rattle.bn_words.specs.Requests.{Request, HasForm, HasNoForm, reads_input, Step, Back, Check, Machine, Trace}
 use Rattle.bn_words.specs.Requests.{Moments, ThreeMoments, Reversible, Inverse, Bennett, Realise, Standard, Build}
 use Rattle.bn_words.specs.Requests.{Compile, Drive, Layout, Run, RunAuto, View, Session, Look, Play, Plan, Migrate}
-use Rattle.bn_words.specs.Requests.{Mirror, Farm, Generate, Element, Erase, EraseRun}
+use Rattle.bn_words.specs.Requests.{Mirror, Farm, Generate, Element, Erase, EraseRun, Window, Behaviour}
+use Rattle.bn_words.specs.Requests.{Crossings, Equal}
 use Rattle.bn_reply_relations.specs.CompileReply.{CompileReplies}
 use Rattle.bn_reply.specs.declared.limits.TheConstants.{MOST_INPUT_BYTES}
 use Rattle.bn_reply_relations.specs.RunReply.{RunReplies}
@@ -34,6 +35,10 @@ use Rattle.bn_reply_traces.specs.MomentsReply.{MomentsReplies, ThreeMomentsRepli
 use Rattle.bn_reply_traces.specs.TraceReply.{TraceReplies}
 use Rattle.bn_reply_views.specs.SessionReply.{SessionReplies}
 use Rattle.bn_reply_views.specs.ViewReply.{ViewReplies}
+use Rattle.bn_reply_windows.specs.WindowReply.{WindowReplies}
+use Rattle.bn_reply_behaviours.specs.BehaviourReply.{BehaviourReplies}
+use Rattle.bn_reply_behaviours.specs.CrossingsReply.{CrossingsReplies}
+use Rattle.bn_reply_equal.specs.EqualReply.{EqualReplies}
 use Rattle.bn_reply.specs.Streams.{size_text}
 use Rattle.bn_reply.specs.declared.status.Status.{Status}
 use Rattle.bn_reply.specs.declared.status.Status.TheVariants.{Usage, Size}
@@ -74,6 +79,10 @@ Replies (Generate k) = λ bytes. GenerateReplies k
 Replies (Element k n) = λ bytes. ElementReplies k n
 Replies Erase = EraseReplies
 Replies (EraseRun word n) = EraseRunReplies word n
+Replies (Window word n) = WindowReplies word n
+Replies (Behaviour n e names) = BehaviourReplies n e names
+Replies (Crossings n e names) = CrossingsReplies n e names
+Replies (Equal q r) = EqualReplies q r
 
 -- The answer, by the first case that applies: the arguments have no form; they ask for a command that reads no input;
 -- the input is too long; otherwise the answer to the request and the input.

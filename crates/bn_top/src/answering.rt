@@ -16,12 +16,14 @@ use bn_circuits::Watch;
 use bn_headline::reply_run_auto;
 use bn_io::{Input, ReadRefusal, Sink, piece_size, read_whole};
 use bn_reply::{MOST_INPUT_BYTES, Status, finish, give_reply, tell_long_input, tell_read_fault};
+use bn_reply_behaviours::{answer_behaviour, answer_crossings};
 use bn_reply_boards::{answer_compile, reply_generate, reply_run};
 use bn_reply_builds::{answer_build, reply_drive};
 use bn_reply_circuits::{
     answer_back, answer_migrate, answer_mirror, answer_plan, answer_realise, answer_step,
     reply_element, reply_farm,
 };
+use bn_reply_equal::reply_equal;
 use bn_reply_erase::{reply_erase, reply_erase_run};
 use bn_reply_layout::answer_layout;
 use bn_reply_looks::{reply_look, reply_play};
@@ -30,6 +32,7 @@ use bn_reply_machines::{
 };
 use bn_reply_traces::{answer_moments, answer_three_moments, answer_trace};
 use bn_reply_views::{reply_session, reply_view};
+use bn_reply_windows::reply_window;
 use bn_words::{ConfigurationRequest, Request, WholeRequest, read_words};
 use std::alloc::Global;
 
@@ -65,11 +68,12 @@ pub(crate) fn answer_words<I: Input, K: Sink, W: Watch>(
 // Answers a command on a configuration text, which is read in pieces.
 fn answer_configuration<I: Input, K: Sink, W: Watch>(
     alloc: Global,
-    asked: &ConfigurationRequest,
+    asked: &ConfigurationRequest<'_>,
     input: &mut I,
     sink: &mut K,
     watch: &mut W,
 ) -> Status
+    requires { IsAllowed (of_configuration asked.now) }
     ensures ends { StreamEnds (Replies (of_configuration asked.now)) result
         (outside (I.left input.old) (K.taken sink.old) (W.told watch.old) (I.faults input.old) (K.faults sink.old))
         (outside (I.left input.new) (K.taken sink.new) (W.told watch.new) (I.faults input.new) (K.faults sink.new)) }
@@ -85,6 +89,16 @@ fn answer_configuration<I: Input, K: Sink, W: Watch>(
         ConfigurationRequest::Plan => answer_plan(alloc, input, sink),
         ConfigurationRequest::Migrate => answer_migrate(alloc, input, sink),
         ConfigurationRequest::Mirror => answer_mirror(alloc, input, sink),
+        ConfigurationRequest::Behaviour {
+            most_states,
+            most_steps,
+            names,
+        } => answer_behaviour(alloc, most_states, most_steps, names, input, sink),
+        ConfigurationRequest::Crossings {
+            most_states,
+            most_steps,
+            names,
+        } => answer_crossings(alloc, most_states, most_steps, names, input, sink),
     }
 }
 
@@ -232,6 +246,12 @@ fn answer_bytes<K: Sink, W: Watch>(
         WholeRequest::Erase => give_reply(sink, reply_erase(alloc, bytes)),
         WholeRequest::EraseRun { word, most_steps } => {
             give_reply(sink, reply_erase_run(alloc, word, most_steps, bytes))
+        }
+        WholeRequest::Window { word, most_steps } => {
+            give_reply(sink, reply_window(alloc, word, most_steps, bytes))
+        }
+        WholeRequest::Equal { state, other } => {
+            give_reply(sink, reply_equal(alloc, state, other, bytes))
         }
     }
 }

@@ -5,6 +5,8 @@
 #[cfg(test)]
 mod banks;
 #[cfg(test)]
+mod behaviours;
+#[cfg(test)]
 mod boards;
 #[cfg(test)]
 mod builds;
@@ -21,6 +23,8 @@ mod drives;
 #[cfg(test)]
 mod elements;
 #[cfg(test)]
+mod equals;
+#[cfg(test)]
 mod erased;
 #[cfg(test)]
 mod farms;
@@ -32,6 +36,8 @@ mod generated;
 mod layers;
 #[cfg(test)]
 mod layouts;
+#[cfg(test)]
+mod least;
 #[cfg(test)]
 mod looks;
 #[cfg(test)]

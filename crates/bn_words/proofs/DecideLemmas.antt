@@ -5,6 +5,7 @@ use Rattle.std.proofs.lemmas.Bool.{cases_lt}
 use Rattle.std.proofs.lemmas.Bool.Decides.{eqb_tells}
 use Rattle.bn_base.specs.Number.{greatest}
 use Rattle.bn_base.specs.declared.limits.TheConstants.{MOST_COUNT}
+use Rattle.bn_behaviour.specs.declared.bounds.TheConstants.{MOST_STATES}
 use Rattle.bn_gen.specs.Increments.{IsRoundCount}
 use Rattle.bn_gen.specs.declared.machine.TheConstants.{MOST_INCREMENTS}
 use Rattle.bn_machine.specs.Outcome.{Limits}
@@ -14,7 +15,8 @@ use Rattle.bn_rlem.specs.declared.element.TheConstants.{MOST_LINES}
 use Rattle.bn_words.specs.Laws.{WordsHaveAFormOrNone}
 use Rattle.bn_words.specs.Requests.{HasForm, HasNoForm, IsAllowed, IsOrdinal, Request, words_of}
 use Rattle.bn_words.specs.Requests.{Step, Back, Machine, Trace, Moments, ThreeMoments, Realise, Build, Compile, Drive}
-use Rattle.bn_words.specs.Requests.{Layout, Run, View, Session, Look, Play, Generate, Element, EraseRun}
+use Rattle.bn_words.specs.Requests.{Layout, Run, View, Session, Look, Play, Generate, Element, EraseRun, Window}
+use Rattle.bn_words.specs.Requests.{Behaviour, Crossings, Equal, IsFromOneTo}
 use Rattle.bn_words.specs.declared.request.TheConstants.{MOST_DRIVE_STEPS}
 use Rattle.bn_words.proofs.FormLemmas.{only, only_form}
 
@@ -90,6 +92,10 @@ lines_or_not k =
     through ((1 ≤ k) × (k ≤ MOST_LINES)) (IsLineCount k) (λ h. record { some = h.0; few = h.1 }) (λ h. (h.some, h.few))
     (ordinal_or_not k MOST_LINES)
 
+explored_or_not : (n e : ℕ) → OrNot (IsFromOneTo MOST_STATES n × IsFromOneTo greatest e)
+explored_or_not n e =
+    both (IsFromOneTo MOST_STATES n) (IsFromOneTo greatest e) (ordinal_or_not n MOST_STATES) (ordinal_or_not e greatest)
+
 allowed_or_not : (r : Request) → OrNot (IsAllowed r)
 allowed_or_not (Step e) = low_or_not e greatest
 allowed_or_not (Back e) = low_or_not e greatest
@@ -112,6 +118,11 @@ allowed_or_not (Play w l) = small_or_not l
 allowed_or_not (Generate k) = round_or_not k
 allowed_or_not (Element k n) = both (IsLineCount k) (n ≤ greatest) (lines_or_not k) (low_or_not n greatest)
 allowed_or_not (EraseRun w n) = low_or_not n MOST_COUNT
+allowed_or_not (Window w n) = low_or_not n MOST_COUNT
+allowed_or_not (Behaviour n e names) = explored_or_not n e
+allowed_or_not (Crossings n e names) = explored_or_not n e
+allowed_or_not (Equal q r) = both (IsOrdinal q) (IsOrdinal r) (ordinal_or_not q MOST_COUNT)
+    (ordinal_or_not r MOST_COUNT)
 allowed_or_not r = inl tt
 
 -- ---- whether words have a form

@@ -8,11 +8,13 @@ use Rattle.bn_base.specs.Number.{greatest, read_number}
 use Rattle.bn_base.specs.declared.numbers.Digits.{Digits}
 use Rattle.bn_machine.specs.Outcome.{Limits}
 use Rattle.bn_network.specs.Limits.{AreSmall}
+use Rattle.bn_behaviour.specs.PortNames.{PortNames}
 use Rattle.bn_qtable.specs.TapeWords.{TapeWord, Letters, Names, TapeWords, One, Three}
 use Rattle.bn_words.specs.Requests.{HasForm, IsAllowed, Request, word_argument, words_of, Step, Back, Check, Machine}
 use Rattle.bn_words.specs.Requests.{Trace, Moments, ThreeMoments, Reversible, Inverse, Bennett, Realise, Standard}
 use Rattle.bn_words.specs.Requests.{Build, Compile, Drive, Layout, Run, RunAuto, View, Session, Look, Play, Plan}
-use Rattle.bn_words.specs.Requests.{Migrate, Mirror, Farm, Generate, Element, Erase, EraseRun}
+use Rattle.bn_words.specs.Requests.{Migrate, Mirror, Farm, Generate, Element, Erase, EraseRun, Window}
+use Rattle.bn_words.specs.Requests.{Behaviour, Crossings, Equal}
 use Rattle.bn_words.proofs.Numbers.{read-whole}
 
 -- ---- what one word would say
@@ -38,6 +40,9 @@ tape_word (b ∷ word) = if b == 58 then Names word else Letters word
 tape_word_again : (w : TapeWord) → tape_word (word_argument w) ≡ w
 tape_word_again (Letters bytes) = refl
 tape_word_again (Names bytes) = refl
+
+abbrev names : List ℕ → List ℕ → PortNames
+names a b = record { inputs = letters a; outputs = letters b }
 
 abbrev tape_words : List ℕ → List ℕ → List ℕ → TapeWords
 tape_words a b c = Three (tape_word a) (tape_word b) (tape_word c)
@@ -91,7 +96,17 @@ with_pair name a b =
     else if bytes_eq name (codes "trace") then Some (Trace (letters a) (value b))
     else if bytes_eq name (codes "moments") then Some (Moments (letters a) (value b))
     else if bytes_eq name (codes "element") then Some (Element (value a) (value b))
+    else if bytes_eq name (codes "window") then Some (Window (letters a) (value b))
+    else if bytes_eq name (codes "behaviour") then Some (Behaviour (value a) (value b) None)
+    else if bytes_eq name (codes "crossings") then Some (Crossings (value a) (value b) None)
+    else if bytes_eq name (codes "equal") then Some (Equal (value a) (value b))
     else Some (EraseRun (letters a) (value b))
+
+abbrev with_four : List ℕ → List ℕ → List ℕ → List ℕ → List ℕ → Option Request
+with_four name a b c d =
+    if bytes_eq name (codes "behaviour") then Some (Behaviour (value a) (value b) (Some (names c d)))
+    else if bytes_eq name (codes "crossings") then Some (Crossings (value a) (value b) (Some (names c d)))
+    else Some (ThreeMoments (letters a) (letters b) (letters c) (value d))
 
 abbrev with_window : List ℕ → List ℕ → Limits → Option Request
 with_window name a l =
@@ -120,7 +135,7 @@ abbrev pub only : List (List ℕ) → Option Request
 only (name ∷ []) = alone name
 only (name ∷ a ∷ []) = with_number name a
 only (name ∷ a ∷ b ∷ []) = with_pair name a b
-only (name ∷ a ∷ b ∷ c ∷ d ∷ []) = Some (ThreeMoments (letters a) (letters b) (letters c) (value d))
+only (name ∷ a ∷ b ∷ c ∷ d ∷ []) = with_four name a b c d
 only (name ∷ a ∷ b ∷ c ∷ d ∷ e ∷ []) = with_window name a (limits b c d e)
 only (name ∷ a ∷ b ∷ c ∷ d ∷ e ∷ f ∷ []) = with_window_and_steps name a (limits b c d e) f
 only (name ∷ a ∷ b ∷ c ∷ d ∷ e ∷ f ∷ g ∷ []) = with_words_and_window name (tape_words a b c) (limits d e f g)
@@ -193,6 +208,27 @@ again (Element k n) h =
     let number = value_again n h.1 in
     λ t. Some (Element (lines t) (number t))
 again (EraseRun w n) h = ap (λ m. Some (EraseRun w m)) (value_again n (omega (arith, h)))
+again (Window w n) h = ap (λ m. Some (Window w m)) (value_again n (omega (arith, h)))
+again (Behaviour n e None) h =
+    let states = value_again n (omega (arith, h.0.1)) in
+    let steps = value_again e h.1.1 in
+    λ t. Some (Behaviour (states t) (steps t) None)
+again (Behaviour n e (Some names)) h =
+    let states = value_again n (omega (arith, h.0.1)) in
+    let steps = value_again e h.1.1 in
+    λ t. Some (Behaviour (states t) (steps t) (Some names))
+again (Crossings n e None) h =
+    let states = value_again n (omega (arith, h.0.1)) in
+    let steps = value_again e h.1.1 in
+    λ t. Some (Crossings (states t) (steps t) None)
+again (Crossings n e (Some names)) h =
+    let states = value_again n (omega (arith, h.0.1)) in
+    let steps = value_again e h.1.1 in
+    λ t. Some (Crossings (states t) (steps t) (Some names))
+again (Equal q r) h =
+    let state = value_again q (omega (arith, h.0.1)) in
+    let other = value_again r (omega (arith, h.1.1)) in
+    λ t. Some (Equal (state t) (other t))
 again r h = refl
 
 pub only_form : (words : List (List ℕ)) (r : Request) → HasForm words r → only words ≡ Some r

@@ -1,19 +1,17 @@
 -- Where words ask for nothing: what the reader tests of them, and the words that it takes of a slice.
 use Rattle.std.specs.Prelude.{◌≡◌, ◌≢◌, ℕ, ◌<◌, ◌≤◌, List, [], ◌∷◌, length, map, Some, None, codes, ◌⊎◌}
-use Rattle.std.proofs.Common.{get_or, arith, inl, inr, sym, ap, subst, ◌∙◌}
+use Rattle.std.proofs.Common.{get_or, arith, inl, inr, sym, ap, ◌∙◌}
 use Rattle.std.proofs.lemmas.List.{length-map}
 use Rattle.bn_base.specs.Number.{greatest}
 use Rattle.bn_base.specs.declared.limits.TheConstants.{MOST_COUNT}
 use Rattle.bn_base.proofs.NumberLemmas.{decimal-once}
 use Rattle.bn_gen.specs.declared.machine.TheConstants.{MOST_INCREMENTS}
 use Rattle.bn_qtable.specs.TapeWords.{One, Three}
-use Rattle.bn_words.specs.Requests.{HasForm, HasNoForm, Step, Back, Machine, Trace, Moments, ThreeMoments, Realise}
+use Rattle.bn_words.specs.Requests.{HasNoForm, Step, Back, Machine, Trace, Moments, ThreeMoments, Realise}
 use Rattle.bn_words.specs.Requests.{Build, Compile, Drive, Layout, Run, RunAuto, View, Session, Look, Play, Generate}
-use Rattle.bn_words.specs.Requests.{Element, EraseRun}
-use Rattle.bn_rlem.specs.declared.element.TheConstants.{MOST_LINES}
-use Rattle.bn_words.specs.Words.{AreNoDriveSteps, IsCount, IsNoCount, IsNumber}
+use Rattle.bn_words.specs.Requests.{Element, EraseRun, Window, Behaviour, Crossings, Equal}
+use Rattle.bn_words.specs.Words.{AreNoDriveSteps, IsNoCount, IsNoNumberFromOne, IsNumber}
 use Rattle.bn_words.specs.declared.request.TheConstants.{MOST_DRIVE_STEPS}
-use Rattle.bn_words.proofs.FormLemmas.{only_form, value}
 
 -- ---- one word
 
@@ -48,56 +46,17 @@ no_increments name word n is number out (Generate k) h =
     beyond m e some few (inr over) = omega (arith, e, few, over)
 no_increments name word n is number out r h = let words = h.words_are in cc
 
--- ---- a name and two words
-
-count_once : (word : List ℕ) (m n : ℕ) → IsCount word m → IsCount word n → m ≡ n
-count_once word m n a b =
-    let few : m ≤ greatest = omega (arith, a.bound) in
-    let low : n ≤ greatest = omega (arith, b.bound) in
-    decimal-once m n few low (sym a.spelled ∙ b.spelled)
-
--- a state or a line that is 0
-pub no_ordinals : (name first second : List ℕ) (q i : ℕ) → name ≡ codes "realise" → IsCount first q → IsCount second i
-    → (q < 1) ⊎ (i < 1) →
-    HasNoForm (name ∷ first ∷ second ∷ [])
-no_ordinals name first second q i is state line out request h =
-    let asked = subst (λ n. HasForm (n ∷ first ∷ second ∷ []) request) is h in
-    let one : Some (Realise (value first) (value second)) ≡ Some request =
-    only_form (codes "realise" ∷ first ∷ second ∷ []) request asked in
-    let request_is : request ≡ Realise (value first) (value second) = cc in
-    within (value first) (value second) (subst (λ r. HasForm (name ∷ first ∷ second ∷ []) r) request_is h)
+-- a number that is out of its limits is none
+pub no_number_from_one : (most : ℕ) (word : List ℕ) (n : ℕ) → most ≤ greatest → IsNumber word n
+    → (n < 1) ⊎ (most < n) → IsNoNumberFromOne most word
+no_number_from_one most word n few is out m h =
+    let low : m ≤ greatest = omega (arith, h.bound, few) in
+    let same = number_once word m n (record { spelled = h.spelled; bound = low }) is in
+    beyond same h.some h.bound out
   where
-    under : (m n : ℕ) → m ≡ q → n ≡ i → 1 ≤ m → 1 ≤ n → (q < 1) ⊎ (i < 1) → ⊥
-    under m n e f some least (inl low) = omega (arith, e, some, low)
-    under m n e f some least (inr low) = omega (arith, f, least, low)
-
-    within : (p j : ℕ) → HasForm (name ∷ first ∷ second ∷ []) (Realise p j) → ⊥
-    within p j k =
-        let p_is = count_once first p q (record { spelled = let words = k.words_are in cc; bound = k.allowed.0.1 })
-        state in
-        let j_is = count_once second j i (record { spelled = let words = k.words_are in cc; bound = k.allowed.1.1 })
-        line in
-        under p j p_is j_is k.allowed.0.0 k.allowed.1.0 out
-
--- a number of lines that no element has
-pub no_lines : (name first second : List ℕ) (k : ℕ) → name ≡ codes "element" → IsCount first k
-    → (k < 1) ⊎ (MOST_LINES < k) → HasNoForm (name ∷ first ∷ second ∷ [])
-no_lines name first second k is lines out request h =
-    let asked = subst (λ n. HasForm (n ∷ first ∷ second ∷ []) request) is h in
-    let one : Some (Element (value first) (value second)) ≡ Some request =
-    only_form (codes "element" ∷ first ∷ second ∷ []) request asked in
-    let request_is : request ≡ Element (value first) (value second) = cc in
-    within (value first) (value second) (subst (λ r. HasForm (name ∷ first ∷ second ∷ []) r) request_is h)
-  where
-    beyond : (m : ℕ) → m ≡ k → 1 ≤ m → m ≤ MOST_LINES → (k < 1) ⊎ (MOST_LINES < k) → ⊥
-    beyond m e some few (inl low) = omega (arith, e, some, low)
-    beyond m e some few (inr high) = omega (arith, e, few, high)
-
-    within : (p j : ℕ) → HasForm (name ∷ first ∷ second ∷ []) (Element p j) → ⊥
-    within p j form =
-        let p_is = count_once first p k
-        (record { spelled = let words = form.words_are in cc; bound = omega (arith, form.allowed.0.few) }) lines in
-        beyond p p_is form.allowed.0.some form.allowed.0.few out
+    beyond : m ≡ n → 1 ≤ m → m ≤ most → (n < 1) ⊎ (most < n) → ⊥
+    beyond e some bound (inl under) = omega (arith, e, some, under)
+    beyond e some bound (inr over) = omega (arith, e, bound, over)
 
 -- ---- the words of a slice
 
@@ -129,6 +88,12 @@ no_length words a b c k d e f g (Play (Three u v w) l) h = f (ap length h.words_
 no_length words a b c k d e f g (Generate n) h = b (ap length h.words_are)
 no_length words a b c k d e f g (Element m n) h = c (ap length h.words_are)
 no_length words a b c k d e f g (EraseRun w n) h = c (ap length h.words_are)
+no_length words a b c k d e f g (Window w n) h = c (ap length h.words_are)
+no_length words a b c k d e f g (Behaviour m n None) h = c (ap length h.words_are)
+no_length words a b c k d e f g (Behaviour m n (Some names)) h = k (ap length h.words_are)
+no_length words a b c k d e f g (Crossings m n None) h = c (ap length h.words_are)
+no_length words a b c k d e f g (Crossings m n (Some names)) h = k (ap length h.words_are)
+no_length words a b c k d e f g (Equal q r) h = c (ap length h.words_are)
 no_length words a b c k d e f g r h = a (ap length h.words_are)
 
 module _ {S : Type 0} (text : S → List ℕ) where

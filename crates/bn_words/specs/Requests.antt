@@ -1,11 +1,14 @@
 -- What a command line asks for, and the arguments that ask for it (this project's own profile).
 use Rattle.std.specs.Prelude.{◌≡◌, ℕ, ◌≤◌, Bool, true, false, List, [], ◌∷◌, Option, Some, None, IfSome, codes, decimal}
+use Rattle.std.specs.Prelude.{option_map}
 use Rattle.bn_base.specs.Number.{greatest}
 use Rattle.bn_base.specs.declared.limits.TheConstants.{MOST_COUNT}
 use Rattle.bn_machine.specs.Outcome.{Limits}
 use Rattle.bn_gen.specs.Increments.{IsRoundCount}
 use Rattle.bn_network.specs.Limits.{AreSmall}
 use Rattle.bn_rlem.specs.Elements.{IsLineCount}
+use Rattle.bn_behaviour.specs.PortNames.{PortNames, port_names_of}
+use Rattle.bn_behaviour.specs.declared.bounds.TheConstants.{MOST_STATES}
 use Rattle.bn_network_assembly.specs.Assembled.{limits_of}
 use Rattle.bn_qtable.specs.TapeWords.{TapeWord, Letters, Names, TapeWords, One, Three, tape_words_of}
 use Rattle.bn_words.specs.declared.request.TheConstants.{MOST_DRIVE_STEPS}
@@ -17,7 +20,7 @@ use Rattle.bn_words.specs.declared.request.ConfigurationRequest.TheVariants as c
 use Rattle.bn_words.specs.declared.request.WholeRequest.TheVariants as whole
 
 -- What is asked for, a case for each form: numbers, the letters of an input word, words on tapes, the limits of a
--- window, and a greatest number of steps, which may be missing.
+-- window, a greatest number of steps, which may be missing, and the names of ports, which may be missing too.
 pub data Request : Type 0 where
   Step : ℕ → Request
   Back : ℕ → Request
@@ -49,6 +52,10 @@ pub data Request : Type 0 where
   Element : ℕ → ℕ → Request
   Erase : Request
   EraseRun : List ℕ → ℕ → Request
+  Window : List ℕ → ℕ → Request
+  Behaviour : ℕ → ℕ → Option PortNames → Request
+  Crossings : ℕ → ℕ → Option PortNames → Request
+  Equal : ℕ → ℕ → Request
 
 -- ---- its words
 
@@ -74,6 +81,11 @@ tape_arguments (Three first second third) rest = word_argument first ∷ word_ar
 abbrev pub steps_words : Option ℕ → List (List ℕ)
 steps_words None = []
 steps_words (Some e) = decimal e ∷ []
+
+-- the arguments that name ports: their names after the byte `:`, those of the inputs first, or none
+abbrev pub port_arguments : Option PortNames → List (List ℕ)
+port_arguments None = []
+port_arguments (Some names) = (58 ∷ names.inputs) ∷ (58 ∷ names.outputs) ∷ []
 
 -- the arguments that ask for it: the command's name, followed by words on tapes, numbers in decimal digits, or `auto`
 abbrev pub words_of : Request → List (List ℕ)
@@ -108,15 +120,24 @@ words_of (Generate k) = codes "generate" ∷ decimal k ∷ []
 words_of (Element k n) = codes "element" ∷ decimal k ∷ decimal n ∷ []
 words_of Erase = codes "erase" ∷ []
 words_of (EraseRun word n) = codes "erase" ∷ (61 ∷ word) ∷ decimal n ∷ []
+words_of (Window word n) = codes "window" ∷ (61 ∷ word) ∷ decimal n ∷ []
+words_of (Behaviour n e names) = codes "behaviour" ∷ decimal n ∷ decimal e ∷ port_arguments names
+words_of (Crossings n e names) = codes "crossings" ∷ decimal n ∷ decimal e ∷ port_arguments names
+words_of (Equal q r) = codes "equal" ∷ decimal q ∷ decimal r ∷ []
 
 -- ---- its limits
 
+-- a number from 1 to this
+abbrev pub IsFromOneTo : ℕ → ℕ → Type 0
+IsFromOneTo most n = (1 ≤ n) × (n ≤ most)
+
 -- a number from 1 to the greatest count
 abbrev pub IsOrdinal : ℕ → Type 0
-IsOrdinal n = (1 ≤ n) × (n ≤ MOST_COUNT)
+IsOrdinal n = IsFromOneTo MOST_COUNT n
 
 -- each of its numbers is within its limit: at most 2^62 element steps, 2^61 for a drive; what is counted of a machine
--- at most the greatest count; from 1 to 4 increments; and from 1 to 10 lines of an element
+-- at most the greatest count; from 1 to 4 increments; from 1 to 10 lines of an element; and of a circuit from 1 to
+-- 65,536 states, and from 1 to 2^62 element steps for a crossing
 abbrev pub IsAllowed : Request → Type 0
 IsAllowed (Step e) = e ≤ greatest
 IsAllowed (Back e) = e ≤ greatest
@@ -137,6 +158,10 @@ IsAllowed (Play words l) = AreSmall l
 IsAllowed (Generate k) = IsRoundCount k
 IsAllowed (Element k n) = IsLineCount k × (n ≤ greatest)
 IsAllowed (EraseRun word n) = n ≤ MOST_COUNT
+IsAllowed (Window word n) = n ≤ MOST_COUNT
+IsAllowed (Behaviour n e names) = IsFromOneTo MOST_STATES n × IsFromOneTo greatest e
+IsAllowed (Crossings n e names) = IsFromOneTo MOST_STATES n × IsFromOneTo greatest e
+IsAllowed (Equal q r) = IsOrdinal q × IsOrdinal r
 IsAllowed _ = Unit {0}
 
 -- ---- words and requests
@@ -163,6 +188,8 @@ of_configuration (config.Back e) = Back e
 of_configuration config.Plan = Plan
 of_configuration config.Migrate = Migrate
 of_configuration config.Mirror = Mirror
+of_configuration (config.Behaviour n e names) = Behaviour n e (option_map port_names_of names)
+of_configuration (config.Crossings n e names) = Crossings n e (option_map port_names_of names)
 
 abbrev pub of_whole : declared_whole.WholeRequest → Request
 of_whole whole.Check = Check
@@ -188,6 +215,8 @@ of_whole (whole.Play words window) = Play (tape_words_of words) (limits_of windo
 of_whole whole.Farm = Farm
 of_whole whole.Erase = Erase
 of_whole (whole.EraseRun word n) = EraseRun word.now n
+of_whole (whole.Window word n) = Window word.now n
+of_whole (whole.Equal q r) = Equal q r
 
 abbrev pub request_of : declared.Request → Request
 request_of (variants.OnConfiguration asked) = of_configuration asked

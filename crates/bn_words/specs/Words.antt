@@ -1,11 +1,12 @@
 -- What one argument after a command's name may be, and what is read of arguments.
-use Rattle.std.specs.Prelude.{◌≡◌, ℕ, ◌≤◌, List, [], ◌∷◌, Option, MatchOption, decimal}
+use Rattle.std.specs.Prelude.{◌≡◌, ℕ, ◌≤◌, List, [], ◌∷◌, Option, Some, MatchOption, decimal}
 use Rattle.bn_base.specs.Number.{greatest}
 use Rattle.bn_base.specs.declared.limits.TheConstants.{MOST_COUNT}
 use Rattle.bn_machine.specs.Outcome.{Limits}
 use Rattle.bn_network.specs.Limits.{AreSmall}
 use Rattle.bn_qtable.specs.TapeWords.{TapeWord}
-use Rattle.bn_words.specs.Requests.{HasForm, HasNoForm, request_of, word_argument}
+use Rattle.bn_behaviour.specs.PortNames.{PortNames}
+use Rattle.bn_words.specs.Requests.{HasForm, HasNoForm, port_arguments, request_of, word_argument}
 use Rattle.bn_words.specs.declared.request.Request as declared
 use Rattle.bn_words.specs.declared.request.TheConstants.{MOST_DRIVE_STEPS}
 
@@ -27,6 +28,16 @@ pub record IsCount (word : List ℕ) (number : ℕ) : Type 0 where
 abbrev pub IsNoCount : List ℕ → Type 0
 IsNoCount word = (number : ℕ) → IsCount word number → ⊥
 
+-- the argument is the decimal text of this number, which is at least 1 and at most so great
+pub record IsNumberFromOne (most : ℕ) (word : List ℕ) (number : ℕ) : Type 0 where
+  pub spelled : word ≡ decimal number
+  pub some : 1 ≤ number
+  pub bound : number ≤ most
+
+-- the argument is no such number
+abbrev pub IsNoNumberFromOne : ℕ → List ℕ → Type 0
+IsNoNumberFromOne most word = (number : ℕ) → IsNumberFromOne most word number → ⊥
+
 -- the argument is the decimal text of this number, which is at most that of a drive's steps
 pub record AreDriveSteps (word : List ℕ) (number : ℕ) : Type 0 where
   pub spelled : word ≡ decimal number
@@ -43,6 +54,14 @@ IsWord word letters = word ≡ 61 ∷ letters
 -- the argument does not begin with this byte
 abbrev pub IsNoWord : List ℕ → Type 0
 IsNoWord word = (letters : List ℕ) → IsWord word letters → ⊥
+
+-- the two arguments are the names of ports after the byte `:`
+abbrev pub ArePortNames : List ℕ → List ℕ → PortNames → Type 0
+ArePortNames inputs outputs names = inputs ∷ outputs ∷ [] ≡ port_arguments (Some names)
+
+-- the two arguments are none
+abbrev pub AreNoPortNames : List ℕ → List ℕ → Type 0
+AreNoPortNames inputs outputs = (names : PortNames) → ArePortNames inputs outputs names → ⊥
 
 -- the argument is this word on a tape, with its sign before it
 abbrev pub IsTapeWord : List ℕ → TapeWord → Type 0

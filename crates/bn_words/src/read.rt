@@ -1,12 +1,18 @@
 //! The one reader of a command line: the number of arguments and the name of the command tell the forms apart.
 
-ghost use Rattle.std.specs.Prelude.{◌≢◌, ◌∷◌, [], codes, map, MatchOption};
+ghost use Rattle.std.specs.Prelude.{◌≢◌, ◌∷◌, [], codes, map, option_map, MatchOption};
 ghost use Rattle.std.specs.String.{string_bytes};
-ghost use Rattle.bn_words.specs.Requests.{HasForm, HasNoForm, request_of};
+ghost use Rattle.bn_behaviour.specs.PortNames.{port_names_of};
+ghost use Rattle.bn_words.specs.Requests.{HasForm, HasNoForm, port_arguments, request_of};
 ghost use Rattle.bn_words.specs.Words.{AreRead};
 
 use crate::request::{ConfigurationRequest, Request, WholeRequest};
-use crate::word::{count_of, drive_steps_of, letters_of, number_of, tape_word, window_of};
+use crate::word::{
+    count_of, drive_steps_of, letters_of, number_from_one, number_of, port_names, tape_word,
+    window_of,
+};
+use bn_base::{GREATEST, MOST_COUNT};
+use bn_behaviour::{MOST_STATES, PortNames};
 use bn_gen::MOST_INCREMENTS;
 use bn_qtable::TapeWords;
 use bn_rlem::MOST_LINES;
@@ -20,12 +26,12 @@ pub fn read_words(words: &[String]) -> Option<Request<'_>>
         [name] => read_name(name.as_str()),
         [name, number] => read_number(name.as_str(), number.as_str()),
         [name, first, second] => read_pair(name.as_str(), first.as_str(), second.as_str()),
-        [name, first, second, third, number] => read_three_words(
+        [name, first, second, third, fourth] => read_four(
             name.as_str(),
             first.as_str(),
             second.as_str(),
             third.as_str(),
-            number.as_str(),
+            fourth.as_str(),
         ),
         [name, word, left, right, steps, output] => read_window(
             name.as_str(),
@@ -126,8 +132,11 @@ fn read_pair<'a>(name: &str, first: &'a str, second: &str) -> Option<Request<'a>
 {
     match name {
         "realise" => read_realise(first, second),
+        "equal" => read_equal(first, second),
         "run" => read_auto(first, second),
         "element" => read_element(first, second),
+        "behaviour" => read_behaviour(first, second, None),
+        "crossings" => read_crossings(first, second, None),
         _ => read_word_and_count(name, first, second),
     }
 }
@@ -143,11 +152,14 @@ fn read_auto<'a>(first: &'a str, second: &str) -> Option<Request<'a>>
     }
 }
 
-// The forms of a name, a word and a greatest number of steps.
+// The forms of a name, letters and a greatest number of steps.
 fn read_word_and_count<'a>(name: &str, first: &'a str, second: &str) -> Option<Request<'a>>
-    requires other { name.now ≢ codes "realise" }
-    requires found { name.now ≢ codes "run" }
-    requires numbered { name.now ≢ codes "element" }
+    requires realise { name.now ≢ codes "realise" }
+    requires equal { name.now ≢ codes "equal" }
+    requires run { name.now ≢ codes "run" }
+    requires element { name.now ≢ codes "element" }
+    requires behaviour { name.now ≢ codes "behaviour" }
+    requires crossings { name.now ≢ codes "crossings" }
     ensures { AreRead (name.now ∷ first.now ∷ second.now ∷ []) result }
 {
     let word = letters_of(first)?;
@@ -157,6 +169,7 @@ fn read_word_and_count<'a>(name: &str, first: &'a str, second: &str) -> Option<R
         "trace" => Some(Request::OnWhole(WholeRequest::Trace { word, most_steps })),
         "moments" => Some(Request::OnWhole(WholeRequest::Moments { word, most_steps })),
         "erase" => Some(Request::OnWhole(WholeRequest::EraseRun { word, most_steps })),
+        "window" => Some(Request::OnWhole(WholeRequest::Window { word, most_steps })),
         _ => None,
     }
 }
@@ -165,49 +178,102 @@ fn read_word_and_count<'a>(name: &str, first: &'a str, second: &str) -> Option<R
 fn read_realise<'a>(first: &'a str, second: &str) -> Option<Request<'a>>
     ensures { AreRead (codes "realise" ∷ first.now ∷ second.now ∷ []) result }
 {
-    let state = count_of(first)?;
-    let line = count_of(second)?;
-    if state < 1 || line < 1 {
-        return None;
-    }
+    let state = number_from_one(first, MOST_COUNT)? as u32;
+    let line = number_from_one(second, MOST_COUNT)? as u32;
     Some(Request::OnWhole(WholeRequest::Realise { state, line }))
+}
+
+// The form of `equal`.
+fn read_equal<'a>(first: &'a str, second: &str) -> Option<Request<'a>>
+    ensures { AreRead (codes "equal" ∷ first.now ∷ second.now ∷ []) result }
+{
+    let state = number_from_one(first, MOST_COUNT)? as u32;
+    let other = number_from_one(second, MOST_COUNT)? as u32;
+    Some(Request::OnWhole(WholeRequest::Equal { state, other }))
 }
 
 // The form of `element`.
 fn read_element<'a>(first: &'a str, second: &str) -> Option<Request<'a>>
     ensures { AreRead (codes "element" ∷ first.now ∷ second.now ∷ []) result }
 {
-    let lines = count_of(first)?;
+    let lines = number_from_one(first, MOST_LINES as u64)? as u32;
     let number = number_of(second)?;
-    if lines < 1 || lines > MOST_LINES {
-        return None;
-    }
     Some(Request::Element { lines, number })
 }
 
-// The form of a name, three words and a greatest number of steps.
-fn read_three_words<'a>(
+// The forms of `behaviour`.
+fn read_behaviour<'a>(
+    states: &str,
+    steps: &str,
+    names: Option<PortNames<'a>>,
+) -> Option<Request<'a>>
+    ensures { AreRead (codes "behaviour" ∷ states.now ∷ steps.now
+        ∷ port_arguments (option_map port_names_of names.entry)) result }
+{
+    let most_states = number_from_one(states, MOST_STATES as u64)? as u32;
+    let most_steps = number_from_one(steps, GREATEST)?;
+    Some(Request::OnConfiguration(ConfigurationRequest::Behaviour {
+        most_states,
+        most_steps,
+        names,
+    }))
+}
+
+// The forms of `crossings`.
+fn read_crossings<'a>(
+    states: &str,
+    steps: &str,
+    names: Option<PortNames<'a>>,
+) -> Option<Request<'a>>
+    ensures { AreRead (codes "crossings" ∷ states.now ∷ steps.now
+        ∷ port_arguments (option_map port_names_of names.entry)) result }
+{
+    let most_states = number_from_one(states, MOST_STATES as u64)? as u32;
+    let most_steps = number_from_one(steps, GREATEST)?;
+    Some(Request::OnConfiguration(ConfigurationRequest::Crossings {
+        most_states,
+        most_steps,
+        names,
+    }))
+}
+
+// The forms of a name and four arguments.
+fn read_four<'a>(
     name: &str,
+    first: &'a str,
+    second: &'a str,
+    third: &'a str,
+    fourth: &'a str,
+) -> Option<Request<'a>>
+    ensures { AreRead (name.now ∷ first.now ∷ second.now ∷ third.now ∷ fourth.now ∷ []) result }
+{
+    match name {
+        "moments" => read_three_moments(first, second, third, fourth),
+        "behaviour" => read_behaviour(first, second, Some(port_names(third, fourth)?)),
+        "crossings" => read_crossings(first, second, Some(port_names(third, fourth)?)),
+        _ => None,
+    }
+}
+
+// The form of `moments` with a word on each tape.
+fn read_three_moments<'a>(
     first: &'a str,
     second: &'a str,
     third: &'a str,
     most_steps: &str,
 ) -> Option<Request<'a>>
-    ensures { AreRead (name.now ∷ first.now ∷ second.now ∷ third.now ∷ most_steps.now ∷ []) result }
+    ensures { AreRead (codes "moments" ∷ first.now ∷ second.now ∷ third.now ∷ most_steps.now ∷ []) result }
 {
     let first = letters_of(first)?;
     let second = letters_of(second)?;
     let third = letters_of(third)?;
     let most_steps = count_of(most_steps)?;
-    match name {
-        "moments" => Some(Request::OnWhole(WholeRequest::ThreeMoments {
-            first,
-            second,
-            third,
-            most_steps,
-        })),
-        _ => None,
-    }
+    Some(Request::OnWhole(WholeRequest::ThreeMoments {
+        first,
+        second,
+        third,
+        most_steps,
+    }))
 }
 
 // The forms of a name, a word and a window.

@@ -3,6 +3,7 @@
 ghost use Rattle.std.specs.Prelude.{◌≡◌};
 ghost use Rattle.bn_words.specs.Requests.{reads_input, request_of};
 
+use bn_behaviour::PortNames;
 use bn_network_assembly::Windows;
 use bn_qtable::TapeWords;
 
@@ -15,7 +16,7 @@ pub const MOST_DRIVE_STEPS: u64 = 1 << 61;
 #[derive(Clone, Copy, Debug)]
 pub enum Request<'a> {
     /// A command that reads a configuration text, in pieces.
-    OnConfiguration(ConfigurationRequest),
+    OnConfiguration(ConfigurationRequest<'a>),
     /// A command that needs its input whole.
     OnWhole(WholeRequest<'a>),
     /// `generate k`: the run of the machine of k increments. It reads no input.
@@ -35,7 +36,7 @@ pub enum Request<'a> {
 
 /// A command on a configuration text, a variant for each form.
 #[derive(Clone, Copy, Debug)]
-pub enum ConfigurationRequest {
+pub enum ConfigurationRequest<'a> {
     /// `step E`: at most E steps of a circuit.
     Step {
         /// The greatest number of steps.
@@ -52,6 +53,25 @@ pub enum ConfigurationRequest {
     Migrate,
     /// `mirror`: the inverse circuit, whose steps are the steps back of the first.
     Mirror,
+    /// `behaviour n E` and `behaviour n E :IN :OUT`: the table of the sequential machine that a circuit is, of at most
+    /// n states, by its free ports or by those that are named.
+    Behaviour {
+        /// The greatest number of states.
+        most_states: u32,
+        /// The greatest number of element steps of a crossing.
+        most_steps: u64,
+        /// The names of the ports, where they are named.
+        names: Option<PortNames<'a>>,
+    },
+    /// `crossings` with the same arguments: each crossing with its ports and element steps.
+    Crossings {
+        /// The greatest number of states.
+        most_states: u32,
+        /// The greatest number of element steps of a crossing.
+        most_steps: u64,
+        /// The names of the ports, where they are named.
+        names: Option<PortNames<'a>>,
+    },
 }
 
 /// A command on a whole input, a variant for each form.
@@ -195,6 +215,21 @@ pub enum WholeRequest<'a> {
         word: &'a [u8],
         /// The greatest number of steps.
         most_steps: u32,
+    },
+    /// `window =W n`: the least window in which the circuit of a machine ends as the machine does from the word W,
+    /// after at most n steps.
+    Window {
+        /// The letters of the word.
+        word: &'a [u8],
+        /// The greatest number of steps.
+        most_steps: u32,
+    },
+    /// `equal Q R`: whether two sequential machines answer alike, from a state of each.
+    Equal {
+        /// The state of the first machine, counted from 1.
+        state: u32,
+        /// That of the second machine, counted from 1.
+        other: u32,
     },
 }
 

@@ -1,13 +1,17 @@
 //! What one argument after a command's name says.
 
-ghost use Rattle.std.specs.Prelude.{◌∷◌, [], MatchOption};
+ghost use Rattle.std.specs.Prelude.{◌∷◌, ◌≤◌, [], MatchOption};
+ghost use Rattle.bn_base.specs.Number.{greatest};
+ghost use Rattle.bn_behaviour.specs.PortNames.{port_names_of};
 ghost use Rattle.bn_network_assembly.specs.Assembled.{limits_of};
 ghost use Rattle.bn_qtable.specs.TapeWords.{tape_word_of};
 ghost use Rattle.bn_words.specs.Words.{AreDriveSteps, AreLimits, AreNoDriveSteps, AreNoLimits, IsCount, IsNoCount};
 ghost use Rattle.bn_words.specs.Words.{IsNoNumber, IsNoTapeWord, IsNoWord, IsNumber, IsTapeWord, IsWord};
+ghost use Rattle.bn_words.specs.Words.{AreNoPortNames, ArePortNames, IsNoNumberFromOne, IsNumberFromOne};
 
 use crate::request::MOST_DRIVE_STEPS;
 use bn_base::{MOST_COUNT, read_u64};
+use bn_behaviour::PortNames;
 use bn_network_assembly::Windows;
 use bn_qtable::TapeWord;
 
@@ -38,6 +42,18 @@ pub(crate) fn count_of(word: &str) -> Option<u32>
     Some(number as u32)
 }
 
+// The number that fills an argument, `None` exactly if no number from 1 up to the greatest one does.
+pub(crate) fn number_from_one(word: &str, most: u64) -> Option<u64>
+    requires { most ≤ greatest }
+    ensures { MatchOption result (IsNoNumberFromOne most word.now) (IsNumberFromOne most word.now) }
+{
+    let number = number_of(word)?;
+    if number < 1 || number > most {
+        return None;
+    }
+    Some(number)
+}
+
 // The number that fills an argument, `None` exactly if no number up to the greatest number of steps of a drive does.
 pub(crate) fn drive_steps_of(word: &str) -> Option<u64>
     ensures { MatchOption result (AreNoDriveSteps word.now) (AreDriveSteps word.now) }
@@ -55,6 +71,17 @@ pub(crate) fn letters_of(word: &str) -> Option<&[u8]>
 {
     match word.as_bytes() {
         [b'=', letters @ ..] => Some(letters),
+        _ => None,
+    }
+}
+
+// The names of ports after the byte `:` of each of two arguments, `None` exactly if one of them does not begin with it.
+pub(crate) fn port_names<'a>(inputs: &'a str, outputs: &'a str) -> Option<PortNames<'a>>
+    ensures { MatchOption result (AreNoPortNames inputs.now outputs.now)
+        (λ names. ArePortNames inputs.now outputs.now (port_names_of names)) }
+{
+    match (inputs.as_bytes(), outputs.as_bytes()) {
+        ([b':', inputs @ ..], [b':', outputs @ ..]) => Some(PortNames { inputs, outputs }),
         _ => None,
     }
 }

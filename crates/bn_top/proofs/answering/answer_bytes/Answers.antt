@@ -194,3 +194,21 @@ returns-in-EraseRun-clause-ends g c =
     (g.K.Sink.faults c.give_reply-in-EraseRun.new.sink)
     c.reply_erase_run.result (g.W.Watch.told c.args.watch.now) c.reply_erase_run.ensures
     c.give_reply-in-EraseRun.ensures.ends
+
+pub returns-in-Window-clause-ends : goal.returns-in-Window-clause-ends
+returns-in-Window-clause-ends g c =
+    silently c.args.asked.now _ c.in-Window.is c.args.bytes.now c.give_reply-in-Window.result
+    (g.K.Sink.taken c.args.sink.now)
+    (g.K.Sink.taken c.give_reply-in-Window.new.sink) (g.K.Sink.faults c.args.sink.now)
+    (g.K.Sink.faults c.give_reply-in-Window.new.sink)
+    c.reply_window.result (g.W.Watch.told c.args.watch.now) c.reply_window.ensures
+    c.give_reply-in-Window.ensures.ends
+
+pub returns-in-Equal-clause-ends : goal.returns-in-Equal-clause-ends
+returns-in-Equal-clause-ends g c =
+    silently c.args.asked.now _ c.in-Equal.is c.args.bytes.now c.give_reply-in-Equal.result
+    (g.K.Sink.taken c.args.sink.now)
+    (g.K.Sink.taken c.give_reply-in-Equal.new.sink) (g.K.Sink.faults c.args.sink.now)
+    (g.K.Sink.faults c.give_reply-in-Equal.new.sink)
+    c.reply_equal.result (g.W.Watch.told c.args.watch.now) c.reply_equal.ensures
+    c.give_reply-in-Equal.ensures.ends

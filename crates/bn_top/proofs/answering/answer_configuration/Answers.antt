@@ -1,5 +1,7 @@
 -- The answer to a request on a configuration text is that to what was asked.
 use Rattle.bn_words.specs.declared.request.ConfigurationRequest.TheVariants.{Step, Back, Plan, Migrate, Mirror}
+use Rattle.bn_words.specs.declared.request.ConfigurationRequest.TheVariants.{Behaviour}
+use Rattle.bn_words.specs.declared.request.ConfigurationRequest.TheVariants.{Crossings}
 use Rattle.bn_top.proofs.Commands.{stream_as}
 use Rattle.bn_top.proofs.answering.answer_configuration.Goals as goal
 
@@ -27,3 +29,15 @@ pub returns-in-Mirror-clause-ends : goal.returns-in-Mirror-clause-ends
 returns-in-Mirror-clause-ends g c =
     stream_as c.args.asked.now Mirror c.in-Mirror.is c.answer_mirror.result _ _
     (c.answer_mirror.ensures.ends (g.W.Watch.told c.args.watch.now))
+
+pub returns-in-Behaviour-clause-ends : goal.returns-in-Behaviour-clause-ends
+returns-in-Behaviour-clause-ends g c =
+    stream_as c.args.asked.now (Behaviour c.in-Behaviour.most_states c.in-Behaviour.most_steps c.in-Behaviour.names)
+    c.in-Behaviour.is
+    c.answer_behaviour.result _ _ (c.answer_behaviour.ensures.ends (g.W.Watch.told c.args.watch.now))
+
+pub returns-in-Crossings-clause-ends : goal.returns-in-Crossings-clause-ends
+returns-in-Crossings-clause-ends g c =
+    stream_as c.args.asked.now (Crossings c.in-Crossings.most_states c.in-Crossings.most_steps c.in-Crossings.names)
+    c.in-Crossings.is
+    c.answer_crossings.result _ _ (c.answer_crossings.ensures.ends (g.W.Watch.told c.args.watch.now))

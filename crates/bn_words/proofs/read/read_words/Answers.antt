@@ -10,10 +10,10 @@ returns-in-len5 c =
     let n : length c.args.words.now ≡ 5 = omega (arith, c.in-len5.len_at_least, c.in-len5.len_below) in
     let texts = five_texts (string_bytes {Z = Global}) c.args.words.now c.name-item-then-words-lt6.result
     c.first-item-then-words-lt6.result c.second-item-then-words-lt6.result c.third-item.result
-    c.number-item-then-words-lt6.result
+    c.fourth-item.result
     n c.name-item-then-words-lt6.is c.first-item-then-words-lt6.is c.second-item-then-words-lt6.is c.third-item.is
-    c.number-item-then-words-lt6.is in
-    subst (λ ws. AreRead ws c.read_three_words.result) (let t = texts in cc) c.read_three_words.ensures
+    c.fourth-item.is in
+    subst (λ ws. AreRead ws c.read_four.result) (let t = texts in cc) c.read_four.ensures
 
 pub returns-in-len6 : goal.returns-in-len6
 returns-in-len6 c =
