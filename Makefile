@@ -14,8 +14,13 @@ help:
 	@echo
 	@echo 'Nothing has to be built first: ./try answers at once (README.md).'
 
+NEEDS_PYTHON = command -v python3 >/dev/null || \
+	{ echo 'make: this needs Python 3.9 or later; without it ./hithwelor and ./try answer here, by Node.js' >&2; exit 1; }
+
 install:
+	@$(NEEDS_PYTHON)
 	@tools/install --prefix "$(PREFIX)" --destdir "$(DESTDIR)"
 
 uninstall:
+	@$(NEEDS_PYTHON)
 	@tools/install --prefix "$(PREFIX)" --destdir "$(DESTDIR)" --uninstall

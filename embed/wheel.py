@@ -34,7 +34,9 @@ class Beside(BuildHookInterface):
             raise ValueError(f"HITHWELOR_WHEEL is module or library, and not {what}")
         for source, target in ((path, name), (os.path.join(self.root, "tools", "lib", "forms.tsv"), "forms.tsv")):
             if not os.path.isfile(source):
-                raise FileNotFoundError(f"{source} isn't here: embed/build makes it")
+                raise FileNotFoundError(
+                    f"{source} is missing: run embed/build in a clone first, or name the library by HITHWELOR_LIBRARY"
+                )
             build_data["force_include"][source] = f"hithwelor/{target}"
         if what == "library":
             build_data["tag"] = "py3-none-" + (os.environ.get("HITHWELOR_PLATFORM") or platform_of(path))

@@ -3,6 +3,7 @@ import {Refused, linesOf, spelled} from "./values.mjs";
 
 const HEAD = /^rotary ([12])\nelements (\d+)\nstart (\S+)\nend (\S+)\nsteps (\d+)\n(at|left) (\S+)\n/;
 const MOST_ELEMENT_STEPS = 2n ** 62n;
+const MOST_STATES = 65536;
 const OUTPUTS = ["n", "e", "s", "w"];
 
 const wired = target => target === "-" ? null : target;
@@ -17,8 +18,8 @@ function* column(first, bar, rows) {
   yield {number: bottom, bar, n: `${bottom - 1}.s`, e: null, s: `${bottom}.s`, w: `${first}.n`};
 }
 
-// The class of circuits whose calls this `answer` answers, and `farm`.
-export function circuitClasses(answer) {
+// The class of circuits whose calls this `answer` answers, and `farm`. `sequential` gives the machine of a table.
+export function circuitClasses(answer, sequential) {
   function asked(words, input) {
     const {status, text} = answer(words, input);
     if (status !== 0) throw new Refused(status, text);
@@ -91,6 +92,25 @@ export function circuitClasses(answer) {
       const [elements, , tracks, densest] = lines.slice(0, 4).map(words => Number(words[1]));
       const wires = lines.slice(4).map(([, source, target, , track]) => ({source, target, track: Number(track)}));
       return {elements, tracks, densest, wires};
+    }
+
+    #explore(command, {inputs, outputs, states = MOST_STATES, steps = MOST_ELEMENT_STEPS} = {}) {
+      if (!inputs !== !outputs) throw new TypeError("inputs and outputs are named together, or neither of them");
+      const names = inputs ? [inputs, outputs].map(ports => `:${[...ports].join(",")}`) : [];
+      return this.ask([command, spelled(states), spelled(steps), ...names]);
+    }
+
+    // The reversible sequential machine that the circuit is, its bars as state 1, by its free ports or by those that are named.
+    behaviour(options) {
+      return sequential(this.#explore("behaviour", options));
+    }
+
+    // The crossings of `behaviour`, one for each of its moves.
+    crossings(options) {
+      return linesOf(this.#explore("crossings", options)).map(line => {
+        const [, state, , input, , next, , output, , steps] = line.split(" ");
+        return {state: Number(state), input, next: Number(next), output, steps: Number(steps)};
+      });
     }
 
     // The circuit after each further chunk of so many element steps, up to where the signal has left.

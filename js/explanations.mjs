@@ -5,7 +5,7 @@ export const EXPLANATIONS = [
   ["text: (second )?record (\\d+) field (\\d+) name", "field {3} of record {2} is not a state's name", "a name has 1 to 32 letters, digits, ' . or -"],
   ["text: (second )?record (\\d+) field (\\d+) symbol", "field {3} of record {2} is not a symbol", "a symbol of quintuples is one byte from ! to ~, but not / , or \"; `_` is the blank; nothing is trimmed"],
   ["text: (second )?record (\\d+) field (\\d+) shift", "field {3} of record {2} is not a move", "moves are + - 0; in quadruples, where the read is /"],
-  ["text: record (\\d+) field (\\d+) number", "field {2} of record {1} is not a number from 1 to 1048576", "states and lines of a sequential machine are numbers from 1"],
+  ["text: (second )?record (\\d+) field (\\d+) number", "field {3} of record {2} is not a number from 1 to 1048576", "states and lines of a sequential machine are numbers from 1"],
   ["text: (second )?record (\\d+) too many", "record {2} is one more than a table may have", "quintuples: 4,000; quadruples: 20,000; sequential machines: 65,536"],
   ["text: line (\\d+) syntax", "line {1} is not one of a configuration text", "single spaces, lines that end in LF, the last one too, and no empty line"],
   ["text: line (\\d+) order", "line {1} is not the entry of the next element", "elements are numbered from 0, one after another"],
@@ -32,8 +32,8 @@ export const EXPLANATIONS = [
   ["machine: (second )?S4", "the last quintuple does not read the blank, write the blank and stay, or its state is the start state (S4)", "in standard form the machine halts so"],
   ["machine: (second )?S5 (\\d+)", "the final state, the last quintuple's next state, occurs in quintuple {2} too (S5)", "in standard form it is the last quintuple's next state alone"],
   ["machine: halting (\\d+)", "quintuple {1} leaves the state in which the machine halts, the last quintuple's next state", "put a quintuple that halts last"],
-  ["machine: domain (\\d+) (\\d+)", "not deterministic: entries {1} and {2} can both apply", "let both read a tape on which they read different symbols"],
-  ["machine: range (\\d+) (\\d+)", "not reversible: entries {1} and {2} can lead to one configuration", "let both write different symbols on a tape, or lead to different states"],
+  ["machine: (?:second )?domain (\\d+) (\\d+)", "not deterministic: entries {1} and {2} can both apply", "let both read a tape on which they read different symbols"],
+  ["machine: (?:second )?range (\\d+) (\\d+)", "not reversible: entries {1} and {2} can lead to one configuration", "let both write different symbols on a tape, or lead to different states"],
   ["machine: reads (\\d+) (\\d+)", "not uniform: quadruples {1} and {2} leave one state and read different tapes", "let both read the same tapes, and write back what they read"],
   ["machine: writes (\\d+) (\\d+)", "not uniform: quadruples {1} and {2} lead to one state and write different tapes", "let both write the same tapes"],
   ["machine: silent (\\d+)", "not uniform: quadruple {1} neither reads a tape nor moves a head", "take it out, and let what leads to its state lead to its next one"],
@@ -41,6 +41,10 @@ export const EXPLANATIONS = [
   ["machine: final (\\d+)", "not uniform: quadruple {1} leaves the final state, the last one's next", "take it out"],
   ["word: (\\d+)", "place {1} of the word has no letter of the table", "letters are the table's symbols but the blank"],
   ["word: (\\d+) (\\d+)", "place {2} of the word on tape {1} has no symbol of that tape", "letters are the tape's symbols but the blank"],
+  ["machine: closed", "no signal that enters by one of the inputs leaves by one of the outputs", "name other ports: `crossings` without names prints all ports and crossings"],
+  ["word: in (\\d+)", "input {1} is no free input port, or is named twice", "a free input port is an input to which no wire leads: `crossings` without names prints all"],
+  ["word: out (\\d+)", "output {1} is no free output port, or is named twice", "a free output port is an output that no wire leaves: `crossings` without names prints all"],
+  ["word: second state", "the second sequential machine has no such state", "states are counted from 1"],
   ["word: state", "the sequential machine has no such state", "states are counted from 1"],
   ["word: line", "the sequential machine has no such line", "lines are counted from 1"],
   ["word: number", "no element has this number", "elements with k lines are numbered from 0 to (2k)! - 1"],
@@ -54,5 +58,5 @@ export const EXPLANATIONS = [
   ["size: quadruples (\\d+)", "the machine would have {1} quadruples, more than 20,000", "give the machines fewer quintuples"],
   ["read fault", "the input can't be read: it is a folder, or closed", "give a file, or a pipe"],
 ];
-export const FORMS = ["step E", "back E", "check", "machine =W n", "trace =W n", "moments =W n", "moments =W1 =W2 =W3 n", "standard", "bennett", "reversible", "inverse", "realise Q I", "compile =W l1 r1 n r3", "layout =W l1 r1 n r3", "build =W l1 r1 r2 r3", "build =W1 =W2 =W3 l1 r1 r2 r3", "drive =W l1 r1 r2 r3 E", "drive =W1 =W2 =W3 l1 r1 r2 r3 E", "look =W l1 r1 r2 r3 E", "look =W1 =W2 =W3 l1 r1 r2 r3 E", "play =W l1 r1 r2 r3", "play =W1 =W2 =W3 l1 r1 r2 r3", "run =W l1 r1 n r3", "run =W l1 r1 n r3 E", "run =W auto", "view =W l1 r1 n r3 E", "session =W l1 r1 n r3", "plan", "migrate", "mirror", "farm", "generate k", "element k n", "erase", "erase =W n"];
-export const MEANINGS = {"2": "the arguments can't be read, or a file is missing", "3": "the input has a fault in its form", "4": "the command doesn't take this machine", "5": "the word has a letter that the table doesn't have", "6": "the word, the circuit or the input is too large", "7": "the input can't be read: it is a folder, or closed", "8": "the output was not taken whole: it is closed, or its device is full", "9": "out of memory"};
+export const FORMS = ["step E", "back E", "check", "machine =W n", "trace =W n", "moments =W n", "moments =W1 =W2 =W3 n", "standard", "bennett", "reversible", "inverse", "realise Q I", "compile =W l1 r1 n r3", "layout =W l1 r1 n r3", "build =W l1 r1 r2 r3", "build =W1 =W2 =W3 l1 r1 r2 r3", "drive =W l1 r1 r2 r3 E", "drive =W1 =W2 =W3 l1 r1 r2 r3 E", "look =W l1 r1 r2 r3 E", "look =W1 =W2 =W3 l1 r1 r2 r3 E", "play =W l1 r1 r2 r3", "play =W1 =W2 =W3 l1 r1 r2 r3", "run =W l1 r1 n r3", "run =W l1 r1 n r3 E", "run =W auto", "view =W l1 r1 n r3 E", "session =W l1 r1 n r3", "plan", "migrate", "mirror", "farm", "generate k", "element k n", "erase", "erase =W n", "window =W n", "behaviour n E", "behaviour n E :IN :OUT", "crossings n E", "crossings n E :IN :OUT", "equal Q R"];
+export const MEANINGS = {"2": "the arguments can't be read, or a file is missing", "3": "the input has a fault in its form", "4": "the command doesn't take this machine", "5": "the word has a letter that the table doesn't have, or a port or state doesn't exist", "6": "the word, the circuit or the input is too large", "7": "the input can't be read: it is a folder, or closed", "8": "the output was not taken whole: it is closed, or its device is full", "9": "out of memory"};

@@ -30,9 +30,12 @@ function entriesOf(table) {
 
 const quoted = field => /[",\r\n]/.test(field) ? `"${field.replaceAll('"', '""')}"` : String(field);
 
+// The window of a line of `window`.
+const readWindow = text => linesOf(text)[0].split(" ").slice(1).map(Number);
+
 // The classes of machines whose calls this `answer` answers.
 export function machineClasses(answer) {
-  const {Circuit, farm} = circuitClasses(answer);
+  const {Circuit, farm} = circuitClasses(answer, table => new SequentialMachine(table));
 
   class Table {
     constructor(table) {
@@ -135,6 +138,11 @@ export function machineClasses(answer) {
 
     byItself(word, steps = MOST_STEPS) {
       return readOutcome(this.ask(["machine", lettered(word), spelled(steps)], [DONE, STUCK, INSIDE]));
+    }
+
+    // The least window in which the machine's circuit ends as the machine does. Refused where it doesn't end in so many steps.
+    leastWindow(word, steps = MOST_STEPS) {
+      return readWindow(this.ask(["window", lettered(word), spelled(steps)]));
     }
 
     // The moments of that run.
@@ -247,6 +255,20 @@ export function machineClasses(answer) {
     // Its bank of rotary elements, in a state, with the signal at an input line.
     realise(state, line) {
       return new Circuit(this.ask(["realise", spelled(state), spelled(line)]));
+    }
+
+    // The least difference between a state of this machine and one of another; null where both answer every sequence of input
+    // lines alike.
+    difference(other, state = 1, otherState = 1) {
+      const told = linesOf(this.ask(["equal", spelled(state), spelled(otherState)], [DONE], this.beside(other.table)));
+      if (told[0] === "equal") return null;
+      const [first, second] = told.slice(1).map(line => line.split(" ")[1]).map(it => it === "-" ? null : Number(it));
+      return {lines: told[0].split(" ").slice(1).map(Number), first, second};
+    }
+
+    // Whether a state of this machine and one of another answer every sequence of input lines alike.
+    equals(other, state = 1, otherState = 1) {
+      return other instanceof SequentialMachine && this.difference(other, state, otherState) === null;
     }
   }
 

@@ -176,6 +176,31 @@ export interface Graph<Node, Link> {
 }
 
 /** A circuit of rotary elements with its signal, by its configuration text. */
+/** How a circuit is explored: the ports that are lines, as "3.n", and the greatest numbers of states and of element steps of a
+ * crossing. */
+export interface Exploration {
+  inputs?: Iterable<string>;
+  outputs?: Iterable<string>;
+  states?: Count;
+  steps?: Count;
+}
+
+/** A crossing: the states before and after, from 1, the ports, as "3.n", and the element steps. */
+export interface Crossing {
+  state: number;
+  input: string;
+  next: number;
+  output: string;
+  steps: number;
+}
+
+/** What tells two states apart: a shortest sequence of input lines, and the output lines that answer the last; null for no move. */
+export interface Difference {
+  lines: number[];
+  first: number | null;
+  second: number | null;
+}
+
 export interface Circuit extends Iterable<Element> {
   readonly text: string;
   readonly elements: number;
@@ -194,6 +219,10 @@ export interface Circuit extends Iterable<Element> {
   /** The same in version 2. */
   migrate(): Circuit;
   plan(): Plan;
+  /** The reversible sequential machine that the circuit is, its bars as state 1, by its free ports or by those that are named. */
+  behaviour(options?: Exploration): SequentialMachine;
+  /** The crossings of `behaviour`, one for each of its moves. */
+  crossings(options?: Exploration): Crossing[];
   /** The circuit after each further chunk of so many element steps, up to where the signal has left. */
   chunks(size?: Count): IterableIterator<Circuit>;
   graph(): Graph<{id: number; bar: string}, {source: number; target: number; output: string; input: string}>;
@@ -233,6 +262,8 @@ export interface Machine extends Table<Rule> {
   /** The reversible machine that leaves only its output. */
   erase(second: Machine): ErasingMachine;
   byItself(word: string, steps?: Count): Outcome;
+  /** The least window in which the machine's circuit ends as the machine does. */
+  leastWindow(word: string, steps?: Count): Window;
   /** The moments of that run. */
   trace(word: string, steps?: Count): Trace;
   run(word: string, window?: "auto"): Run;
@@ -298,6 +329,10 @@ export interface ErasingMachine extends ReversibleMachine {
 export interface SequentialMachine extends Table<Move> {
   /** Its bank of rotary elements, in a state, with the signal at an input line. */
   realise(state: Count, line: Count): Circuit;
+  /** The least difference between a state of this machine and one of another; null where both answer alike. */
+  difference(other: SequentialMachine, state?: Count, otherState?: Count): Difference | null;
+  /** Whether a state of this machine and one of another answer every sequence of input lines alike. */
+  equals(other: unknown, state?: Count, otherState?: Count): boolean;
 }
 
 /** A class of machines. */

@@ -8,6 +8,7 @@ _hithwelor_options() {
     run) echo "--window --left --right --history --output --steps --element-steps --names --as --blank --halt --json --verbose --help -h" ;;
     machine) echo "--steps --names --as --blank --halt --json --verbose --help -h" ;;
     trace) echo "--steps --names --as --blank --halt --json --verbose --help -h" ;;
+    window) echo "--steps --names --as --blank --halt --json --verbose --help -h" ;;
     view) echo "--at --window --left --right --history --output --steps --names --as --blank --halt --json --verbose --help -h" ;;
     session) echo "--interactive -i --window --left --right --history --output --steps --names --as --blank --halt --json --verbose --help -h" ;;
     compile) echo "--window --left --right --history --output --steps --names --as --blank --halt --json --verbose --help -h" ;;
@@ -16,6 +17,9 @@ _hithwelor_options() {
     back) echo "--as --json --verbose --help -h" ;;
     mirror) echo "--as --json --verbose --help -h" ;;
     migrate) echo "--as --json --verbose --help -h" ;;
+    behaviour) echo "--inputs --outputs --states --element-steps --as --json --verbose --help -h" ;;
+    crossings) echo "--inputs --outputs --states --element-steps --as --json --verbose --help -h" ;;
+    equal) echo "--as --json --verbose --help -h" ;;
     plan) echo "--as --json --verbose --help -h" ;;
     farm) echo "--as --json --verbose --help -h" ;;
     check) echo "--names --as --blank --halt --json --verbose --help -h" ;;
@@ -39,7 +43,7 @@ _hithwelor() {
     local word=${COMP_WORDS[COMP_CWORD]} command=${COMP_WORDS[1]-} list=""
     COMPREPLY=()
     if [ "$COMP_CWORD" = 1 ] || { [ "$COMP_CWORD" = 2 ] && [ "$command" = help ]; }; then
-        list="back bennett build check compile drive element erase farm generate help inverse layout look machine migrate mirror moments plan play realise reversible run session standard step trace view"
+        list="back behaviour bennett build check compile crossings drive element equal erase farm generate help inverse layout look machine migrate mirror moments plan play realise reversible run session standard step trace view window"
         [[ ${COMP_WORDS[0]##*/} = hithwelor ]] && list+=" sweep plot"
     elif [ "${COMP_WORDS[COMP_CWORD - 1]}" = --as ]; then
         list="quintuples quadruples sequential circuit jflap yaml morphett bbchallenge"

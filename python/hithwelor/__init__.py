@@ -8,10 +8,20 @@ from __future__ import annotations
 
 from .answers import NoMemory, Unavailable, answer, close, engine, way
 from .arguments import Names, Window
-from .circuit import Circuit, Element, Farm, Plan, Wire, farm
+from .circuit import Circuit, Crossing, Element, Farm, Plan, Wire, farm
 from .engines import Engine
 from .layouts import Layout, Module, Spot
-from .machine import Erasure, ErasingMachine, Machine, Quadruple, ReversibleMachine, Rule, SequentialMachine, generate
+from .machine import (
+    Difference,
+    Erasure,
+    ErasingMachine,
+    Machine,
+    Quadruple,
+    ReversibleMachine,
+    Rule,
+    SequentialMachine,
+    generate,
+)
 from .tables import read_table
 from .texts import Exit, Look, Outcome, Refused, Run, Session, Tape, View
 from .traces import Moment, Trace
@@ -20,6 +30,8 @@ __version__: str
 
 __all__ = [
     "Circuit",
+    "Crossing",
+    "Difference",
     "Element",
     "Engine",
     "Erasure",

@@ -80,8 +80,8 @@ def places() -> tuple[str, ...]:
     if node and command:
         return node, command
     raise Unavailable(
-        f"no engine is here: install Node.js {LEAST_NODE} or later, or build the shared library by embed/build, or name it by "
-        f"{VARIABLE}"
+        f"no engine is here: install Node.js {LEAST_NODE} or later; or name the shared library, which embed/build of a clone "
+        f"makes, by {VARIABLE}"
     )
 
 

@@ -9,12 +9,16 @@ from typing import TYPE_CHECKING, Any, NamedTuple, SupportsIndex
 
 from .answers import answer
 from .arguments import MOST_ELEMENT_STEPS, text_of, whole
+from .optional import needs
 from .texts import checked, matched
 
 if TYPE_CHECKING:
     import networkx
 
+    from .machine import SequentialMachine
+
 OUTPUTS = ("n", "e", "s", "w")
+MOST_STATES = 65_536
 
 
 class Element(NamedTuple):
@@ -44,6 +48,17 @@ class Plan(NamedTuple):
     tracks: int
     densest: int
     wires: tuple[Wire, ...]
+
+
+class Crossing(NamedTuple):
+    """A crossing: in `state`, the signal enters by the port `input`, leaves by the port `output` after so many element `steps`,
+    and the circuit is in the state `next`. States are counted from 1; ports are as `3.n`."""
+
+    state: int
+    input: str
+    next: int
+    output: str
+    steps: int
 
 
 class Circuit:
@@ -126,6 +141,44 @@ class Circuit:
         rows = (line.split(" ") for line in lines[4:])
         return Plan(elements, tracks, densest, tuple(Wire(row[1], row[2], int(row[4])) for row in rows))
 
+    def _explore(
+        self, command: str, states: SupportsIndex, steps: SupportsIndex, ports: Sequence[Iterable[str] | None]
+    ) -> str:
+        """What `behaviour` or `crossings` prints for some limits, and for named ports or for all free ones."""
+        words = [command, whole(states, "states", MOST_STATES, 1), whole(steps, "steps", MOST_ELEMENT_STEPS, 1)]
+        if ports[0] is None and ports[1] is None:
+            return self.ask(words)
+        if ports[0] is None or ports[1] is None:
+            raise ValueError("inputs and outputs are named together, or neither of them")
+        return self.ask([*words, *(f":{','.join(names)}" for names in ports if names is not None)])
+
+    def behaviour(
+        self,
+        inputs: Iterable[str] | None = None,
+        outputs: Iterable[str] | None = None,
+        *,
+        states: SupportsIndex = MOST_STATES,
+        steps: SupportsIndex = MOST_ELEMENT_STEPS,
+    ) -> SequentialMachine:
+        """The reversible sequential machine that the circuit is, its bars as state 1, by its free ports or by those that are
+        named, as `["0.n", "1.w"]`. Where it has more `states`, or a crossing takes more element `steps`, it is Refused with
+        status 12; where a name is that of no free port, with status 5."""
+        from .machine import SequentialMachine
+
+        return SequentialMachine(self._explore("behaviour", states, steps, (inputs, outputs)))
+
+    def crossings(
+        self,
+        inputs: Iterable[str] | None = None,
+        outputs: Iterable[str] | None = None,
+        *,
+        states: SupportsIndex = MOST_STATES,
+        steps: SupportsIndex = MOST_ELEMENT_STEPS,
+    ) -> tuple[Crossing, ...]:
+        """The crossings of `behaviour`, one for each of its moves, in the same order."""
+        rows = (line.split(" ") for line in self._explore("crossings", states, steps, (inputs, outputs)).splitlines())
+        return tuple(Crossing(int(it[1]), it[3], int(it[5]), it[7], int(it[9])) for it in rows)
+
     def chunks(
         self, size: SupportsIndex = 1_000_000, *, timeout: float | None = None, progress: bool = False
     ) -> Iterator[Circuit]:
@@ -172,7 +225,8 @@ class Circuit:
     def graph(self) -> networkx.MultiDiGraph:
         """The circuit as a graph of networkx: elements are nodes, with their `bar`; wires are edges, with the `source` output
         and the `target` input (`n`, `e`, `s`, `w`). The graph has `start`, `end`, `place`, `has_left` and `steps`."""
-        import networkx
+        with needs("networkx", "graphs"):
+            import networkx
 
         names = ("start", "end", "place", "has_left", "steps")
         graph = networkx.MultiDiGraph(**{name: getattr(self, name) for name in names})

@@ -12,7 +12,8 @@ from . import cli_input, version
 from .cli_args import read_arguments, use_of
 from .cli_engine import Engine, Progress
 from .cli_errors import explained_exactly
-from .cli_run import REFUSALS, answer, debugged, tell_ending
+from .cli_notes import tell
+from .cli_run import REFUSALS, answer, debugged
 from .cli_usage import fault_of, forms_shown, looks_exact
 from .faults import STOPPED, Stop
 from .forms import commands, is_exact, options, uses
@@ -55,12 +56,12 @@ def answered(words: list[str]) -> int:
         return written(DONE, help_of(words[0]).encode())
     if "interactive" in arguments.given:
         return debugged(arguments, engine)
-    status, text = answer(arguments, engine)
+    status, text, question = answer(arguments, engine)
     if "verbose" in arguments.given:
         print(f"note: answered by {engine.name}", file=sys.stderr)
     code = written(status, text)
     if "json" not in arguments.given:
-        tell_ending(status, text, arguments)
+        tell(status, text, arguments, question)
     return code
 
 

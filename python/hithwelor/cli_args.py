@@ -22,6 +22,7 @@ MEANINGS = {
     "SCHEDULE": "the schedule's file",
     "WORD": "the input word",
     "Q": "the state",
+    "R": "the state of the second machine",
     "I": "the line",
     "E": "the number of element steps",
     "k": "how many times",
@@ -96,14 +97,19 @@ def read_arguments(command: str, words: list[str]) -> Arguments:
 
 def has_parts(use: Use, rest: list[str]) -> bool:
     """Whether a command of several files is given one that has them all, with lines % between them."""
-    if not use.arguments.endswith(("SCRIPT", "SCHEDULE", "[WORD]")) or not rest or not os.path.isfile(rest[0]):
+    if not use.arguments.endswith(("SCRIPT", "SCHEDULE", "[WORD]", "[R]")) or not rest or not os.path.isfile(rest[0]):
         return False
     return split_parts(read_bytes(rest[0])) is not None
 
 
 def without_parts(names: list[str]) -> list[str]:
     """The names of a command's arguments where the first file has all parts."""
-    return [name.rstrip(".") if at == 0 else name for at, name in enumerate(names) if at == 0 or "WORD" in name]
+    kept = ("WORD", "[Q]", "[R]")
+    return [
+        name.rstrip(".") if at == 0 else name
+        for at, name in enumerate(names)
+        if at == 0 or name.startswith(kept) or "WORD" in name
+    ]
 
 
 def use_of(command: str) -> Use:

@@ -40,6 +40,12 @@ SEVERAL = {
     "circuit": "circuits",
 }
 DONE, NO_MEMORY = 0, 9
+# How a record of each kind of table is written.
+RECORDS = {
+    "quintuples": "a line of the table is state,read,write,move,next, as q0,1,0,R,q1; --as KIND names another kind",
+    "quadruples": "a line of the table is state,r1,r2,r3,w1,w2,w3,next, as q0,1,_,_,0,_,_,q1; --as KIND names another kind",
+    "sequential": "a line of the table is state,line,next,line, as 1,2,2,1; --as KIND names another kind",
+}
 
 
 def base(refusal: str, command: str) -> tuple[str, str]:
@@ -77,8 +83,8 @@ def wrong_kind(use: Use, it: Input) -> Stop:
     shown = SHOWN.get(it.kind)
     wanted = SHOWN.get(use.kind, use.kind)
     if not shown:
-        what = looks_like(it) or "not recognised"
-        remedy = "tables are CSV" if looks_like(it) else "--as KIND says what it is"
+        what = looks_like(it) or f"not recognised{first_line(it)}"
+        remedy = "tables are CSV" if looks_like(it) else RECORDS.get(use.kind, "--as KIND says what it is")
         return Stop(f"{it.name}: {what}; {use.command} takes {wanted}", 3, remedy)
     fitting = [name for name, other in uses().items() if other.kind == it.kind]
     fitting += [name for name in twins() if it.kind == "quadruples"]
@@ -92,6 +98,12 @@ def wrong_kind(use: Use, it: Input) -> Stop:
         else f"{SEVERAL[it.kind]} are taken by: {', '.join(dict.fromkeys(fitting))}"
     )
     return Stop(f"{it.name} is {shown}; {use.command} takes {wanted}", 3, remedy)
+
+
+def first_line(it: Input) -> str:
+    """The first line of an input, as it is shown; nothing where it has none."""
+    lines = [line.strip() for line in text_of(it.data).splitlines() if line.strip()]
+    return f" (`{lines[0][:60]}`)" if lines else ""
 
 
 def looks_like(it: Input) -> str:

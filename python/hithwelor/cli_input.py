@@ -17,6 +17,7 @@ from dataclasses import dataclass, field
 from .faults import Stop, cause
 from .foreign import kind_of as foreign_kind_of
 from .foreign import read_machine, table_of
+from .foreign.line_machines import is_morphett, lines_of
 from .foreign.machine_files import new_names
 from .faults import Fault
 
@@ -155,7 +156,10 @@ def kind_of(data: bytes) -> str:
         return foreign
     rows = [row for _, row in records_of(text, delimiter_of(text)) if not is_comment(row)]
     counts = Counter(len(row) for row in rows if len(row) in FIELDS)
-    return FIELDS[counts.most_common(1)[0][0]] if counts else ""
+    kind = FIELDS[counts.most_common(1)[0][0]] if counts else ""
+    if kind == "sequential" and not any(all(field.strip().isdigit() for field in row) for row in rows):
+        return ""
+    return kind
 
 
 def is_comment(row: list[str]) -> bool:
@@ -189,10 +193,18 @@ def converted(name: str, kind: str, data: bytes, wanted: Wanted) -> Input:
     try:
         table, names = table_of(read_machine(text_of(data), name, kind), name, wanted.halt or None)
     except Fault as fault:
-        raise Stop(str(fault), TEXT) from None
+        raise Stop(str(fault), TEXT, other_format(kind, text_of(data))) from None
     notes = [f"{FOREIGN[kind]}, read as a table of quintuples"]
     notes += renaming(names)
     return Input(name, "quintuples", table.encode(), records_of(table), notes)
+
+
+def other_format(kind: str, text: str) -> str:
+    """A remedy where a file that has keys of turingmachine.io has lines of Morphett's simulator; nothing where it has none."""
+    rules = [line for line in lines_of(text) if is_morphett(line)]
+    if kind != "yaml" or not rules:
+        return ""
+    return f"`{rules[0].strip()}` is a line of Morphett's simulator, whose files have no keys: leave out the lines with a colon"
 
 
 def renaming(names: dict[str, str]) -> list[str]:
@@ -267,12 +279,26 @@ def convert_moves(it: Input) -> None:
     places = moves_of(it)
     used = {it.rows[number][1][at] for number, at in places}
     strange = sorted(used - {"+", "-", "0"})
+    if any(move in MOVES for move in strange):
+        check_moves(it, places)
     if not strange or any(move not in MOVES for move in strange):
         return
     for number, at in places:
         row = it.rows[number][1]
         row[at] = MOVES.get(row[at], row[at])
     it.notes.append(f"moves are + - 0 here; this table uses {' and '.join(strange)}: converted")
+
+
+def check_moves(it: Input, places: list[tuple[int, int]]) -> None:
+    """Refuses the first move that is none, in a table that writes moves as R and L."""
+    for number, at in places:
+        value = it.rows[number][1][at]
+        if value not in MOVES and value not in ("+", "-", "0"):
+            raise Stop(
+                f"{it.place(number + 1)}: field {at + 1} is `{value}`, and this table's moves are R, L, and S or N for none",
+                TEXT,
+                "the exact form writes + - 0",
+            )
 
 
 def convert_names(it: Input) -> None:

@@ -75,6 +75,43 @@ def run(words: list[str], text: str) -> dict[str, Any]:
     return found
 
 
+def moves(lines: list[str]) -> dict[str, Any]:
+    """The table of a sequential machine."""
+    return {"moves": [list(map(int, line.split(","))) for line in lines]}
+
+
+def crossings(lines: list[str]) -> dict[str, Any]:
+    """Crossings, as `state q in E.L next r out E.L steps T`."""
+    rows = (line.split(" ") for line in lines)
+    return {
+        "crossings": [
+            {"state": int(it[1]), "in": it[3], "next": int(it[5]), "out": it[7], "steps": int(it[9])} for it in rows
+        ]
+    }
+
+
+def difference(lines: list[str]) -> dict[str, Any]:
+    """Whether two sequential machines answer alike, and else what tells them apart."""
+    if lines == ["equal"]:
+        return {"equal": True}
+    first, second = (None if line.endswith("-") else int(line.split(" ")[1]) for line in lines[1:])
+    return {"equal": False, "differ": list(map(int, lines[0].split(" ")[1:])), "first": first, "second": second}
+
+
+def window(lines: list[str]) -> dict[str, Any]:
+    """The least window."""
+    return {"window": list(map(int, lines[0].split(" ")[1:]))}
+
+
+STOPPED = ("more", "running")
+OF_CIRCUITS = {
+    "behaviour": moves,
+    "crossings": crossings,
+    "equal": difference,
+    "window": window,
+}
+
+
 def parts(words: list[str], text: str) -> dict[str, Any]:
     """What an answer says, by its command."""
     command, lines = words[0], text.splitlines()
@@ -98,6 +135,8 @@ def parts(words: list[str], text: str) -> dict[str, Any]:
     if command == "erase" and len(words) > 1:
         named = dict(line.split(" =", 1) for line in lines[1:])
         return {**outcome(lines[0]), **named}
+    if command in OF_CIRCUITS and lines[0].split(" ")[0] not in STOPPED:
+        return OF_CIRCUITS[command](lines)
     if command in TABLES:
         return {TABLES[command]: [line.split(",") for line in lines]}
     return circuit(text) if command in CIRCUITS else {"lines": lines}

@@ -13,14 +13,14 @@ from .cli_args import Arguments, whole
 from .cli_engine import Ask, Progress
 from .cli_input import Input, Wanted, open_input
 from .cli_json import as_json
-from .cli_session import Debugger, debug, states_of
+from .cli_session import Debugger, debug, own_states, states_of
 from .cli_window import Found, Refusal, Window, least_window
 from .faults import Stop
 from .forms import forms_of, options, twins, uses
 
-DONE, MACHINE, STUCK, INSIDE = 0, 4, 10, 12
+DONE, MACHINE, INSIDE = 0, 4, 12
 REFUSALS = range(2, 10)
-MOST_STEPS = {"drive": 2**61}
+MOST_STEPS = {"drive": 2**61, "behaviour": 2**62, "crossings": 2**62}
 PARTS = ("SCRIPT", "SCHEDULE")
 
 
@@ -84,7 +84,7 @@ class Translation:
         pieces = [(path, None if number else data) for number, path in enumerate(paths)]
         if parts:
             pieces[0] = (paths[0], parts[0])
-            if self.command == "erase":
+            if self.command in ("erase", "equal"):
                 pieces.insert(1, (paths[0], parts[1]))
             else:
                 self.script = parts[1]
@@ -139,6 +139,15 @@ class Translation:
     def letters(self) -> set[str]:
         return {letter for form in forms_of(self.command) for letter in form.letters}
 
+    def ports(self) -> list[str]:
+        """The ports that are named, as the program reads them."""
+        given = [self.arguments.given.get(name) for name in ("inputs", "outputs")]
+        if given[0] is None and given[1] is None:
+            return []
+        if given[0] is None or given[1] is None:
+            raise Stop("--inputs and --outputs are named together, or neither of them", usage=self.command)
+        return [f":{names}" for names in given]
+
     def words(self) -> list[str]:
         """The input words as the program reads them."""
         given, takes_names = self.arguments.named.get("WORD", []), ":" in self.marks()
@@ -163,7 +172,7 @@ class Translation:
     def read_numbers(self) -> None:
         """The numbers of options and arguments, by their letters."""
         arguments = self.arguments
-        for letter in ("Q", "I", "k", "n", "E"):
+        for letter in ("Q", "R", "I", "k", "n", "E"):
             for word in arguments.named.get(letter, []):
                 self.values[letter] = whole(word, letter, arguments.command, letter)
         if "E" in self.letters():
@@ -177,6 +186,11 @@ class Translation:
                 self.values.setdefault("E", 1)
             if self.command in MOST_STEPS:
                 self.values.setdefault("E", MOST_STEPS[self.command])
+        if self.command == "equal":
+            self.values = {"Q": 1, "R": 1, **self.values}
+        if "states" in arguments.use.options:
+            states = arguments.number("states", "n")
+            self.values["n"] = int(options()["states"].default) if states is None else states
         steps = arguments.number("steps", "n")
         if "steps" in arguments.use.options:
             self.values["steps"] = int(options()["steps"].default) if steps is None else steps
@@ -224,11 +238,13 @@ class Translation:
             values["r2"] = values["n"]
         elif "steps" in values:
             values["n"] = values["steps"]
+        ports = self.ports()
         for form in sorted(forms_of(self.command), key=lambda it: -len(it.letters)):
             places = [it for it in form.letters if it.startswith("=")]
-            numbers = [it for it in form.letters if not it.startswith("=")]
-            if len(places) == len(words) and all(it in values for it in numbers):
-                return [form.command, *words, *(str(values[it]) for it in numbers)]
+            named = [it for it in form.letters if it.startswith(":")]
+            numbers = [it for it in form.letters if it not in (*places, *named)]
+            if (len(places), len(named)) == (len(words), len(ports)) and all(it in values for it in numbers):
+                return [form.command, *words, *(str(values[it]) for it in numbers), *ports]
         raise Stop(f"{self.arguments.command}: no form takes these arguments", usage=self.arguments.command)
 
 
@@ -292,11 +308,11 @@ def debugged(arguments: Arguments, ask: Ask) -> int:
         except OSError:
             raise Stop("with the machine on standard input, -i needs a terminal: name a file", usage=None) from None
     states = states_of(ask, table, is_quadruples)
-    return debug(Debugger(ask, question.words, table, states))
+    return debug(Debugger(ask, question.words, table, states, {} if is_quadruples else own_states(table)))
 
 
-def answer(arguments: Arguments, ask: Ask) -> tuple[int, bytes]:
-    """The status and the text of a command; Stop where the program refuses."""
+def answer(arguments: Arguments, ask: Ask) -> tuple[int, bytes, Question]:
+    """The status and the text of a command, and what was asked; Stop where the program refuses."""
     question = question_of(arguments, ask)
     if "verbose" in arguments.given:
         say(f"exactly: {' '.join(question.words)}")
@@ -309,24 +325,4 @@ def answer(arguments: Arguments, ask: Ask) -> tuple[int, bytes]:
         raise
     if status in REFUSALS:
         raise cli_errors.explained(question.words, status, text, question)
-    return status, as_json(question.words, status, text) if "json" in arguments.given else text
-
-
-def tell_ending(status: int, text: bytes, arguments: Arguments) -> None:
-    """Says what a run that is stuck, or has no room, means."""
-    found = re.search(r"^(?:exit )?stuck (.*)$", text.decode(errors="replace"), flags=re.M)
-    if status == STUCK and found and arguments.command in ("run", "machine", "drive"):
-        state, *rest = found[1].split(" ")
-        letters = rest if found[0].startswith("exit") else rest[:-1]
-        told = " ".join(letters)
-        given = [f"--{it} {arguments.given[it]}" for it in ("as", "blank", "halt") if it in arguments.given]
-        way = " ".join(["trace", *arguments.files(), *(it or "''" for it in arguments.named.get("WORD", [])), *given])
-        say(f"stuck: nothing is for state {state} and {told}; hithwelor {way} prints the way there")
-    room = re.search(r"^exit window (\d) (left|right)$", text.decode(errors="replace"), flags=re.M)
-    if room:
-        option = {"1 left": "--left", "1 right": "--right", "2 right": "--history", "3 right": "--output"}
-        more = option.get(f"{room[1]} {room[2]}")
-        say(
-            f"the head of tape {room[1]} left the window to the {room[2]}"
-            + (f"; {more} gives more cells" if more else "")
-        )
+    return status, as_json(question.words, status, text) if "json" in arguments.given else text, question

@@ -5,6 +5,7 @@ as a script, which `save` writes and `session` or `play` runs again.
 """
 from __future__ import annotations
 
+import difflib
 import sys
 from typing import Callable
 
@@ -18,11 +19,28 @@ HELP = """step [E]  back [E]     E element steps forward, or back; one without E
 next [N]  prev [N]     to the next or the previous configuration of the machine, N times
 go [E]    rev [E]      forward or back to a breakpoint, to the end or the start, at most E element steps
 break [LABEL] state NAME, break [LABEL] element K, drop LABEL      set and remove breakpoints; `breaks` lists them
+                       NAME is a state of the table, or one of Bennett's machine
 view                   the layers: element, module, state, tapes, machine
 tape                   the tapes, the head's cell in brackets
 script, save FILE      the script so far, which `session` runs again
 help, quit             an empty line repeats the last command
 """
+
+COMMANDS = "step back next prev go rev break drop breaks view tape script save help quit".split()
+# What other debuggers call these commands.
+ALIASES = {
+    **dict.fromkeys(("s", "si", "stepi"), "step"),
+    **dict.fromkeys(("rs", "rsi", "reverse-step", "reverse-stepi"), "back"),
+    **dict.fromkeys(("n", "nexti"), "next"),
+    **dict.fromkeys(("rn", "reverse-next", "previous"), "prev"),
+    **dict.fromkeys(("c", "continue", "run", "r"), "go"),
+    **dict.fromkeys(("rc", "reverse-continue", "reverse"), "rev"),
+    **dict.fromkeys(("b", "breakpoint"), "break"),
+    **dict.fromkeys(("d", "delete", "clear"), "drop"),
+    **dict.fromkeys(("v", "where", "bt", "info"), "view"),
+    **dict.fromkeys(("p", "print", "tapes"), "tape"),
+    **dict.fromkeys(("l", "list", "history"), "script"),
+}
 
 
 class Wrong(Exception):
@@ -41,8 +59,10 @@ def drawn(tape: Tape) -> str:
 class Debugger:
     """A circuit at one of its steps, its breakpoints, and the script that led there."""
 
-    def __init__(self, ask: Ask, words: list[str], table: bytes, states: Callable[[], list[str]]) -> None:
-        self.ask, self.words, self.table, self.states_of = ask, words, table, states
+    def __init__(
+        self, ask: Ask, words: list[str], table: bytes, states: Callable[[], list[str]], own: dict[str, str]
+    ) -> None:
+        self.ask, self.words, self.table, self.states_of, self.own = ask, words, table, states, own
         self.steps = 0
         self.marks: dict[str, str] = {}
         self.script: list[str] = []
@@ -102,11 +122,12 @@ class Debugger:
             words = [label, *words]
         if len(words) != 3 or words[1] not in ("state", "element"):
             raise Wrong("break [LABEL] state NAME, or break [LABEL] element K")
-        line = f"break {words[0]} {words[1]} {words[2]}"
+        name = self.own.get(words[2], words[2]) if words[1] == "state" else words[2]
+        line = f"break {words[0]} {words[1]} {name}"
         self.play([line])
-        self.marks[words[0]] = f"{words[1]} {words[2]}"
+        self.marks[words[0]] = f"{words[1]} {name}"
         self.script.append(line)
-        return [line]
+        return [line if name == words[2] else f"{line} ({words[2]} of the table, in the compute stage)"]
 
     def drop(self, words: list[str]) -> list[str]:
         """Takes a breakpoint away."""
@@ -130,6 +151,7 @@ class Debugger:
     def do(self, line: str) -> list[str]:
         """What is said to a command; Wrong where it isn't one."""
         name, *words = line.split()
+        name = "breaks" if [name, *words] in (["info", "breakpoints"], ["info", "b"]) else ALIASES.get(name, name)
         if name in ("step", "back", "go", "rev"):
             default = "1" if name in ("step", "back") else str(MOST)
             return self.move(f"{name} {self.number(words, default)}")
@@ -150,7 +172,8 @@ class Debugger:
             return self.script or ["nothing was done yet"]
         if name == "save":
             return self.save(words)
-        raise Wrong(f"there is no command {name}; help lists them")
+        close = difflib.get_close_matches(name, COMMANDS, 1)
+        raise Wrong(f"there is no command {name}; {f'did you mean {close[0]}? ' if close else ''}help lists them")
 
     def number(self, words: list[str], default: str) -> str:
         """The number behind a command."""
@@ -169,6 +192,14 @@ def states_of(ask: Ask, table: bytes, is_quadruples: bool) -> Callable[[], list[
         return list(dict.fromkeys(name.strip('\r"') for row in rows for name in (row[0], row[-1])))
 
     return states
+
+
+def own_states(table: bytes) -> dict[str, str]:
+    """The states of Bennett's machine in its compute stage by the names of a table of quintuples, in the order in which they
+    are first named."""
+    rows = [line.split(",") for line in table.decode(errors="surrogateescape").splitlines() if line]
+    names = dict.fromkeys(name.strip('"') for row in rows for name in (row[0], row[-1]))
+    return {name: f"A{number}" for number, name in enumerate(names, 1)}
 
 
 def lines_typed() -> Callable[[], str]:

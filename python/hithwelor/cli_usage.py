@@ -49,15 +49,18 @@ def is_word(word: str) -> bool:
 
 def places_of(form: Form) -> int:
     """How many words a form has."""
-    return sum(letter.startswith("=") for letter in form.letters)
+    return sum(is_word(letter) for letter in form.letters)
 
 
 def fault_of_count(forms: list[Form], rest: list[str], count: int) -> str:
     """Which arguments are missing or surplus, of the form that is the nearest."""
     if any(places_of(form) == 3 for form in forms) and count == 2:
         return "one word, or one for each of the three tapes: 2 are given"
+    if any(":IN" in form.letters for form in forms) and count == 1:
+        return "the ports are two arguments, :IN and :OUT, as :0.n,0.s :1.e,1.w"
     form = min(forms, key=lambda it: (abs(places_of(it) - count), abs(len(it.letters) - len(rest))))
-    letters, numbers = form.letters[places_of(form) :], [word for word in rest if not is_word(word)]
+    letters = [letter for letter in form.letters if not is_word(letter)]
+    numbers = [word for word in rest if not is_word(word)]
     if len(rest) > len(form.letters):
         surplus = numbers[len(letters) :] or rest[len(form.letters) :]
         return f"`{surplus[0]}` is surplus"
@@ -88,6 +91,8 @@ def fault_of_word(form: Form, letter: str, word: str) -> str:
         if word.startswith(":"):
             return f"the word is = and its letters here, not {word}"
         return f"the word needs = before it: ={word}"
+    if letter.startswith(":"):
+        return "" if word.startswith(":") else f"the ports need : before them: :{word}"
     if letter == "auto":
         return "" if word == "auto" else f"auto is the one word that may stand for {word}"
     if is_number(word, form.command, letter):
@@ -113,7 +118,7 @@ def fault_of_number(command: str, letter: str, word: str, name: str = "") -> str
 
 def fault_of_file(command: str, word: str) -> str:
     """What is wrong with an argument that names a file or folder, where a form has none."""
-    if is_word(word) or re.fullmatch(r"[+-]?\d+", word):
+    if is_word(word) or re.fullmatch(r"[+-]?\d+|(\d+\.[nesw],?)+", word):
         return ""
     reads = command not in commands("unread")
     if os.path.isdir(word):

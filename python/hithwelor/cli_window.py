@@ -1,7 +1,5 @@
-"""The window of a run, found of what the program prints: the least one in which the run comes to its end.
-
-`least_window` is the one door: a command that prints a window can be asked here in place of what follows.
-"""
+"""The window of a run: the least one in which the circuit ends as the machine does, by the command `window`, and for quadruples by
+`moments`. Of a run that has not ended after so many steps, the window of these steps."""
 from __future__ import annotations
 
 import csv
@@ -61,20 +59,24 @@ def asked(ask: Ask, words: list[str], table: bytes) -> tuple[int, bytes]:
 
 
 def window_of_quintuples(ask: Ask, table: bytes, word: str, steps: int) -> Found:
-    """The window of Bennett's circuit: the heads of the machine's own run, a cell of history a step, and where it halts the
-    output with a blank behind it on tapes 1 and 3."""
+    """The window of Bennett's circuit; of a run that goes on, the heads of its first steps, and a cell of history a step."""
     status, text = asked(ask, ["machine", word, str(steps)], table)
     outcome, letters = text.decode(errors="replace").splitlines()[0], len(word) - 1
+    if status != INSIDE:
+        _, line = asked(ask, ["window", word, str(steps)], table)
+        return Found(window_in(line), outcome, True)
     made = int(outcome.split(" ")[-1])
     if made > MOST_TRACED:
-        return Found((0, letters, made, 0), outcome, status != INSIDE)
+        return Found((0, letters, made, 0), outcome, False)
     _, trace = asked(ask, ["trace", word, str(made)], table)
     heads = [int(it) for it in HEADS.findall(trace)]
-    left, right, output = max(0, -min(heads)), max(letters, *heads), 0
-    if status == DONE:
-        written = len(text.splitlines()[1]) - len(b"output =")
-        right, output = max(right, heads[-1] + written + 1), written + 1
-    return Found((left, right, made, output), outcome, status != INSIDE)
+    return Found((max(0, -min(heads)), max(letters, *heads), made, 0), outcome, False)
+
+
+def window_in(line: bytes) -> Window:
+    """The window of a line of `window`."""
+    left, right, history, output = map(int, line.split()[1:])
+    return left, right, history, output
 
 
 def lengths_of(words: list[str]) -> list[int]:

@@ -35,7 +35,7 @@ class Form:
 
     @property
     def letters(self) -> list[str]:
-        """What stands behind the command: `=W`, `auto`, or a letter for a number."""
+        """What stands behind the command: `=W`, `:IN`, `auto`, or a letter for a number."""
         return self.words.split()[1:]
 
 
@@ -171,6 +171,9 @@ def fits(form: Form, words: Sequence[str]) -> bool:
     for letter, word in zip(form.letters, words[1:]):
         if letter.startswith("="):
             if not word.startswith(("=", ":") if form.mark == "named" else "="):
+                return False
+        elif letter.startswith(":"):
+            if not word.startswith(":"):
                 return False
         elif letter == "auto":
             if word != "auto":

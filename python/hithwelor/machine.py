@@ -29,6 +29,7 @@ from .arguments import (
 )
 from .circuit import Circuit
 from .layouts import Layout
+from .optional import needs
 from .texts import BLANK, Look, Outcome, Refused, Run, Session, View, checked
 from .traces import Trace
 
@@ -180,7 +181,8 @@ class Machine(Table):
     def graph(self) -> networkx.MultiDiGraph:
         """The machine as a graph of networkx: states are nodes; quintuples are edges with their number from 1, `rule`, and
         with `read`, `write` and `move`."""
-        import networkx
+        with needs("networkx", "graphs"):
+            import networkx
 
         graph = networkx.MultiDiGraph()
         graph.add_nodes_from(self.states)
@@ -227,6 +229,11 @@ class Machine(Table):
         return Outcome.read(
             self.ask(["machine", f"={letters(word)}", whole(steps, "steps", MOST_STEPS)], DONE, STUCK, INSIDE)
         )
+
+    def least_window(self, word: str, steps: SupportsIndex = MOST_STEPS) -> Window:
+        """The least window (l1, r1, n, r3) in which the machine's circuit ends as the machine does. Where the machine doesn't
+        end in so many steps, it is Refused with status 12."""
+        return least(self.ask(["window", f"={letters(word)}", whole(steps, "steps", MOST_STEPS)]))
 
     def trace(self, word: str, steps: SupportsIndex = MOST_STEPS) -> Trace:
         """The moments of that run: a sequence, one longer than the steps made."""
@@ -287,7 +294,8 @@ class ReversibleMachine(Table):
     def graph(self) -> networkx.MultiDiGraph:
         """The machine as a graph of networkx: states are nodes; quadruples are edges with their number from 1, `rule`, and
         with what they `read` and what they do (`act`), each a tuple of three."""
-        import networkx
+        with needs("networkx", "graphs"):
+            import networkx
 
         graph = networkx.MultiDiGraph()
         graph.add_nodes_from(self.states)
@@ -368,6 +376,15 @@ class ErasingMachine(ReversibleMachine):
         return Erasure(kind, int(words[-1]), state=words[0] if kind == "stuck" else None)
 
 
+class Difference(NamedTuple):
+    """What tells two states apart: a shortest sequence of input lines, and the output lines with which the first and the second
+    machine answer the last of them; None where one has no move."""
+
+    lines: tuple[int, ...]
+    first: int | None
+    second: int | None
+
+
 class SequentialMachine(Table):
     """A reversible sequential machine, by its table of moves: `state`, input line, next state, output line, numbers from 1."""
 
@@ -395,8 +412,31 @@ class SequentialMachine(Table):
         """The machine's bank of rotary elements, in a state, with the signal at an input line."""
         return Circuit(self.ask(["realise", whole(state, "state", MOST_STEPS, 1), whole(line, "line", MOST_STEPS, 1)]))
 
+    def difference(
+        self, other: SequentialMachine, state: SupportsIndex = 1, other_state: SupportsIndex = 1
+    ) -> Difference | None:
+        """The least difference between a state of this machine and one of another; None where both answer every sequence of
+        input lines alike. A state that a machine doesn't have is Refused."""
+        words = ["equal", whole(state, "state", MOST_STEPS, 1), whole(other_state, "other_state", MOST_STEPS, 1)]
+        told = self.ask(words, data=self.beside(other.table)).splitlines()
+        if told[0] == "equal":
+            return None
+        first, second = (line.split(" ")[1] for line in told[1:])
+        lines = tuple(map(int, told[0].split(" ")[1:]))
+        return Difference(lines, *(None if it == "-" else int(it) for it in (first, second)))
+
+    def equals(self, other: SequentialMachine, state: SupportsIndex = 1, other_state: SupportsIndex = 1) -> bool:
+        """Whether a state of this machine and one of another answer every sequence of input lines alike."""
+        return self.difference(other, state, other_state) is None
+
 
 def generate(increments: SupportsIndex) -> Run:
     """The run of a machine that adds one so many times, from 1 to 4, in its own window."""
     status, text = answer(["generate", str(whole(increments, "increments", 4, 1))])
     return Run.read(checked(status, text, DONE).partition("\n")[2])
+
+
+def least(told: str) -> Window:
+    """The window of a line of `window`."""
+    left, right, history, output = map(int, told.split(" ")[1:])
+    return left, right, history, output

@@ -4,6 +4,8 @@ from __future__ import annotations
 import os
 from typing import TYPE_CHECKING
 
+from .optional import needs
+
 if TYPE_CHECKING:
     import pandas
 
@@ -14,7 +16,8 @@ def read_table(path: str | os.PathLike[str]) -> pandas.DataFrame:
 
     It needs pandas. A file that is no table of a sweep is a ValueError.
     """
-    import pandas
+    with needs("pandas", "tables"):
+        import pandas
 
     from .sweep.rows import COLUMNS, ELEMENTS, QUADRUPLE, SECONDS, STATUS, STEPS
 

@@ -22,6 +22,8 @@ STATUSES = {
     7: "read fault",
     8: "write fault",
     9: "no memory",
+    11: "window",
+    12: "inside",
 }
 
 BLANK = "_"

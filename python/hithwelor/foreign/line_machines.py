@@ -57,14 +57,14 @@ def digit(symbol):
 # Morphett
 
 
-def fields_of(line):
+def fields_of(line: str) -> list[str]:
     """The fields of a text line, without the comment behind ; and without the mark of a breakpoint."""
     found = re.split(r"[ \t]+", re.sub(r"[ \t]*;.*", "", line).strip(" \t"))
     found = [it for it in found if it]
     return found[:-1] if found and found[-1] == "!" and len(found) == 6 else found
 
 
-def is_morphett(text):
+def is_morphett(text: str) -> bool:
     """Whether the first text line that has fields has five, with a move of this simulator."""
     for line in lines_of(text):
         fields = fields_of(line)
@@ -73,7 +73,7 @@ def is_morphett(text):
     return False
 
 
-def lines_of(text):
+def lines_of(text: str) -> list[str]:
     return re.split(r"\r\n|\r|\n", text.removeprefix("\ufeff"))
 
 
