@@ -57,6 +57,10 @@ const PAGES_ABOUT = {
     "forward of circuit 1, - 2 1 is one step back of circuit 2.",
       "At the lower right is the schedule that undoes the events so far. Run it to restore the first " +
         "circuits byte for byte."],
+  pebbles: ["A pebble on a segment stores the configuration after it. A pebble is put or taken only if the segment before has one. " +
+    "The aim is a pebble on the last segment alone.",
+    "In the picture time goes down: filled boxes are pebbles, and pink marks the move. The numbers at the left are the fewest moves, and " +
+      "those of the strategy that halves the way. Nothing here is computed by the program."],
   erase: ["Bennett's machine leaves its input beside the output. If a second machine computes the input from the " +
     "output, both composed leave only the output.",
       "The table at the right is the composed machine; the two lines above show what each machine leaves."],

@@ -64,6 +64,7 @@ function begin() {
   if (design !== null) openDesign(design);
   const puzzle = asked.get("puzzle");
   if (puzzle !== null) openPuzzle(puzzle);
+  if (asked.has("pebbles")) openWorkshop("pebbles");
   if (lesson !== null || isFirst) openLearn(lesson || undefined, !asked.has("e"));
   if (task) {
     beginTask(task);

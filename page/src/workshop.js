@@ -7,6 +7,7 @@ import {elementsPage} from "./elements.js";
 import {erasePage} from "./erase.js";
 import {farmPage} from "./farm.js";
 import {mirrorPage} from "./mirror.js";
+import {pebblesPage} from "./pebbles.js";
 import {planPage} from "./plan.js";
 import {openPicture} from "./picture.js";
 import {reversiblePage} from "./reversible.js";
@@ -15,7 +16,7 @@ import {byId, partOf} from "./state.js";
 import {markTab, takeTabs} from "./tabs.js";
 
 /** @type {WorkshopPage[]} */
-const PAGES = [elementsPage, designPage, mirrorPage, farmPage, erasePage, reversiblePage, planPage, commandPage];
+const PAGES = [elementsPage, designPage, mirrorPage, farmPage, erasePage, reversiblePage, planPage, pebblesPage, commandPage];
 // The box is there once the workshop was opened, and the page that is shown.
 const workshop = /** @type {{box: HTMLDialogElement, page: WorkshopPage, made: Set<WorkshopPage>}} */ ({made: new Set()});
 const part = id => partOf(workshop.box, id);
@@ -66,6 +67,7 @@ function choosePage(page) {
   for (const it of PAGES) pageBox(it).hidden = it !== page;
   markTab(workshop.box, pageTab(page));
   part("e-picture").disabled = page === commandPage;
+  part("e-texts").disabled = page === pebblesPage;
   if (workshop.made.has(page)) {
     page.open();
     return;

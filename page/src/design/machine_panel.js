@@ -7,7 +7,7 @@ import {placeName} from "../texts.js";
 import {inTurn} from "../turns.js";
 import {number} from "../words.js";
 import {counted} from "./acts.js";
-import {behaviour, compared, kindsOf, MOST_STATES, tableOf} from "./behaviour.js";
+import {behaviour, compared, isProved, kindsOf, MOST_STATES, tableOf} from "./behaviour.js";
 import {commit, desk, showRun, tellDesk} from "./desk.js";
 import {entered, textOf, withBars} from "./drawing.js";
 import {putText} from "./parts.js";
@@ -74,7 +74,7 @@ async function find() {
 function showFound(it) {
   const many = `${counted(it.states.length, "state")}, ${counted(it.inputs.length, "port")}, ${counted(it.entries.length, "entry", "entries")}`;
   const kinds = kindsOf(it.states.length, it.entries), apart = !it.isWhole || kinds === it.states.length ? "" : kinds === 1 ? " All its states are equivalent." : ` Only ${kinds} of its states are inequivalent.`;
-  part("g-found").textContent = it.isWhole ? `Complete: ${many}.${apart}` : `Incomplete: ${many}. ${it.fault ? "The search was stopped" : `The search ends at ${MOST_STATES} states`}.`;
+  part("g-found").textContent = it.isWhole ? `Complete: ${many}.${apart}` : it.fault ? "Stopped." : `The circuit has more than ${MOST_STATES} states, or a crossing of more than a million steps, so its table is not shown.`;
   part("g-copytable").hidden = part("g-bank").hidden = !it.entries.length;
   part("g-table").classList.remove("stale");
   part("g-table").innerHTML = (it.inputs.length > MOST_ACROSS ? listHtml : gridHtml)(it);
@@ -167,8 +167,9 @@ async function compare() {
   said.textContent = "Comparing …";
   try {
     const it = await compared(text, table, {anyOrder: part("g-anyorder").checked});
+    const isSure = it.isSame && await isProved(text, table, it);
     said.className = it.isSame ? "right" : "fault";
-    said.textContent = it.isSame ? `Equal: ${lineWords(it)}.` : it.said;
+    said.textContent = isSure ? `Equal: ${lineWords(it)}.` : it.isSame ? `As the table says, and more: ${lineWords(it)}.` : it.said;
     const ports = it.word.map(line => it.inputs[line]), bars = desk.drawing.bars.join("");
     part("g-playword").hidden = it.isSame || !ports.length;
     part("g-playword").onclick = () => playWord(bars, ports);

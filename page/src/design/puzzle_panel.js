@@ -2,7 +2,7 @@
 import {answer, LANES, STATUS} from "../answer.js";
 import {escaped} from "../state.js";
 import {counted} from "./acts.js";
-import {compared, differs, entriesIn} from "./behaviour.js";
+import {compared, differs, entriesIn, isProved} from "./behaviour.js";
 import {commit, desk, deskChanged, tellDesk} from "./desk.js";
 import {EMPTY, textOf} from "./drawing.js";
 import {lineWords, playWord} from "./machine_panel.js";
@@ -137,6 +137,10 @@ async function check(it) {
       const button = Object.assign(document.createElement("button"), {textContent: "Play", onclick: () => playWord(bars, found.word.map(line => found.inputs[line]))});
       said.append(" ", button);
     }
+    return;
+  }
+  if (!await isProved(textOf(desk.drawing), it.table, /** @type {Compared} */ (found))) {
+    say("The program does not confirm it: with these ports the circuit answers differently, or answers more.");
     return;
   }
   if (it.most && count > it.most + MORE) {
