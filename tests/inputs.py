@@ -47,8 +47,9 @@ REFUSALS = {
     USAGE: "usage",
     3: rf"text: (?:line {N} {FAULT}|(?:second )?{RECORD}|no script|no second|no schedule|script line {N} (?:form|no state|same break"
     rf"|no break)|board {N} line {N} {FAULT}|schedule line {N} (?:form|board))",
-    4: rf"machine: (?:(?:second )?{FORM}|halting {N}|(?:domain|range|reads|writes) {N} {N}|(?:silent|initial|final) {N})",
-    5: rf"word: (?:{N}|{N} {N}|state|line)",
+    4: rf"machine: (?:(?:second )?{FORM}|halting {N}|(?:second )?(?:domain|range) {N} {N}|(?:reads|writes) {N} {N}"
+    rf"|(?:silent|initial|final) {N}|closed)",
+    5: rf"word: (?:{N}|{N} {N}|state|line|second state|(?:in|out) {N})",
     6: rf"size: (?:input|word needs {N}|word [123] needs {N}|symbols [123] {N}|elements {N}|quintuples {N}|quadruples {N})",
 }
 TEXT = rf"rotary [12]\nelements {N}\nstart {PLACE}\nend {PLACE}\nsteps {N}\n(?:at|left) {PLACE}\n(?:[ecr] [^\n]+\n)+"
@@ -117,9 +118,16 @@ FORMS = {
         STUCK: rf"stuck [^\n]+ {N}\n",
         INSIDE: rf"running {N}\n",
     },
+    "window": {DONE: rf"window {N} {N} {N} {N}\n", INSIDE: rf"running {N}\n"},
+    "behaviour": {DONE: rf"(?:{N},{N},{N},{N}\n)+", INSIDE: rf"(?:more|running) {N} {N}\n"},
+    "crossings": {
+        DONE: rf"(?:state {N} in {PLACE} next {N} out {PLACE} steps {N}\n)+",
+        INSIDE: rf"(?:more|running) {N} {N}\n",
+    },
+    "equal": {DONE: rf"equal\n|differ(?: {N})+\nfirst (?:{N}|-)\nsecond (?:{N}|-)\n"},
     "farm": {DONE: rf"(?:{TEXT}%\n)*(?:[+-] {N} {N}\n)*"},
 }
-TEXT_COMMANDS = ["step", "back", "migrate", "mirror", "plan"]
+TEXT_COMMANDS = ["step", "back", "migrate", "mirror", "plan", "behaviour", "crossings"]
 TABLE_COMMANDS = [
     "check",
     "machine",
@@ -137,6 +145,7 @@ TABLE_COMMANDS = [
     "reversible",
     "inverse",
     "realise",
+    "window",
 ]
 
 
@@ -153,6 +162,7 @@ OF_TWO_PARTS = {
     "play": "adder-session.txt",
     "erase": "not-twice.txt",
     "farm": "two-boards.txt",
+    "equal": None,
 }
 ARE_TEXTS = [data for data in EXAMPLES.values() if data.startswith(b"rotary") and b"%" not in data]
 ARE_TABLES = [data for name, data in EXAMPLES.items() if name.endswith(".csv")]
@@ -181,6 +191,14 @@ def drawn_quadruples(draw):
         row = [draw.choice("SABC"), *(read for read, _ in acts), *(act for _, act in acts), draw.choice("ABCF")]
         rows[draw.randrange(len(rows))] = ",".join(row)
     return "\n".join(rows).encode() + b"\n"
+
+
+def drawn_moves(draw):
+    """A table of a reversible sequential machine of few states and lines."""
+    pairs = [(state, line) for state in range(1, draw.randrange(2, 5)) for line in range(1, draw.randrange(2, 4))]
+    count = draw.randrange(1, len(pairs) + 1)
+    moves = zip(draw.sample(pairs, count), draw.sample(pairs, count))
+    return "".join(f"{q},{i},{r},{o}\n" for (q, i), (r, o) in moves).encode()
 
 
 def drawn_text(draw):
@@ -268,6 +286,10 @@ def drawn_words(draw, name):
         "trace": [word, number(0, 1, 7, 40)],
         "moments": [word, number(0, 1, 7, 40)],
         "realise": [number(1, 2, 3), number(1, 2)],
+        "window": [word, number(0, 1, 7, 40)],
+        "behaviour": [number(1, 2, 50), number(1, 9, 1000)],
+        "crossings": [number(1, 2, 50), number(1, 9, 1000)],
+        "equal": [number(1, 2, 3), number(1, 2)],
         "compile": [word, *window],
         "layout": [word, *window],
         "build": [*tapes, *window],
@@ -283,6 +305,9 @@ def drawn_words(draw, name):
     words = [name, *forms.get(name, [])]
     if name == "run" and draw.random() < 0.2:
         words.append(number(0, 1, 500, 5000))
+    if name in ("behaviour", "crossings") and draw.random() < 0.6:
+        ports = lambda: ":" + ",".join(f"{draw.randrange(4)}.{draw.choice('nesw')}" for _ in range(draw.randrange(4)))
+        words += [ports(), draw.choice([ports(), ":0.n,", ":0", ":"])]
     if name == "erase" and draw.random() < 0.5:
         words += [word, number(0, 5, 200)]
     if draw.random() < 0.03:
@@ -306,11 +331,13 @@ def drawn_case(draw):
         if name in ("moments", "build", "drive", "look", "reversible", "inverse"):
             base = draw.choice([base, drawn_quadruples(draw), drawn_quadruples(draw)])
     else:
-        name = draw.choice(["session", "play", "erase", "farm"])
+        name = draw.choice(["session", "play", "erase", "farm", "equal"])
         base, others = (
             draw.choice(
                 [
-                    EXAMPLES[OF_TWO_PARTS[name]],
+                    EXAMPLES[OF_TWO_PARTS[name]]
+                    if OF_TWO_PARTS[name]
+                    else drawn_moves(draw) + b"%\n" + drawn_moves(draw),
                     drawn_table(draw) + b"%\n" + drawn_table(draw),
                     drawn_text(draw) + b"%\n+ 1 3\n- 1 1\n",
                     drawn_quadruples(draw) + b"%\nbreak a state A\ngo 9999\nview\nrev 99\nview\n",

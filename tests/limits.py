@@ -593,6 +593,60 @@ def numbered_elements(by):
     by.expect("the greatest number", ["element", "1", "4611686018427387904"], b"", ["word: number"], WORD)
 
 
+# ---- circuits of 65,536 states, and machines of as many entries
+
+
+def counter(bits):
+    """The circuit of a counter of so many bits, each an element, and the ports by which it is used: 0.n, and an exit a bit and
+    one for the overflow."""
+    lines = ["rotary 1", f"elements {bits}", "start 0.n", f"end {bits - 1}.w", "steps 0", "at 0.n"]
+    lines += [f"e {bit} V - - {bit}.e {bit + 1}.n" for bit in range(bits - 1)] + [f"e {bits - 1} V - - {bits - 1}.e -"]
+    outputs = [*(f"{bit}.n" for bit in range(bits)), f"{bits - 1}.w"]
+    return ("\n".join(lines) + "\n").encode(), [":0.n", f":{','.join(outputs)}"]
+
+
+@case
+def circuits_of_many_states(by):
+    most = str(2**62)
+    text, ports = counter(16)
+    table = by.expect(
+        "65,536 states",
+        ["behaviour", "65536", most, *ports],
+        text,
+        lambda lines: len(lines) == 65536 and lines[-1] == "65536,1,1,17",
+    )
+    by.expect("a state too many", ["behaviour", "65535", most, *ports], text, ["more 65535 1"], INSIDE)
+    more, more_ports = counter(17)
+    by.expect("more than 65,536 states", ["crossings", "65536", most, *more_ports], more, ["more 65536 1"], INSIDE)
+    two = [":0.n,1.s", ports[1]]
+    by.expect(
+        "more than 65,536 entries",
+        ["behaviour", "65536", most, *two],
+        text,
+        lambda lines: lines[0][:5] == "more ",
+        INSIDE,
+    )
+    by.expect("a crossing of 17 steps", ["behaviour", "65536", "16", *ports], text, ["running 32768 1"], INSIDE)
+    by.expect("with as many as it makes", ["behaviour", "65536", "17", *ports], text, lambda lines: len(lines) == 65536)
+    by.expect("equal to itself", ["equal", "1", "1"], table + b"%\n" + table, ["equal"])
+    by.expect("one state on", ["equal", "1", "2"], table + b"%\n" + table, ["differ 1", "first 1", "second 2"])
+    by.expect(
+        "an entry too many",
+        ["equal", "1", "1"],
+        table + b"%\n" + table + b"1,2,1,18\n",
+        ["text: second record 65537 too many"],
+        TEXT,
+    )
+
+
+@case
+def least_windows(by):
+    by.expect("a machine that runs on", ["window", "=", "1048576"], endless(), ["running 1048576"], INSIDE)
+    by.expect(
+        "the longest word", ["window", "=" + "1" * 100_000, "300000"], increments(1), ["window 1 100001 200004 100002"]
+    )
+
+
 # ---- windows that the program finds, up to the first circuit that is too large
 
 

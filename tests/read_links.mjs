@@ -22,6 +22,7 @@ const tasks = new Map(["circuits", "machines"].flatMap(it => {
 function titleOf(hash) {
   const asked = new URLSearchParams(hash.slice(1)), parts = [];
   if (asked.has("x")) return `exercise ${asked.get("x")}: ${tasks.get(Number(asked.get("x"))) ?? "none"}`;
+  if (asked.has("pebbles")) return "the pebble game";
   const link = readLink(hash);
   if (link) {
     const name = link.example || names.get(link.text) || "no machine that is known";

@@ -19,7 +19,11 @@ from places import TOP, text_of
 
 TABLE = "crates/bn_words/specs/Requests.antt"
 # The files with the limits of one command alone.
-OWN_LIMITS = {"MOST_INCREMENTS": "crates/bn_gen/src/machine.rt", "MOST_LINES": "crates/bn_rlem/src/element.rt"}
+OWN_LIMITS = {
+    "MOST_INCREMENTS": "crates/bn_gen/src/machine.rt",
+    "MOST_LINES": "crates/bn_rlem/src/element.rt",
+    "MOST_STATES": "crates/bn_behaviour/src/bounds.rt",
+}
 MAN_PAGE = "docs/use/workbench.1"
 # The kind of word that stands for each letter of a form.
 KINDS = {
@@ -28,7 +32,11 @@ KINDS = {
     "E": "Count greatest",
     "drive E": "Count MOST_DRIVE_STEPS",
     "Q": "Ordinal MOST_COUNT",
+    "R": "Ordinal MOST_COUNT",
     "I": "Ordinal MOST_COUNT",
+    **dict.fromkeys([":IN", ":OUT"], "Ports"),
+    **dict.fromkeys(["behaviour n", "crossings n"], "Ordinal MOST_STATES"),
+    **dict.fromkeys(["behaviour E", "crossings E"], "Ordinal greatest"),
     "k": "Ordinal MOST_INCREMENTS",
     "element k": "Ordinal MOST_LINES",
     "element n": "Count greatest",
@@ -57,6 +65,12 @@ FAULTS = [
     (["cheeck"], "there is no command cheeck; did you mean check?"),
     (["chuck"], "there is no command chuck; did you mean check?"),
     (["walk"], "there is no command walk"),
+    (["behaviour", "9", "9", ":0.n"], "behaviour: the ports are two arguments, :IN and :OUT, as :0.n,0.s :1.e,1.w"),
+    (["behaviour", "0", "9"], "behaviour: n is at least 1, not 0"),
+    (["crossings", "9"], "crossings: E is missing"),
+    (["crossings", "9", "9", "0.n", ":"], "crossings: the ports need : before them: :0.n"),
+    (["equal", "1"], "equal: R is missing"),
+    (["window", "=1"], "window: n is missing"),
     (["machine", "1011", "20"], "machine: the word needs = before it: =1011"),
     (["machine", "=1011", "020"], "machine: a number has no zero in front: write 20 for 020"),
     (["machine", "=1011", "+20"], "machine: a number has no sign: n can't be +20"),
@@ -106,6 +120,9 @@ def kind_of(number, allowed):
     ]:
         if re.search(limit, allowed):
             return kind
+    from_one = re.search(rf"\bIsFromOneTo (\w+) {number}\b", allowed)
+    if from_one:
+        return f"Ordinal {from_one[1]}"
     return "Count " + re.search(rf"\b{number} ≤ (\w+)", allowed)[1]
 
 
@@ -125,16 +142,19 @@ def rows():
         if "AreSmall l" in allowed:
             allowed += "".join(f" × (l.{it} ≤ MOST_COUNT)" for it in ("left", "right", "steps", "output"))
         words = re.sub(r"window_words word l \(?(.*?)\)?$", rf"(61 ∷ word) ∷ {limits} ∷ \1", words)
+        words = re.sub(r"tape_arguments words \((decimal n .*?)\)$", r"tape_arguments ∷ \1", words)
         words = re.sub(
             r"tape_arguments words \(limit_words l \(?(.*?)\)?\)$", rf"tape_arguments ∷ {limits} ∷ \1", words
         )
         given = re.sub(r"steps_words given$", "decimal e ∷ []", words)
+        given = given.replace("port_arguments names", "(58 ∷ inputs) ∷ (58 ∷ outputs) ∷ []")
         one = words.replace("tape_arguments", "(61 ∷ word)")
         three = given.replace("tape_arguments", " ∷ ".join(["(61 ∷ word)"] * 3))
         for form in dict.fromkeys([re.sub(r"\(?steps_words given$", "[]", one), three]):
             kinds = []
-            for mark, number in re.findall(r'(\(61 ∷ \w+\)|codes "auto"|decimal ([\w.]+))', form):
-                kinds.append(kind_of(re.escape(number), allowed) if number else "Letters" if mark[0] == "(" else "Auto")
+            for mark, number in re.findall(r'(\((?:61|58) ∷ \w+\)|codes "auto"|decimal ([\w.]+))', form):
+                other = {"(61": "Letters", "(58": "Ports"}.get(mark[:3], "Auto")
+                kinds.append(kind_of(re.escape(number), allowed) if number else other)
             found.append((name, *kinds))
     return found
 
@@ -171,7 +191,7 @@ def limit_of(letter):
     """The greatest number of this letter, by the program's own limits."""
     name = KINDS[letter].split()[1]
     if name in OWN_LIMITS:
-        return int(re.search(rf"^pub const {name}: u32 = (\d+);$", text_of(OWN_LIMITS[name]), flags=re.M)[1])
+        return int(re.search(rf"^pub const {name}: u32 = ([\d_]+);$", text_of(OWN_LIMITS[name]), flags=re.M)[1])
     return GREATEST[name]
 
 

@@ -10,6 +10,7 @@ from shown_layout import LAID, LAID_PATIENCE
 from shown_learn import PICTURES, SEEN
 from shown_pasted import machines
 from shown_places import FIXED, look_at
+from shown_workshop import check_pebbles
 
 from firefox import Firefox, firefox_at_hand
 
@@ -107,6 +108,7 @@ def check_firefox(program, answers, draw, places, pictures, count):
         check_stopped(page, program, count, "Firefox, ")
         check_new(page, count)
         check_drawn(page, program, count)
+        check_pebbles(page, count, "Firefox, ")
         for width, height in ((1300, 900), (520, 900)):
             page.resize(width, height)
             page.visit(f"file://{PAGE}#m=increment&e=700000")

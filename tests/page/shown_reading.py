@@ -77,7 +77,7 @@ def check_words(page, program, count):
             said = page.ask(WORDS % panel)
             missing = [it for it in lines if it not in said]
             count.hold(not missing, f"{fragment}, ? of {panel}: {missing} isn't said: {said[:300]!r}")
-    for key in ("elements", "design", "mirror", "farm", "erase", "plan", "command"):
+    for key in ("elements", "design", "mirror", "farm", "erase", "plan", "pebbles", "command"):
         page.ask(f"bench.openWorkshop('{key}'); document.getElementById('e-about-page').click(); 0")
         said = page.ask("document.getElementById('dialogbody').innerText")
         count.hold(len(said) > 150, f"? of {key} says {said!r}")

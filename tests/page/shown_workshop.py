@@ -1,4 +1,4 @@
-"""The workshop of the page, each of its seven pages, with what the program says."""
+"""The workshop of the page, each of its pages, with what the program says."""
 import json
 import urllib.parse
 
@@ -282,8 +282,33 @@ def check_command(page, program, count):
     count.hold(page.ask("location.hash").startswith("#c="), "the address of a command isn't kept")
 
 
+# Makes moves by the buttons of segments, and presses keys in the workshop.
+MOVED = "(%s.forEach(i => document.querySelector(`#b-segments [data-segment='${i}']`).click()), 0)"
+KEYED = """(%s.forEach(key => document.getElementById("b-segments").dispatchEvent(
+  new KeyboardEvent("keydown", {key, bubbles: true, cancelable: true}))), 0)"""
+REACHED = "9 moves, 1 in use, at most 3. Reached, with the fewest moves."
+
+
+def check_pebbles(page, count, browser=""):
+    """The pebble game by hand, by keys and by its address: four segments with three pebbles take nine moves."""
+    page.visit(f"file://{PAGE}#pebbles", "document.getElementById('b-said')?.textContent.startsWith('0 moves')")
+    page.ask(MOVED % [3])
+    count.hold(said(page, "b-said").startswith("Not allowed"), f"{browser}pebbles: {said(page, 'b-said')}")
+    page.ask(MOVED % [1, 2, 1, 3, 4, 3, 1, 2, 1])
+    count.hold(said(page, "b-said") == REACHED, f"{browser}pebbles by hand: {said(page, 'b-said')}")
+    shown = page.ask("document.querySelectorAll('#b-picture rect[fill=none]').length")
+    count.hold(shown == 4, f"{browser}pebbles: {shown} are taken in the picture")
+    page.ask("(document.getElementById('b-again').click(), 0)")
+    page.ask(KEYED % json.dumps(["ArrowRight"] * 9))
+    count.hold(said(page, "b-said") == REACHED, f"{browser}pebbles by keys: {said(page, 'b-said')}")
+    page.ask(KEYED % json.dumps(["ArrowLeft"] * 9 + ["1", "2", "y"]))
+    count.hold(said(page, "b-said").startswith("2 moves, 2 in use"), f"{browser}pebbles: {said(page, 'b-said')}")
+    count.hold(page.ask("location.hash") == "#pebbles", f"{browser}pebbles: the address isn't kept")
+
+
 def check_workshop(page, program, count):
     page.visit(f"file://{PAGE}#m=least")
     for check in (check_elements, check_mirror, check_farm, check_erase, check_reversible, check_plan, check_command):
         check(page, program, count)
+    check_pebbles(page, count)
     count.hold(not page.faults(), f"the workshop: {page.faults()}")
