@@ -7,6 +7,7 @@ from pathlib import Path
 
 import circuit_rules
 import pytest
+from people import called
 
 pytestmark = pytest.mark.engine
 EXAMPLES = Path(__file__).resolve().parents[1] / "examples"
@@ -147,3 +148,32 @@ def test_windows_are_the_least(ask, name, word):
             smaller = [*window[:place], number - 1, *window[place + 1 :]]
             status, text = ask(["run", f"={word}", *smaller], table)
             assert status == 6 or text.splitlines()[1].startswith("exit window"), (window, smaller, text)
+
+
+@pytest.mark.parametrize(
+    "options, told",
+    [
+        ("--inputs 0.n --outputs 0.s", "error: --inputs: 0.n is not free: a wire leads to it"),
+        ("--inputs 0w --outputs 0.s", "error: --inputs: `0w` is no port"),
+        ("--inputs 7.w --outputs 0.s", "error: --inputs: 7.w does not exist: the elements are 0 to 1"),
+        ("--inputs 0.w --outputs 0.s,0.s", "error: --outputs: 0.s is named twice"),
+        (
+            "--inputs 0.w --outputs 0.s",
+            "note: from these states 1 crossing leaves by ports that --outputs does not name",
+        ),
+        (
+            "--inputs 0.w --outputs 0.s,1.n,1.w --states 3",
+            "note: the signal that enters in state 3 by input line 1 leads",
+        ),
+        ("--inputs 0.w", "error: --inputs and --outputs are named together"),
+    ],
+)
+def test_the_command_says_what_is_wrong_with_ports(answering, options, told):
+    path = str(CIRCUITS / "two-bit-counter.txt")
+    assert any(line.startswith(told) for line in called("behaviour", path, *options.split())[2].splitlines())
+
+
+def test_a_file_that_is_missing_is_named(answering):
+    assert called("equal", "nofile.csv", str(CIRCUITS / "toggle.csv"))[2].startswith(
+        "error: there is no file nofile.csv"
+    )

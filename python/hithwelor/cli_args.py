@@ -171,7 +171,7 @@ def hint_of(missing: str) -> str:
 
 def check_order(use: Use, names: list[str], given: list[str]) -> None:
     """A file comes first, where a command reads one."""
-    if not given or names[0].strip("[].") not in FILES or exists(given[0]):
+    if not given or names[0].strip("[].") not in FILES or exists(given[0]) or names[:1] == names[1:2]:
         return
     for number, word in enumerate(given[1:], 1):
         if exists(word) and word != "-" and not re.fullmatch(r"\d+", word):

@@ -314,6 +314,26 @@ def too_large(found: re.Match[str], question: Question, cause: str, remedy: str)
     return cause, remedy
 
 
+def port(found: re.Match[str], question: Question, cause: str, remedy: str) -> tuple[str, str]:
+    """A name of --inputs or --outputs: no port, one that does not exist, one twice, or one that is not free."""
+    option, place = f"--{found[1]}puts", int(found[2])
+    names = question.words[3 if found[1] == "in" else 4][1:].split(",")
+    name, text = names[place - 1], text_of(question.inputs[0].data)
+    spelled = re.fullmatch(r"(0|[1-9]\d*)\.[nesw]", name)
+    count = re.search(r"^elements (\d+)$", text, flags=re.M)
+    if not spelled:
+        return (
+            f"{option}: `{name}` is no port",
+            "a port is an element's number and a side, as 0.n, with commas between two",
+        )
+    if name in names[: place - 1]:
+        return f"{option}: {name} is named twice", ""
+    if count and int(spelled[1]) >= int(count[1]):
+        return f"{option}: {name} does not exist: the elements are 0 to {int(count[1]) - 1}", ""
+    why = "a wire leads to it" if found[1] == "in" else "a wire leads away from it"
+    return f"{option}: {name} is not free: {why}", remedy
+
+
 def short(found: re.Match[str], question: Question, cause: str, remedy: str) -> tuple[str, str]:
     """A word that is longer than its tape's right side."""
     option = {"1": "--right", "2": "--history", "3": "--output"}[found[1] or "1"]
@@ -334,6 +354,7 @@ MORE: list[tuple[str, More]] = [
     (r"machine: halting (\d+)", halting),
     (r"machine: (?:domain|range|reads|writes|silent|initial|final) (\d+)(?: (\d+))?", two_entries),
     (r"word: (\d+)(?: (\d+))?", letter),
+    (r"word: (in|out) (\d+)", port),
     (r"size: elements (\d+)", too_large),
     (r"size: word (?:(\d+) )?needs (\d+)", short),
 ]

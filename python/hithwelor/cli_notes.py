@@ -25,7 +25,27 @@ def tell(status: int, text: bytes, arguments: Arguments, question: Question) -> 
         say(
             f"starts in {first} on the tapes that the machine left: hithwelor run FILE WORD1 WORD2 WORD3, '' where one is blank"
         )
+    if arguments.command in ("behaviour", "crossings"):
+        tell_exploration(status, text.decode(), question)
     tell_ending(status, text, arguments)
+
+
+def tell_exploration(status: int, text: str, question: Question) -> None:
+    """Says why an exploration stopped, and how many crossings leave by ports that have no line."""
+    stopped = re.fullmatch(r"(more|running) (\d+) (\d+)\n", text)
+    if stopped:
+        where = f"the signal that enters in state {stopped[2]} by input line {stopped[3]}"
+        if stopped[1] == "more":
+            say(f"{where} leads to one more state, or entry, than is allowed; --states allows at most 65,536")
+        else:
+            say(f"{where} is inside after {question.words[2]} element steps; --element-steps allows more")
+    elif status == DONE and len(question.words) == 5:
+        rows = [list(map(int, re.findall(r"(?<![.\d])\d+(?![.\d])", line))) for line in text.splitlines()]
+        states = max(number for row in rows for number in (row[0], row[2] if len(row) == 4 else row[1]))
+        left = states * len(question.words[3].split(",")) - len(rows)
+        if left:
+            many = "1 crossing leaves" if left == 1 else f"{left} crossings leave"
+            say(f"from these states {many} by ports that --outputs does not name; they have no line")
 
 
 def tell_names(names: dict[str, str]) -> None:

@@ -32,11 +32,11 @@ FAULTS = (
 class ShownFirefox(Firefox):
     """A Firefox with the page, by the same calls as the other browser."""
 
-    def visit(self, address):
+    def visit(self, address, ready=RUNS):
         self.go("about:blank")
         self.go(address)
         self.ask(FAULTS)
-        if not comes(self, RUNS):
+        if not comes(self, ready):
             raise OSError(
                 f"{address[:80]}: no run is shown; the page says {self.ask('document.body.innerText')[:200]!r}"
             )
