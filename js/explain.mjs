@@ -8,11 +8,24 @@ function filled(text, groups, command) {
   return text.replace(/\{(\d|command)\}/g, (_, name) => name === "command" ? command : groups[Number(name)] ?? "");
 }
 
+// The forms of a command.
+function formsOf(command) {
+  return FORMS.filter(([form]) => form.split(" ")[0] === command);
+}
+
+// The help of a command, or of all.
+export function helpOf(command) {
+  const chosen = formsOf(command);
+  return ["The exact forms:", ...(chosen.length ? chosen : FORMS).map(([form, what]) => `  ${form.padEnd(33)} ${what}`),
+          "The input, if the command reads one, is standard input; =W is the byte = and the letters of the word.",
+          "docs/use/formats.md of the repository states what each command reads and prints.", ""].join("\n");
+}
+
 // What is said of arguments that are no form.
 function usage(command) {
-  const shown = FORMS.filter(form => form.split(" ")[0] === command);
+  const shown = formsOf(command).map(([form]) => form);
   if (shown.length === 0) return [command ? `there is no command ${command}` : "no command is named", `the commands are ${
-    [...new Set(FORMS.map(form => form.split(" ")[0]))].join(", ")}`];
+    [...new Set(FORMS.map(([form]) => form.split(" ")[0]))].join(", ")}`];
   return [`these arguments are no form of ${command}`, shown.join(" or ")];
 }
 
@@ -20,9 +33,9 @@ function usage(command) {
 export function explained(command, status, refusal) {
   let [cause, remedy] = [MEANINGS[status], ""];
   if (status === USAGE) [cause, remedy] = usage(command);
-  for (const [pattern, why, what] of status === USAGE ? [] : EXPLANATIONS) {
+  for (const [pattern, why, what, only] of status === USAGE ? [] : EXPLANATIONS) {
     const found = refusal.match(new RegExp(`^(?:${pattern})$`));
-    if (found) {
+    if (found && (!only || only.split(" ").includes(command))) {
       [cause, remedy] = [filled(why, found, command), filled(what, found, command)];
       break;
     }

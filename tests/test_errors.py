@@ -280,8 +280,12 @@ EXPLAINED = [
     (["erase"], LEAST, "no second table is given"),
     (["erase"], LEAST + b"%\nS,_,_,+\n", "4 fields"),
     (["farm"], b"", "no schedule is given"),
-    (["realise", "9", "1"], b"1,1,1,1\n", "no such state"),
-    (["realise", "1", "1"], b"1,1,1,1\n1,1,2,2\n", "entries 1 and 2 can both apply"),
+    (["realise", "9", "1"], b"1,1,1,1\n", "has no state 9"),
+    (["realise", "1", "7"], b"1,1,1,1\n1,2,2,2\n", "its input lines are 1 to 2"),
+    (["realise", "1", "1"], b"1,1,1,1\n1,1,2,2\n", "entries 1 and 2 have the same state and input line"),
+    (["equal", "1", "1"], b"1,1,1,1\n%\n1,1,1,1\n2,1,1,1\n", "entries 1 and 2 have the same next state and output line"),
+    (["equal", "1", "2"], b"1,1,1,1\n%\n1,1,1,1\n", "it has state 1 alone"),
+    (["equal", "1", "1"], b"1,1,1,1\n%\n1,1,1,x\n", "line 1: field 4, `x`, is not a number from 1"),
     (["moments", "=", "5"], b"S,_,/,/,_,0,0,F\nS,_,/,/,_,0,0,F\n", "not deterministic"),
     (
         ["build", "=", "0", "2", "1", "0"],
@@ -290,6 +294,41 @@ EXPLAINED = [
     ),
     (["compile", "=", "0", "1048576", "9", "9"], LEAST, "elements, more than 4,194,304"),
 ]
+
+
+# Faults of a configuration text: the line, counted from 1, what it becomes, and what is said of it.
+CIRCUIT_FAULTS = [
+    (7, "e 0 X - - - -", "the bar is `X`"),
+    (7, "e 0 H - - -", "the element has 3 wires where 4 are needed"),
+    (7, "e 0 H - 1.q - -", "the wire of output e: `q` is no side: a side is n, e, s or w"),
+    (7, "e zero H - - - -", "`zero` is not a number"),
+    (7, "f 0 H - - - -", "an element is `e E S X X X X`"),
+    (7, "e 0 H  - - - -", "single spaces"),
+    (7, "c 0 1 H", "`c` is an entry of version 2"),
+    (7, None, "the text ends after 0 of 1 elements"),
+    (5, None, "line 5 must be `steps T`"),
+    (5, "steps 01", "no zeros in front"),
+    (3, "start 0.q", "`q` is no side"),
+    (3, "start n", "`n` is no port"),
+    (2, "elements 0", "at least one element"),
+    (1, "rotary 3", "`rotary 1` or `rotary 2`"),
+    (7, "e 0 H - - - -\ne 1 H - - - -", "the text has more lines than `elements 1` says"),
+]
+
+
+@pytest.mark.parametrize("number, line, told", CIRCUIT_FAULTS, ids=[told for _, _, told in CIRCUIT_FAULTS])
+def test_a_fault_of_a_circuit_says_which_field(put, number, line, told):
+    lines = CIRCUIT.decode().replace("\r", "").splitlines()
+    lines[number - 1 : number] = [] if line is None else [line]
+    path = put("".join(f"{it}\n" for it in lines).encode(), "circuit.txt")
+    err = refused("step", path, status=3, told=[told])
+    assert f"circuit.txt, line {number + (line or '').count(chr(10))}" in err, err
+
+
+def test_a_difference_of_two_machines_is_put_into_words():
+    told = "after the input lines 1 1 the first machine answers by output line 2, and the second answers by output line 1"
+    toggle, reflector = (f"examples/circuits/{it}.csv" for it in ("toggle", "reflector"))
+    assert answered("equal", os.path.join(TOP, toggle), os.path.join(TOP, reflector), note=told).startswith(b"differ 1 1\n")
 
 
 @pytest.mark.parametrize("words, data, told", EXPLAINED, ids=[told for _, _, told in EXPLAINED])

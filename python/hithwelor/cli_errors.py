@@ -7,6 +7,7 @@ from __future__ import annotations
 import re
 from typing import TYPE_CHECKING, Callable
 
+from .cli_circuit import syntax
 from .cli_input import (
     FOREIGN,
     MOVES,
@@ -50,9 +51,9 @@ RECORDS = {
 
 def base(refusal: str, command: str) -> tuple[str, str]:
     """The cause and the remedy of a refusal's line, as the table of forms has them."""
-    for pattern, cause, remedy in parts_of("explain"):
+    for pattern, cause, remedy, *only in parts_of("explain"):
         found = re.fullmatch(pattern, refusal)
-        if found:
+        if found and (not only or command in only[0].split()):
             groups = {str(number): group or "" for number, group in enumerate(found.groups(), 1)}
             return filled(cause, groups, command), filled(remedy, groups, command)
     return refusal, ""
@@ -209,11 +210,11 @@ def circuit_line(found: re.Match[str], question: Question, cause: str, remedy: s
         )
     if not it.data:
         return f"{it.name} is empty", "give a configuration text, as `compile` and `realise` print them"
-    if number <= len(lines) and lines[number - 1]:
-        shown = lines[number - 1][:60]
-        behind = "" if number < len(lines) else ", and has no newline at its end"
-        return f"{it.name}, line {number}: `{shown}`{behind}: {cause.partition(' ')[2].partition(' ')[2]}", remedy
-    return f"{it.name}, line {number}: {cause.partition(' ')[2].partition(' ')[2]}", remedy
+    shown = f"`{lines[number - 1][:60]}`: " if number <= len(lines) and lines[number - 1] else ""
+    if found[2] == "syntax":
+        why, remedy = syntax(text_of(it.data), number)
+        return f"{it.name}, line {number}: {shown}{why}", remedy
+    return f"{it.name}, line {number}: {shown}{cause.partition(' ')[2].partition(' ')[2]}", remedy
 
 
 def two_entries(found: re.Match[str], question: Question, cause: str, remedy: str) -> tuple[str, str]:
@@ -334,6 +335,16 @@ def port(found: re.Match[str], question: Question, cause: str, remedy: str) -> t
     return f"{option}: {name} is not free: {why}", remedy
 
 
+def missing(found: re.Match[str], question: Question, cause: str, remedy: str) -> tuple[str, str]:
+    """A state or an input line that a sequential machine does not have."""
+    it = table_of(found, question)
+    column = (0, 2) if found[2] == "state" else (1,)
+    most = max((int(row[at]) for _, row in it.rows for at in column), default=0)
+    asked = question.words[1 if found[2] == "state" and not found[1] else 2]
+    what = "state" if found[2] == "state" else "input line"
+    return f"{it.name} has no {what} {asked}", f"its {what}s are 1 to {most}" if most > 1 else f"it has {what} 1 alone"
+
+
 def short(found: re.Match[str], question: Question, cause: str, remedy: str) -> tuple[str, str]:
     """A word that is longer than its tape's right side."""
     option = {"1": "--right", "2": "--history", "3": "--output"}[found[1] or "1"]
@@ -348,13 +359,14 @@ More = Callable[["re.Match[str]", "Question", str, str], "tuple[str, str]"]
 MORE: list[tuple[str, More]] = [
     (r"text: (second )?record (\d+) fields", fields),
     (r"text: (second )?record (\d+) field (\d+) shift", shift),
-    (r"text: (second )?record (\d+) field (\d+) (name|symbol)", one_field),
-    (r"text: line (\d+) .*", circuit_line),
+    (r"text: (second )?record (\d+) field (\d+) (name|symbol|number)", one_field),
+    (r"text: line (\d+) (.*)", circuit_line),
     (r"machine: (second )?S[1-5](?: (\d+))?(?: (\d+))?", standard),
     (r"machine: halting (\d+)", halting),
-    (r"machine: (?:domain|range|reads|writes|silent|initial|final) (\d+)(?: (\d+))?", two_entries),
+    (r"machine: (?:second )?(?:domain|range|reads|writes|silent|initial|final) (\d+)(?: (\d+))?", two_entries),
     (r"word: (\d+)(?: (\d+))?", letter),
     (r"word: (in|out) (\d+)", port),
+    (r"word: (second )?(state|line)", missing),
     (r"size: elements (\d+)", too_large),
     (r"size: word (?:(\d+) )?needs (\d+)", short),
 ]

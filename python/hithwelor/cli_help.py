@@ -118,6 +118,9 @@ def help_of(command: str) -> str:
     if twin:
         lines.append(f"Given quadruples it does what `{twin}` does.")
     lines += ["", "Arguments:", *arguments_of(use), "", "Options:", *options_of(use)]
+    printed = [text for name, text in parts_of("prints") if name == command]
+    if printed:
+        lines += ["", "Prints:", *(wrapped(f"  {text}", 4) for text in printed)]
     examples = examples_of(command)
     if examples:
         lines += ["", "Examples:", *examples]

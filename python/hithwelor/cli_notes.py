@@ -27,7 +27,20 @@ def tell(status: int, text: bytes, arguments: Arguments, question: Question) -> 
         )
     if arguments.command in ("behaviour", "crossings"):
         tell_exploration(status, text.decode(), question)
+    if status == DONE and arguments.command == "equal":
+        tell_difference(text.decode())
     tell_ending(status, text, arguments)
+
+
+def tell_difference(text: str) -> None:
+    """Says how two sequential machines differ."""
+    found = re.fullmatch(r"differ (.*)\nfirst (.*)\nsecond (.*)\n", text)
+    if found:
+        first, second = (
+            f"has no move for {found[1].split(' ')[-1]}" if line == "-" else f"answers by output line {line}"
+            for line in (found[2], found[3])
+        )
+        say(f"after the input lines {found[1]} the first machine {first}, and the second {second}")
 
 
 def tell_exploration(status: int, text: str, question: Question) -> None:
