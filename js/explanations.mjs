@@ -15,7 +15,7 @@ export const EXPLANATIONS = [
   ["text: line (\\d+) left wired", "line {1} has a wire that leaves the port by which the signal has left", "the port of the line `left` has no wire"],
   ["text: line (\\d+) start fed", "line {1} has a wire into the start", "no wire leads to the port of the line `start`"],
   ["text: line (\\d+) two sources", "line {1} has a second wire into one input", "each input has one wire at most"],
-  ["text: line (\\d+) spelling", "a column of elements begins at line {1}, and is not written as one", "`migrate` of the same circuit in version 1 writes columns as version 2 has them"],
+  ["text: line (\\d+) spelling", "line {1} begins a column of elements, which version 2 writes as one entry", "write `c E K S` and a line `r X Y` for each row; or write the whole circuit in version 1, and `migrate` writes it in version 2"],
   ["text: no script", "no script is given: the input has no line that is % alone", "write the table, a line % and the script, or hithwelor {command} MACHINE WORD SCRIPT"],
   ["text: script line (\\d+) form", "line {1} of the script is not a command", "commands: step E, back E, go E, rev E, break LABEL state NAME, break LABEL element K, drop LABEL, view"],
   ["text: script line (\\d+) no state", "line {1} of the script names a state that the machine does not have", "states are those of Bennett's machine, as A1, A1' and B1, or with `play` those of the table"],

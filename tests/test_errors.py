@@ -316,6 +316,17 @@ CIRCUIT_FAULTS = [
 ]
 
 
+def test_a_column_that_is_not_one_entry():
+    told = [
+        "spelled-out.txt, line 10: `e 3 V 5.e - 4.n -`: begins a column of elements, which version 2 writes as one entry",
+        "write `c E K S` and a line `r X Y` for each row; or write the whole circuit in version 1",
+    ]
+    for command in ("step", "migrate"):
+        refused(command, example("refused/spelled-out.txt"), status=3, told=told)
+    told = ["line 10: `e 3 V 5.e - 4.n -`: begins a column"]
+    by_the_exact_form("migrate", status=3, text=b"text: line 10 spelling\n", data=read("refused/spelled-out.txt"), told=told)
+
+
 @pytest.mark.parametrize("number, line, told", CIRCUIT_FAULTS, ids=[told for _, _, told in CIRCUIT_FAULTS])
 def test_a_fault_of_a_circuit_says_which_field(put, number, line, told):
     lines = CIRCUIT.decode().replace("\r", "").splitlines()

@@ -214,7 +214,8 @@ def circuit_line(found: re.Match[str], question: Question, cause: str, remedy: s
     if found[2] == "syntax":
         why, remedy = syntax(text_of(it.data), number)
         return f"{it.name}, line {number}: {shown}{why}", remedy
-    return f"{it.name}, line {number}: {shown}{cause.partition(' ')[2].partition(' ')[2]}", remedy
+    why = cause.removeprefix(f"line {number} ")
+    return f"{it.name}, line {number}: {shown}{why}", remedy
 
 
 def two_entries(found: re.Match[str], question: Question, cause: str, remedy: str) -> tuple[str, str]:
