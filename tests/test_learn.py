@@ -2,7 +2,7 @@
 
 A link into the page has a title with the machine, the word and the moment, and the page's own reader (page/src/links.js,
 under node) reads just that out of it; the moment is there in the program's run. The plans go from the first minute to the last, with a link a row; the questions are twenty, each
-with five sentences, something to run and sources that stand in the list. The outputs are held by test_documents.py.
+with five sentences, something to run and sources that stand in the bibliography. The outputs are held by test_documents.py.
 """
 import glob
 import json
@@ -144,21 +144,6 @@ def test_the_questions_are_twenty_with_five_sentences_each():
         assert commands, number
 
 
-def test_the_sources_of_the_questions_are_in_the_list():
-    listed = places.text_of(QUESTIONS).split("\n## Sources\n")[1]
-    entries = [line for line in listed.splitlines() if line.startswith("- ")]
-    cited = {
-        (name.split(" ")[0].strip(","), year)
-        for _, _, _, told in questions()
-        if not told.startswith("[")
-        for name, year in (part.rsplit(" ", 1) for part in told.rstrip(".").split("; "))
-    }
-    for name, year in cited:
-        assert any(name in entry and entry.endswith(f"{year}.") for entry in entries), (name, year)
-    for entry in entries:
-        assert any(name in entry and entry.endswith(f"{year}.") for name, year in cited), entry
-
-
 references = places.tool("build/references")
 
 
@@ -176,11 +161,14 @@ def test_the_page_of_references_is_that_of_the_bibliography():
 
 
 def test_the_sources_of_the_questions_are_in_the_bibliography():
-    listed = places.text_of(QUESTIONS).split("\n## Sources\n")[1]
-    titles = {it["title"]: it["year"] for it in entries()}
-    for line in re.findall(r"(?m)^- (.*)$", listed):
-        title = re.search(r'"(.*?)"|\*(.*?)\*', line)
-        assert titles[title[1] or title[2]] == line[-5:-1], line
+    years = {(name, it["year"]) for it in entries() for name in re.findall(r"\w+", it["author"])}
+    cited = {
+        (name.split(" ")[0].strip(","), year)
+        for _, _, _, told in questions()
+        if not told.startswith("[")
+        for name, year in (part.rsplit(" ", 1) for part in told.rstrip(".").split("; "))
+    }
+    assert len(cited) > 10 and not cited - years
 
 
 @pytest.mark.parametrize("page", [*LECTURES, "docs/learn/pebbles.md"])
