@@ -1,4 +1,4 @@
--- What the laws say on inputs of two parts, each a field of `Laws`.
+-- The laws on inputs of two parts, each a field of `Laws`.
 use Rattle.std.specs.Prelude.{◌≡◌, ℕ, List, ◌⊎◌}
 use Rattle.bn_base.specs.Cuts.{IsCut, IsUncut}
 
@@ -11,6 +11,6 @@ CutsAreOne =
 abbrev pub CutsAreNotUncut : Type 0
 CutsAreNotUncut = (bytes first second : List ℕ) → IsCut bytes first second → IsUncut bytes → ⊥
 
--- and one of the two holds of it
+-- every input is cut or uncut
 abbrev pub CutsOrNot : Type 0
 CutsOrNot = (bytes : List ℕ) → ((first : List ℕ) × (second : List ℕ) × IsCut bytes first second) ⊎ IsUncut bytes

@@ -12,6 +12,6 @@ pub record Laws : Type 0 where
   pub most_count_is_stated : MOST_COUNT ≡ 2 ^ 20
   -- The law of lines: a text is cut into lines in one way.
   pub one_cut : LinesAgree × CutLinesDiffer
-  -- The law of reading and writing numbers. What `read_u64` reads stands there in its decimal text, this text is read
-  -- back whatever stands round it but a further digit, and no two numbers have one text.
+  -- A number that `read_u64` reads is at most 2^62, and the bytes read are its decimal text. Such a text is read back
+  -- as this number unless a digit follows it. Different numbers have different texts.
   pub one_spelling : WhatIsReadIsSpelled × WhatIsSpelledIsRead × SpellingsDiffer

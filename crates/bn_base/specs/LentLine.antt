@@ -1,4 +1,4 @@
--- What a reader of lines is once the line that borrows it is gone.
+-- The value of a reader of lines after the borrow by the returned line has ended.
 use Rattle.std.specs.Prelude.{ℕ, List, ⊤, []}
 use Rattle.std.specs.Borrow.{follows_so, MutBor, Fml}
 use mathlib.Core.Option.{none}
@@ -7,8 +7,8 @@ use Rattle.bn_base.specs.Line.{IsNextLine}
 use Rattle.bn_base.specs.declared.lines.NextLine.{NextLine}
 use Rattle.bn_base.specs.contracts.lines.Lines.{the_row}
 
--- The reader has given this line: it is left with the bytes behind it. `named 1` is the place of the text's lifetime in
--- the signature.
+-- The reader has returned this line, and the bytes after the line are left. `named 1` is the place of the text's
+-- lifetime in the signature.
 abbrev pub GivesLine : MutBor (List ℕ) → NextLine → Fml
 GivesLine m line =
     let row = the_row (record { mir = named 1; lft = [] }) in

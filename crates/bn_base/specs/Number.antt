@@ -39,28 +39,28 @@ number_of digits =
     else if nat_lt greatest (digits_value 10 digits) then Err TooLarge
     else Ok (digits_value 10 digits)
 
--- a number with the place behind it
+-- a number with the place after it
 abbrev pub with_place : ℕ → Result ℕ Digits → Result (ℕ × ℕ) Digits
 with_place place (Ok n) = Ok (n, place)
 with_place place (Err fault) = Err fault
 
--- the number that the digits from this place on spell, with the place behind them, or the fault
+-- the number that the digits from this place on spell, with the place after them, or the fault
 unfoldable pub read_number : List ℕ → ℕ → Result (ℕ × ℕ) Digits
 read_number bytes place = with_place (place + length (digits_at bytes place)) (number_of (digits_at bytes place))
 
--- What is read at a place is a number of at most `greatest`, and it stands there in its decimal text.
+-- A number that is read at a place is at most `greatest`, and the bytes at this place are its decimal text.
 abbrev pub WhatIsReadIsSpelled : Type 0
 WhatIsReadIsSpelled =
     (bytes : List ℕ) (place n behind : ℕ) → read_number bytes place ≡ Ok (n, behind)
     → (n ≤ greatest) × (behind ≡ place + length (decimal n)) × (drop place bytes ≡ decimal n ++ drop behind bytes)
 
--- The decimal text of a number of at most `greatest` is read as this number, whatever stands before it, and
--- whatever stands behind it but a digit.
+-- The decimal text of a number of at most `greatest` is read as this number, whatever bytes come before it, if no
+-- digit follows it.
 abbrev pub WhatIsSpelledIsRead : Type 0
 WhatIsSpelledIsRead =
     (front rest : List ℕ) (n : ℕ) → n ≤ greatest → BeginsWithNoDigit rest
     → read_number (front ++ (decimal n ++ rest)) (length front) ≡ Ok (n, length front + length (decimal n))
 
--- Two numbers with one decimal text are one number.
+-- Two numbers with the same decimal text are equal.
 abbrev pub SpellingsDiffer : Type 0
 SpellingsDiffer = (m n : ℕ) → m ≤ greatest → n ≤ greatest → decimal m ≡ decimal n → m ≡ n

@@ -9,8 +9,8 @@ use memchr::memchr;
 /// The line between the two parts, with its byte 10.
 const MARK: &[u8] = b"%\n";
 
-/// The two parts of an input: what stands before and behind its first line that is exactly `%` with its byte 10. `None`
-/// comes exactly where no line is that one. It takes no memory. (This project's own profile.)
+/// The two parts of an input: the bytes before and after its first line that is exactly `%` with its byte 10. Returns
+/// `None` exactly if there is no such line. Allocates no memory. (This project's own profile.)
 pub fn cut_input(bytes: &[u8]) -> Option<(&[u8], &[u8])>
     ensures { MatchOption result (IsUncut bytes.now) (λ parts. IsCut bytes.now parts.0.now parts.1.now) }
 {

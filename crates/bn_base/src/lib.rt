@@ -1,4 +1,4 @@
-//! Numbers and lines of text, which all the texts of this project are made of, and inputs of two parts.
+//! Numbers and lines, the parts of all texts of this project, and inputs of two parts.
 #![tactic(auto)]
 
 mod cut;

@@ -9,7 +9,7 @@ use std::marker::Model;
 pub enum NextLine<'a> {
     /// A line that ended with byte 10, without that byte.
     Whole(&'a [u8]),
-    /// What stood behind the last byte 10, where that is not empty.
+    /// The bytes after the last byte 10, if there are any.
     Cut(&'a [u8]),
     /// Nothing is left.
     End,
@@ -33,14 +33,14 @@ impl<'a> Lines<'a> {
     ghost use Rattle.bn_base.specs.LentLine.{GivesLine};
     ghost use Rattle.std.specs.Borrow.{sem};
 
-    /// The lines of `bytes`, from the first on. It takes no memory.
+    /// The lines of `bytes`, from the first on. Allocates no memory.
     pub fn new(bytes: &[u8]) -> Lines<'_>
         ensures { result ≡ bytes.now }
     {
         Lines { rest: bytes }
     }
 
-    /// The next line, or what is left of a line at the end of the text. It takes no memory.
+    /// The next line, or the rest of the text if no byte 10 is left in it. Allocates no memory.
     pub fn next_line(&mut self) -> NextLine
         ensures* { sem 𝓛 (GivesLine self.entry result) }
     {

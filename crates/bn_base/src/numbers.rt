@@ -10,10 +10,10 @@ ghost use Rattle.bn_base.specs.Number.{greatest};
 use bn_lists::NoMemory;
 use itoa::Buffer;
 
-/// Why the bytes at a place are no number.
+/// Why the bytes at a place are not a number.
 #[derive(Clone, Copy, Debug, PartialEq, Eq)]
 pub enum Digits {
-    /// No digit stands there.
+    /// There is no digit at this place.
     NoDigit,
     /// There are two digits or more, and the first is a zero.
     LeadingZero,
@@ -24,10 +24,10 @@ pub enum Digits {
 /// The greatest number that is read: 2^62.
 pub const GREATEST: u64 = 1 << 62;
 
-/// Reads the longest run of ASCII digits from the place `at` on, which counts from 0 and is at most
-/// the length, and answers its value and the place behind it. `NoDigit` comes exactly where the run
-/// is empty, `LeadingZero` where it has two digits or more and begins with a zero, and `TooLarge`
-/// where it has neither fault and its value is above 2^62. It takes no memory.
+/// Reads the longest run of ASCII digits from the place `at` on, which counts from 0 and is at most the length, and
+/// returns its value and the place after it. The error is `NoDigit` exactly if the run is empty, `LeadingZero` exactly
+/// if it has two digits or more and begins with a zero, and `TooLarge` exactly if it has neither fault and its value is
+/// above 2^62. Allocates no memory.
 pub fn read_u64(bytes: &[u8], at: usize) -> Result<(u64, usize), Digits>
     requires { at ≤ length bytes.now }
     ensures reads { result ≡ read_number bytes.now at }
@@ -69,7 +69,7 @@ fn run_at(bytes: &[u8], at: usize) -> &[u8]
     &rest[..run_len(rest)]
 }
 
-// How many ASCII digits stand at the front.
+// How many ASCII digits the bytes begin with.
 fn run_len(bytes: &[u8]) -> usize
     ensures value { result ≡ prefix_len is_ascii_digit bytes.now }
     ensures within { result ≤ length bytes.now }
@@ -98,7 +98,7 @@ fn number(digits: &[u8]) -> Result<u64, Digits>
     Ok(value)
 }
 
-// The value of a run of digits, or some number above 2^62 where the value is above that.
+// The value of a run of digits, or some number above 2^62 if the value is above 2^62.
 fn capped_value(digits: &[u8]) -> u64
     requires { AreDigits digits.now }
     ensures { min result (greatest + 1) ≡ min (digits_value 10 digits.now) (greatest + 1) }
@@ -113,8 +113,7 @@ fn capped_value(digits: &[u8]) -> u64
     value
 }
 
-/// Appends the decimal text of `value`, which has no zero in front. After `NoMemory` nothing was
-/// appended.
+/// Appends the decimal text of `value`, without a leading zero. On `NoMemory` nothing is appended.
 pub fn push_u64(out: &mut Vec<u8>, value: u64) -> Result<(), NoMemory>
     ensures ok { OnOk result (out.new.items ≡ out.old.items ++ decimal value) }
     ensures err { OnErr result (out.new.items ≡ out.old.items) }

@@ -1,4 +1,4 @@
-//! The ports that are the lines of a behaviour.
+//! The ports of a circuit that are the ports of its behaviour.
 
 ghost use Rattle.std.specs.Prelude.{◌≤◌, length, IfOk};
 ghost use Rattle.bn_circuits.specs.Circuits.{IsCircuit};
@@ -12,13 +12,13 @@ use bn_element::Rotary;
 use bn_lists::NoMemory;
 use std::alloc::Global;
 
-/// The ports of a circuit that are its lines as a sequential machine: input line i, counted from 0, is input port i,
-/// and output line i is output port i.
+/// The ports of a circuit that are its ports as a sequential machine: entry i of `inputs`, counted from 0, is input
+/// port i, and entry i of `outputs` is output port i.
 #[derive(Drop)]
 pub struct Ports {
-    /// The input ports, to which no wire leads.
+    /// The input ports, to none of which a wire leads.
     pub inputs: PortList,
-    /// The output ports, from which no wire leads.
+    /// The output ports, from none of which a wire leads.
     pub outputs: PortList,
 }
 

@@ -1,4 +1,4 @@
--- The printed names of the reversible machine's states and symbols (this project's own profile).
+-- The printed names of the reversible machine's states and symbols (own to this project).
 use Rattle.std.specs.Prelude.{◌≡◌, ℕ, zero, suc, ◌+◌, ◌^◌, ◌<◌, Bool, true, false, List, [], ◌∷◌, ◌++◌, length, map}
 use Rattle.std.specs.Prelude.{Some, slice_get, decimal, if◌then◌else◌}
 use Rattle.std.specs.List.{range_with_len}
@@ -15,7 +15,7 @@ use Rattle.bn_bennett.specs.declared.naming.Print.{Print}
 abbrev pub print : ℕ → ℕ → Bool → Print
 print letter number primed = record { letter = letter; number = number; primed = primed }
 
--- a name is printed as a letter for its stage, `A`, `B` or `C`, a number, and a prime or none
+-- the parts of a printed name: a letter for its stage (`A`, `B` or `C`), a number, and a prime or none
 abbrev pub print_of : Name → Print
 print_of (Compute j) = print 65 (j + 1) false
 print_of (ComputeWithin m) = print 65 m true
@@ -36,7 +36,7 @@ printed p = p.letter ∷ decimal p.number ++ mark p.primed
 abbrev pub bennett_state_text : Name → List ℕ
 bennett_state_text name = printed (print_of name)
 
--- no two of these names are one, and none is printed with a number of 2^62 or more
+-- there are fewer than 2^32 names, all distinct, and none is printed with a number of 2^62 or more
 pub record ArePrintable (names : List Name) : Type 0 where
   pub few : length names < 2 ^ 32
   pub apart : (m n : ℕ) (q : Name) → slice_get names m ≡ Some q → slice_get names n ≡ Some q → m ≡ n
@@ -44,12 +44,12 @@ pub record ArePrintable (names : List Name) : Type 0 where
 
 -- ---- symbols
 
--- letters of symbols: fewer than 2^32, and no two of them the same
+-- letters of symbols: fewer than 2^32, all distinct
 pub record AreLetters (letters : List ℕ) : Type 0 where
   pub few : length letters < 2 ^ 32
   pub apart : (m n letter : ℕ) → slice_get letters m ≡ Some letter → slice_get letters n ≡ Some letter → m ≡ n
 
--- a letter's text
+-- a letter as a text of one byte
 abbrev pub one_byte : ℕ → List ℕ
 one_byte b = b ∷ []
 
@@ -59,11 +59,11 @@ number_names count = (blank ∷ []) ∷ map decimal (range_with_len 1 count)
 
 -- ---- all names
 
--- names of states alone
+-- names for states, and none for symbols
 abbrev pub with_states : List (List ℕ) → Naming
 with_states states = naming_of states [] [] []
 
--- the names with these for the symbols of a tape, counted from 1
+-- the names, with these ones for the symbols of a tape, counted from 1
 abbrev pub on_tape : Naming → ℕ → List (List ℕ) → Naming
 on_tape n zero names = n
 on_tape n (suc zero) names = naming_of n.states names n.two n.three

@@ -15,7 +15,7 @@ use Rattle.bn_bennett_laws.specs.Steps.{EndsAt, Exit, Finished, Stopped, Leaving
 use Rattle.bn_bennett_laws.specs.declared.name.Name.TheVariants.{Compute}
 use Rattle.bn_bennett.specs.Translation.{Translation, name_of}
 
--- ---- on tapes without ends, or in rooms
+-- ---- on infinite tapes, or within rooms
 
 -- the start: the initial state, the word on tape 1, tapes 2 and 3 blank, all heads at 0
 abbrev pub beginning_of : Translation → List ℕ → Configuration ℕ
@@ -35,18 +35,18 @@ ending_of t word y = record {
   three = word_tape y;
 }
 
--- from the word exactly n steps in these rooms lead to d
+-- from the word exactly n steps within these rooms lead to d
 abbrev pub Runs : Translation → List ℕ → Rooms → ℕ → Configuration ℕ → Type 0
 Runs t word rooms n d = Reaches (QuadruplesRunTo rooms t.machine) n (beginning_of t word) d
 
--- from the word, in these limits, the machine makes n steps to d, and there its run ends so
+-- from the word, in these limits, the machine makes n steps to d, and its run ends there in this way
 pub record Comes (t : Translation) (word : List ℕ) (l : Limits) (n : ℕ) (d : Configuration ℕ) (e : Exit) : Type 0 where
   pub run : Runs t word (rooms_of l) n d
   pub ends : EndsAt (rooms_of l) t.machine.rules (final_state_of t.machine.rules) d e
 
 -- The machine's run from the word, in these limits, ends as the outcome says: halted with the output y, stuck in a
--- state at a symbol, which no quadruple of that state reads, or where a head would leave its tape. The number i is that
--- of the one-tape machine's own steps.
+-- state at a symbol that no quadruple of that state reads, or where a head would leave its tape. The number i counts
+-- the one-tape machine's own steps.
 abbrev pub MachineEndsAs : Translation → List ℕ → Limits → ℕ → Outcome → Type 0
 MachineEndsAs t word l i (outcome.Halted y) = All (λ s. s ≢ 0) y
     × Comes t word l (4 * i + 4 * length y + 5) (ending_of t word y) Finished
@@ -65,11 +65,11 @@ pub record Stand : Type 0 where
 abbrev pub stand : ℕ → Tapes → Stand
 stand state tapes = record { state = state; tapes = tapes }
 
--- `step` answers `Moved` and goes from the one to the other
+-- `step` returns `Moved` and goes from a to b
 abbrev pub Moves : Quadruples → Stand → Stand → Type 0
 Moves p a b = (quad : ℕ) × IsQuadTurn p (turn.Moved quad) a.state a.tapes b.state b.tapes
 
--- `step` answers this, and nothing changes
+-- `step` returns this, and nothing changes
 abbrev pub Answers : Quadruples → Stand → QuadTurn → Type 0
 Answers p a answer = IsQuadTurn p answer a.state a.tapes a.state a.tapes
 
@@ -89,14 +89,15 @@ ended_tapes l word y = record {
   three = new_window 0 l.output y;
 }
 
--- from the initial state, on new tapes for the word, n calls of `step` move to this stand, and the next one answers so
+-- from the initial state, on new tapes for the word, n calls of `step` lead to b, and the next call returns this
+-- answer
 pub record Answered (t : Translation) (word : List ℕ) (l : Limits) (n : ℕ) (b : Stand)
     (answer : QuadTurn) : Type 0 where
   pub moved : Reaches (Moves t.machine) n (stand (initial_of t.machine.rules) (new_tapes l word)) b
   pub answers : Answers t.machine b answer
 
--- The calls of `step` come out as the outcome says: `Final` with the word, a blank history and the output y; `Stuck` in
--- a state at a symbol, which no quadruple of that state reads; or `Left`, at this tape and this end.
+-- The calls of `step` end as the outcome says: `Final` with the word, a blank history and the output y; `Stuck` in a
+-- state at a symbol that no quadruple of that state reads; or `Left`, at this tape and this end.
 abbrev pub CallsEndAs : Translation → List ℕ → Limits → ℕ → Outcome → Type 0
 CallsEndAs t word l i (outcome.Halted y) = All (λ s. s ≢ 0) y
     × Answered t word l (4 * i + 4 * length y + 5) (stand (final_state_of t.machine.rules) (ended_tapes l word y))

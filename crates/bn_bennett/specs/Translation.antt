@@ -11,7 +11,7 @@ use Rattle.bn_bennett_laws.specs.declared.name.Name.{Name}
 use Rattle.bn_bennett_laws.specs.declared.name.Name.TheVariants.{Compute, ComputeWithin, GoRight, CopyLetter, GoLeft}
 use Rattle.bn_bennett_laws.specs.declared.name.Name.TheVariants.{PassLetter, Retrace, RetraceWithin}
 
--- whether two names are one
+-- whether two names are equal
 abbrev pub is_same : Name → Name → Bool
 is_same (Compute i) (Compute j) = i == j
 is_same (ComputeWithin m) (ComputeWithin n) = m == n
@@ -23,11 +23,11 @@ is_same (Retrace i) (Retrace j) = i == j
 is_same (RetraceWithin m) (RetraceWithin n) = m == n
 is_same a b = false
 
--- these names and, where it is new, one more at the end
+-- these names, with one more at the end if it is new
 abbrev pub with_name : List Name → Name → List Name
 with_name names name = if list_any (is_same name) names then names else names ++ name ∷ []
 
--- a quadruple machine, the name of each of its states by the state's number, and the one-tape machine's final state,
+-- a quadruple machine, the name of each of its states at the state's number, and the one-tape machine's final state,
 -- counted from 0
 pub record Translation : Type 0 where
   pub names : List Name
@@ -37,12 +37,13 @@ pub record Translation : Type 0 where
 abbrev pub translation_of : List Name → ℕ → Quadruples → Translation
 translation_of names final_state machine = record { names = names; final_state = final_state; machine = machine }
 
--- the name of a state
+-- the name of a state; an arbitrary name for a number that is no state
 abbrev pub name_of : Translation → ℕ → Name
 name_of t state = name_at GoRight t.names state
 
--- The translation of a machine: its quadruples are Bennett's list with numbers in place of names. The names are
--- numbered by their first appearance in the list, in each quadruple the state before and then the state after.
+-- The translation of a machine: its quadruples are Bennett's list with numbers in place of names. The states are
+-- numbered by first appearance in the list; in each quadruple, the state that it leaves comes before the state to
+-- which it leads.
 pub record IsTranslation (p : Program) (t : Translation) : Type 0 where
   pub names : t.names ≡ firsts_by is_same (states_in (bennett p))
   pub rules : rename (name_of t) t.machine.rules ≡ bennett p

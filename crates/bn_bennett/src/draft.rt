@@ -1,4 +1,4 @@
-//! A list of quadruples over names that is being numbered.
+//! A list of quadruples over names while its states are numbered.
 ghost use Rattle.std.specs.Prelude.{◌≡◌, ◌+◌, ◌-◌, ◌^◌, ◌<◌, ◌++◌, [], ◌∷◌, Some, IfOk, OnOk, length, slice_get};
 ghost use Rattle.bn_quad.specs.Kept.{quad_of, read_of, act_of};
 ghost use Rattle.bn_bennett.specs.Translation.{with_name};
@@ -11,14 +11,14 @@ use bn_quad::{Act, NoMemory, Quad};
 use indexmap::IndexSet;
 use std::alloc::Global;
 
-/// The quadruples so far, and the names of their states, each at its number.
+/// The quadruples so far, and the names of their states, each at the state's number.
 #[derive(Drop)]
 pub struct Draft {
     pub names: IndexSet<Name>,
     pub quads: Vec<Quad>,
 }
 
-/// A draft without quadruples. It takes no memory.
+/// An empty draft. It takes no memory.
 pub fn new_draft(alloc: Global) -> Draft
     ensures draft { IsDraft result }
     ensures empty { drafted result ≡ [] }
@@ -29,7 +29,7 @@ pub fn new_draft(alloc: Global) -> Draft
     }
 }
 
-// The number of a name, which is added at the end where it is new.
+// The number of a name; a new name is added at the end.
 fn number_of(names: &mut IndexSet<Name>, name: Name) -> Result<u32, NoMemory>
     requires { length names.old.keys < 2 ^ 32 - 1 }
     ensures names { OnOk result (names.new.keys ≡ with_name names.old.keys name) }
@@ -39,7 +39,7 @@ fn number_of(names: &mut IndexSet<Name>, name: Name) -> Result<u32, NoMemory>
     Ok(number as u32)
 }
 
-// What is read on a tape, and what is done there.
+// The symbol read on a tape, if any, and the act on that tape.
 fn kept_deed(deed: Deed) -> (Option<u32>, Act)
     ensures read { result.0 ≡ read_of (deed_made deed) }
     ensures act { result.1 ≡ act_of (deed_made deed) }
@@ -50,7 +50,7 @@ fn kept_deed(deed: Deed) -> (Option<u32>, Act)
     }
 }
 
-// The quadruple with numbers for its states.
+// The quadruple with numbers in place of its states' names.
 fn numbered(state: u32, quad: &NamedQuad, next: u32) -> Quad
     ensures { result ≡ quad_of (numbered_quad state (made quad.now) next) }
 {
@@ -65,7 +65,7 @@ fn numbered(state: u32, quad: &NamedQuad, next: u32) -> Quad
     }
 }
 
-/// Adds a quadruple, and its states' names where they are new.
+/// Adds a quadruple, and the names of its states if they are new. `Err`: out of memory.
 pub fn add(draft: &mut Draft, quad: &NamedQuad) -> Result<(), NoMemory>
     requires draft { IsDraft draft.old }
     requires room { length (drafted draft.old) < 2 ^ 30 }
@@ -77,7 +77,7 @@ pub fn add(draft: &mut Draft, quad: &NamedQuad) -> Result<(), NoMemory>
     Ok(())
 }
 
-/// Adds two quadruples.
+/// Adds two quadruples, in this order. `Err`: out of memory.
 pub fn add_two(draft: &mut Draft, first: &NamedQuad, second: &NamedQuad) -> Result<(), NoMemory>
     requires draft { IsDraft draft.old }
     requires room { length (drafted draft.old) + 1 < 2 ^ 30 }

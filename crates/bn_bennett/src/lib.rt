@@ -1,4 +1,4 @@
-//! Bennett's translation (1973) of a machine in standard form into a reversible machine of three tapes.
+//! Bennett's translation (1973) of a machine in standard form into a reversible machine with three tapes.
 #![tactic(auto)]
 
 mod draft;

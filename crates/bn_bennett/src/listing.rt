@@ -25,7 +25,7 @@ fn add_compute(draft: &mut Draft, quints: &[Quint]) -> Result<(), NoMemory>
     Ok(())
 }
 
-// One quadruple for each letter that is copied.
+// Copy: one quadruple that copies each letter.
 fn add_copied_letters(draft: &mut Draft, n: u32, z: u32) -> Result<(), NoMemory>
     requires draft { IsDraft draft.old }
     requires some { 0 < z }
@@ -38,7 +38,7 @@ fn add_copied_letters(draft: &mut Draft, n: u32, z: u32) -> Result<(), NoMemory>
     Ok(())
 }
 
-// One quadruple for each letter that is passed.
+// Copy: one quadruple that passes each letter.
 fn add_passed_letters(draft: &mut Draft, n: u32, z: u32) -> Result<(), NoMemory>
     requires draft { IsDraft draft.old }
     requires some { 0 < z }
@@ -79,7 +79,7 @@ fn add_retrace(draft: &mut Draft, quints: &[Quint]) -> Result<(), NoMemory>
     Ok(())
 }
 
-/// Bennett's list of a machine: compute, copy, retrace.
+/// Adds Bennett's list for a machine: compute, copy, retrace. `Err`: out of memory.
 pub fn add_list(draft: &mut Draft, machine: &Machine) -> Result<(), NoMemory>
     requires draft { IsDraft draft.old }
     requires room { length (drafted draft.old) + 4 * length machine.now.quints + 2 * machine.now.symbols + 5 < 2 ^ 30 }

@@ -19,7 +19,7 @@ use bn_quad::{NoMemory, QuadNames};
 use bn_table::Table;
 use std::alloc::Global;
 
-/// How a name is printed: a letter for its stage, a number, and a prime or none.
+/// The parts of a printed name: a letter for its stage, a number, and whether a prime follows.
 #[derive(Clone, Copy)]
 pub struct Print {
     pub letter: u8,
@@ -27,7 +27,7 @@ pub struct Print {
     pub primed: bool,
 }
 
-// How a name is printed.
+// The parts of a state's printed name.
 fn print_of(name: Name) -> Print
     ensures { result ≡ print_of name }
 {
@@ -49,7 +49,7 @@ fn print_of(name: Name) -> Print
 }
 
 /// The printed text of a state's name: `A` and the state's number counted from 1, `A`, the quintuple's number and a
-/// prime, `B1'`, `B1`, `B2'`, `B2`, and `C` likewise (this project's own profile).
+/// prime, `B1'`, `B1`, `B2'`, `B2`, and `C` likewise (own to this project). `Err`: out of memory.
 pub fn name_text(alloc: Global, name: Name) -> Result<Vec<u8>, NoMemory>
     ensures { IfOk result (λ text. text.items ≡ bennett_state_text name) }
 {
@@ -85,8 +85,8 @@ fn add_states(alloc: Global, names: &mut QuadNames, states: &[Name]) -> Result<(
     Ok(())
 }
 
-/// Names the symbols of a tape from 1 to 3, which have no names yet, by these letters, no two of them the same. After
-/// `NoMemory` the first of the symbols may have their names, and nothing else has changed.
+/// Gives the symbols of tape 1, 2 or 3, which have no names yet, these letters as names; the letters are distinct.
+/// After `NoMemory` the first of the symbols may have their names, and nothing else has changed.
 pub fn add_letters(names: &mut QuadNames, tape: u32, letters: &[u8]) -> Result<(), NoMemory>
     requires first { 1 ≤ tape }
     requires last { tape ≤ 3 }
@@ -102,7 +102,8 @@ pub fn add_letters(names: &mut QuadNames, tape: u32, letters: &[u8]) -> Result<(
 }
 
 /// Names the symbols of tape 2, the history, which have no names yet: `_` for the blank, and the numbers from 1 to
-/// `count`. After `NoMemory` the first of them may have their names, and nothing else has changed.
+/// `count` for the others. After `NoMemory` the first of the symbols may have their names, and nothing else has
+/// changed.
 pub fn add_history_symbols(alloc: Global, names: &mut QuadNames, count: u32) -> Result<(), NoMemory>
     requires few { count < 2 ^ 32 - 2 }
     requires empty { symbols_on names.old 2 ≡ [] }
@@ -117,7 +118,7 @@ pub fn add_history_symbols(alloc: Global, names: &mut QuadNames, count: u32) -> 
     Ok(())
 }
 
-// All names. Its contract also tells what every table keeps.
+// All names of a translation. The contract also states what holds for every table.
 fn all_names(alloc: Global, table: &Table, translated: &Translated) -> Result<QuadNames, NoMemory>
     requires { IsTranslation table.now.machine translated.now }
     ensures names { IfOk result (λ names. names ≡ translation_names table.now translated.now) }
@@ -134,10 +135,10 @@ fn all_names(alloc: Global, table: &Table, translated: &Translated) -> Result<Qu
     Ok(names)
 }
 
-/// The names of a translation's states and symbols: `A` and the state's number counted from 1, `A`, the
-/// quintuple's number and a prime, `B1'`, `B1`, `B2'`, `B2`, and `C` likewise. The symbols of tapes 1
-/// and 3 are the table's letters, those of tape 2 are `_` and the numbers from 1 on. With them the
-/// machine is written as a table of quadruples, and what is written is read as it again.
+/// The names of a translation's states and symbols: `A` and the state's number counted from 1, `A`, the quintuple's
+/// number and a prime, `B1'`, `B1`, `B2'`, `B2`, and `C` likewise. The symbols of tapes 1 and 3 have the table's
+/// letters; those of tape 2 have `_` and the numbers from 1 on. With these names the machine can be written as a
+/// table of quadruples, which is read back as the same machine and names. `Err`: out of memory.
 pub fn names(alloc: Global, table: &Table, translated: &Translated) -> Result<QuadNames, NoMemory>
     requires { IsTranslation table.now.machine translated.now }
     ensures names { IfOk result (λ names. names ≡ translation_names table.now translated.now) }

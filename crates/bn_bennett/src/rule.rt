@@ -1,4 +1,4 @@
-//! The quadruples of Bennett's list, over the names of their states. Each kind is a function.
+//! The quadruples of Bennett's list, over the names of their states, one function for each kind.
 ghost use Rattle.std.specs.Prelude.{◌≡◌};
 ghost use Rattle.bn_machine.specs.Tape.{opposite};
 ghost use Rattle.bn_bennett_laws.specs.List as list;
@@ -7,12 +7,12 @@ ghost use Rattle.bn_bennett.specs.Made.{deed_made, made};
 use bn_bennett_laws::Name;
 use bn_machine::{Quint, Shift};
 
-/// What a quadruple does on a tape.
+/// The deed of a quadruple on a tape.
 #[derive(Clone, Copy)]
 pub enum Deed {
-    /// It reads this symbol and writes that one.
+    /// Reads this symbol and writes that one.
     Rewrite { read: u32, written: u32 },
-    /// It shifts the head without reading.
+    /// Shifts the head without reading.
     Move(Shift),
 }
 
@@ -26,7 +26,7 @@ pub struct NamedQuad {
     pub to: Name,
 }
 
-// The symbol is read and stays.
+// Reads the symbol and writes it again.
 fn keep(symbol: u32) -> Deed
     ensures { deed_made result ≡ list.keep symbol }
 {
@@ -36,10 +36,10 @@ fn keep(symbol: u32) -> Deed
     }
 }
 
-// Nothing is read, and the head rests.
+// Reads nothing, and leaves the head where it is.
 const REST: Deed = Deed::Move(Shift::Stay);
 
-// The shift that takes another one back.
+// The shift that undoes a shift.
 fn opposite(shift: Shift) -> Shift
     ensures { result ≡ opposite shift }
 {
@@ -50,7 +50,8 @@ fn opposite(shift: Shift) -> Shift
     }
 }
 
-/// Quintuple `m` in compute: it rewrites the symbol.
+/// The first quadruple of quintuple `m` in compute: it rewrites the symbol, and moves the history's head to the next
+/// blank.
 pub fn writes_ahead(m: u32, quint: &Quint) -> NamedQuad
     ensures { made result ≡ list.writes_ahead m quint.now }
 {
@@ -66,7 +67,7 @@ pub fn writes_ahead(m: u32, quint: &Quint) -> NamedQuad
     }
 }
 
-/// Quintuple `m` in compute: it shifts the head, and its number is written into the history.
+/// The second quadruple of quintuple `m` in compute: it shifts the work tape's head, and writes `m` into the history.
 pub fn shifts_ahead(m: u32, quint: &Quint) -> NamedQuad
     ensures { made result ≡ list.shifts_ahead m quint.now }
 {
@@ -82,7 +83,8 @@ pub fn shifts_ahead(m: u32, quint: &Quint) -> NamedQuad
     }
 }
 
-/// Copying begins in the final state `last`, after the last of `n` quintuples.
+/// The quadruple that begins copying, in the final state `last`, when the history ends with `n`, the number of the
+/// last quintuple.
 pub fn begins_copy(last: u32, n: u32) -> NamedQuad
     ensures { made result ≡ list.begins_copy last n }
 {
@@ -95,7 +97,7 @@ pub fn begins_copy(last: u32, n: u32) -> NamedQuad
     }
 }
 
-/// The heads of work tape and output tape go right.
+/// The quadruple that moves the heads of the work tape and the output tape right.
 pub fn goes_right() -> NamedQuad
     ensures { made result ≡ list.goes_right }
 {
@@ -108,7 +110,7 @@ pub fn goes_right() -> NamedQuad
     }
 }
 
-/// The letter `x` is copied.
+/// The quadruple that copies the letter `x`; `n` is the number of quintuples.
 pub fn copies_letter(n: u32, x: u32) -> NamedQuad
     ensures { made result ≡ list.copies_letter n x }
 {
@@ -124,7 +126,7 @@ pub fn copies_letter(n: u32, x: u32) -> NamedQuad
     }
 }
 
-/// The heads turn at the blank behind the output.
+/// The quadruple that turns the heads at the blank after the output; `n` is the number of quintuples.
 pub fn turns_left(n: u32) -> NamedQuad
     ensures { made result ≡ list.turns_left n }
 {
@@ -137,7 +139,7 @@ pub fn turns_left(n: u32) -> NamedQuad
     }
 }
 
-/// The heads of work tape and output tape go left.
+/// The quadruple that moves the heads of the work tape and the output tape left.
 pub fn goes_left() -> NamedQuad
     ensures { made result ≡ list.goes_left }
 {
@@ -150,7 +152,7 @@ pub fn goes_left() -> NamedQuad
     }
 }
 
-/// The letter `x` is passed.
+/// The quadruple that passes the letter `x`; `n` is the number of quintuples.
 pub fn passes_letter(n: u32, x: u32) -> NamedQuad
     ensures { made result ≡ list.passes_letter n x }
 {
@@ -163,7 +165,7 @@ pub fn passes_letter(n: u32, x: u32) -> NamedQuad
     }
 }
 
-/// Copying ends at the blank, in the final state `last`.
+/// The quadruple that ends copying at the blank, and leads to retrace in the final state `last`.
 pub fn ends_copy(last: u32, n: u32) -> NamedQuad
     ensures { made result ≡ list.ends_copy last n }
 {
@@ -176,7 +178,8 @@ pub fn ends_copy(last: u32, n: u32) -> NamedQuad
     }
 }
 
-/// Quintuple `m` in retrace: it shifts the head back, and its number is taken out of the history.
+/// The first quadruple of quintuple `m` in retrace: it shifts the work tape's head back, and erases `m` from the
+/// history.
 pub fn shifts_back(m: u32, quint: &Quint) -> NamedQuad
     ensures { made result ≡ list.shifts_back m quint.now }
 {
@@ -192,7 +195,7 @@ pub fn shifts_back(m: u32, quint: &Quint) -> NamedQuad
     }
 }
 
-/// Quintuple `m` in retrace: it writes the symbol back.
+/// The second quadruple of quintuple `m` in retrace: it restores the symbol, and moves the history's head left.
 pub fn writes_back(m: u32, quint: &Quint) -> NamedQuad
     ensures { made result ≡ list.writes_back m quint.now }
 {

@@ -19,7 +19,7 @@ use std::marker::Model;
 /// A stage of the reversible machine's run (Bennett 1973).
 #[derive(Clone, Copy, PartialEq, Eq, Debug)]
 pub enum Stage {
-    /// It computes and keeps a history: states `A1` and on, primed or not.
+    /// It computes and records a history: states `A1` and on, primed or not.
     Compute,
     /// It copies the output: states `B1'`, `B1`, `B2'` and `B2`.
     Copy,
@@ -27,7 +27,7 @@ pub enum Stage {
     Retrace,
 }
 
-/// What a state of the reversible machine says of the one-tape machine.
+/// What a state of the reversible machine means for the one-tape machine.
 #[derive(Clone, Copy, PartialEq, Eq, Debug)]
 pub enum MachineState {
     /// The one-tape machine is in this state, counted from 0.
@@ -36,8 +36,8 @@ pub enum MachineState {
     Within(u32),
 }
 
-/// The reversible machine of a machine in standard form (Bennett 1973), with the names of its
-/// states, each at its number, and the one-tape machine's final state. Callers see these three.
+/// The reversible machine of a machine in standard form (Bennett 1973), with the name of each state at the state's
+/// number, and the one-tape machine's final state. Contracts mention these three values only.
 #[derive(Drop)]
 pub struct Translated {
     names: Vec<Name>,
@@ -69,7 +69,7 @@ impl Translated {
         &self.machine
     }
 
-    /// The states' names, each at the number of its state, counted from 0.
+    /// The states' names, each at its state's number, counted from 0.
     pub fn names(&self) -> &[Name]
         ensures value { result.now ≡ self.now.names }
         ensures counted { self.now.machine.states ≡ length self.now.names }
@@ -85,7 +85,7 @@ impl Translated {
         self.names[state as usize]
     }
 
-    /// The stage to which a state, counted from 0, belongs. It takes no memory.
+    /// The stage of a state, counted from 0. It takes no memory.
     pub fn stage_of(&self, state: u32) -> Stage
         requires { state < self.now.machine.states }
         ensures { result ≡ stage_by (name_of self.now state) }
@@ -97,8 +97,8 @@ impl Translated {
         }
     }
 
-    /// What a state, counted from 0, says of the one-tape machine: it is in a state, which is the
-    /// final one while the output is copied, or within a quintuple. It takes no memory.
+    /// What a state, counted from 0, means for the one-tape machine: that machine is in a state, which is its final
+    /// state while the output is copied, or it is within a step by a quintuple. It takes no memory.
     pub fn machine_state_of(&self, state: u32) -> MachineState
         requires { state < self.now.machine.states }
         ensures { result ≡ machine_state_by self.now.final_state (name_of self.now state) }
@@ -113,7 +113,7 @@ impl Translated {
     }
 }
 
-// How many symbols each tape has, tape 1 first: the history has one for each quintuple.
+// The number of symbols of each tape, tape 1 first: the history has the blank and one for each quintuple.
 fn symbols_of(machine: &Machine) -> [u32; 3]
     requires { length machine.now.quints ≤ MOST_ENTRIES }
     ensures symbols { result ≡ symbols_of machine.now }
@@ -124,7 +124,7 @@ fn symbols_of(machine: &Machine) -> [u32; 3]
     [letters, quints + 1, letters]
 }
 
-// The uniform machine of quadruples that are Bennett's list over these names.
+// The uniform machine of these quadruples, which are Bennett's list over these names.
 fn uniform_of(names: &[Name], quads: Vec<Quad>, standard: &Standard) -> Uniform
     requires fits { FitsTable standard.now }
     requires drafted { AreDrafted names.now quads.items }
@@ -140,7 +140,7 @@ fn uniform_of(names: &[Name], quads: Vec<Quad>, standard: &Standard) -> Uniform
     }
 }
 
-// The translation of a draft that has Bennett's list.
+// The translation of a draft that contains Bennett's list.
 fn with_machine(alloc: Global, draft: Draft, standard: &Standard) -> Result<Translated, NoMemory>
     requires fits { FitsTable standard.now }
     requires draft { IsDraft draft }
@@ -161,9 +161,9 @@ fn with_machine(alloc: Global, draft: Draft, standard: &Standard) -> Result<Tran
     })
 }
 
-/// The reversible machine of a machine in standard form, by Bennett's list (1973). For f states, N
-/// quintuples and z symbols it has 2f + 2N + 4 states and 4N + 2z + 3 quadruples. The one-tape
-/// machine is as tables have it: its states are numbered by first appearance and each appears.
+/// The reversible machine of a machine in standard form, by Bennett's list (1973). For f states, N quintuples and z
+/// symbols it has 2f + 2N + 4 states and 4N + 2z + 3 quadruples. The one-tape machine has the form of a table: its
+/// states are numbered by first appearance, and each appears. `Err`: out of memory.
 pub fn translate(alloc: Global, standard: &Standard) -> Result<Translated, NoMemory>
     requires { FitsTable standard.now }
     ensures made { IfOk result (IsTranslation standard.now) }

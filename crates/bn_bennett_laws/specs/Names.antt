@@ -1,4 +1,4 @@
--- The states of a list of rules, and the names that stand in Bennett's list.
+-- The states of a list of quadruples (`Rule`), and the names of the states in Bennett's list.
 use Rattle.std.specs.Prelude.{◌≡◌, ◌≢◌, ℕ, ◌<◌, ◌≤◌, ◌⊎◌, List, [], ◌∷◌, length, Some, slice_get, ⊤}
 use Rattle.std.specs.List.{flat_map}
 use Rattle.bn_machine.specs.Machine.{Program}
@@ -11,19 +11,21 @@ use Rattle.bn_bennett_laws.specs.declared.name.Name.{Name}
 use Rattle.bn_bennett_laws.specs.declared.name.Name.TheVariants.{Compute, ComputeWithin, GoRight, CopyLetter, GoLeft}
 use Rattle.bn_bennett_laws.specs.declared.name.Name.TheVariants.{PassLetter, Retrace, RetraceWithin}
 
--- the states of a list of rules, rule by rule, before and after, as often as they appear
+-- the states of a list of quadruples, in order: for each quadruple the state that it leaves, then the state to which
+-- it leads, with repetitions
 abbrev pub states_in : {Q : Type 0} → List (Rule Q) → List Q
 states_in {Q} rs = flat_map (λ (r : Rule Q). r.from ∷ r.to ∷ []) rs
 
--- The states by number, counted from 0: each state of the rules has a number, none else has one, and no state has two.
+-- A numbering of the states, counted from 0: each state of the quadruples has a number, no other state has one, and
+-- no state has two.
 pub record NumbersStates {Q : Type 0} (rs : List (Rule Q)) (order : List Q) : Type 0 where
   pub each : (q : Q) → IsIn (states_in rs) q → (n : ℕ) × (slice_get order n ≡ Some q)
   pub only : (n : ℕ) (q : Q) → slice_get order n ≡ Some q → IsIn (states_in rs) q
   pub apart : (m n : ℕ) (q : Q) → slice_get order m ≡ Some q → slice_get order n ≡ Some q → m ≡ n
 
--- Uniform, for rules over states of any kind: those of one state read the same tapes, those that lead to one state
--- write the same tapes, each reads a tape or moves a head, none leads to the initial state, and none leaves the final
--- one.
+-- Uniform, for quadruples over states of any type: the quadruples that leave one state read the same tapes, those
+-- that lead to one state write the same tapes, each reads a tape or moves a head, none leads to the initial state,
+-- and none leaves the final state.
 pub record IsUniformFrom {Q : Type 0} (initial final : Q) (rs : List (Rule Q)) : Type 0 where
   pub reads : HasNoClash Reads rs
   pub writes : HasNoClash Writes rs
@@ -31,15 +33,14 @@ pub record IsUniformFrom {Q : Type 0} (initial final : Q) (rs : List (Rule Q)) :
   pub not_entered : (r : Rule Q) → IsIn rs r → r.to ≢ initial
   pub not_left : (r : Rule Q) → IsIn rs r → r.from ≢ final
 
--- a quintuple leaves this state or leads to it
+-- some quintuple leaves this state or leads to it
 pub record Mentions (qs : List Quint) (state : ℕ) : Type 0 where
   pub number : ℕ
   pub quint : Quint
   pub stands : nth qs number ≡ Some quint
   pub names : (quint.state ≡ state) ⊎ (quint.next ≡ state)
 
--- the names that stand in Bennett's list: two for each state that a quintuple has, two for each quintuple, and the four
--- of copying
+-- the names in Bennett's list: two for each state of a quintuple, two for each quintuple, and the four of copying
 abbrev pub IsNameOf : Program → Name → Type 0
 IsNameOf p (Compute state) = Mentions p.quints state
 IsNameOf p (ComputeWithin m) = (0 < m) × (m ≤ length p.quints)

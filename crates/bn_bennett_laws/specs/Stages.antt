@@ -1,4 +1,4 @@
--- What stands on the three tapes at each moment of the run of Bennett's reversible machine (Bennett 1973).
+-- The contents of the three tapes at each step of a run of Bennett's reversible machine (Bennett 1973).
 use Rattle.std.specs.Prelude.{◌≡◌, ◌≢◌, ℕ, suc, ◌+◌, ◌*◌, ◌<◌, ◌≤◌, ℤ, pos, ◌+ℤ◌, List, [], length, reverse, take, All}
 use Rattle.bn_machine.specs.Tape.{Tape, scanned, write, shift, ahead, word_tape, blank_tape}
 use Rattle.bn_machine.specs.Window.{anywhere, within}
@@ -18,12 +18,12 @@ use Rattle.bn_bennett_laws.specs.declared.name.Name.{Name}
 use Rattle.bn_bennett_laws.specs.declared.name.Name.TheVariants.{Compute, ComputeWithin, GoRight, CopyLetter, GoLeft}
 use Rattle.bn_bennett_laws.specs.declared.name.Name.TheVariants.{PassLetter, Retrace, RetraceWithin}
 
--- the machine is one, and it is in standard form
+-- the program is a machine, and it is in standard form
 pub record IsStandardMachine (p : Program) : Type 0 where
   pub machine : IsMachine p
   pub standard : IsStandard p.quints
 
--- each symbol of the word is one of the machine's
+-- each symbol of the word is among the machine's symbols
 abbrev pub IsSpelledBy : Program → List ℕ → Type 0
 IsSpelledBy p word = All (λ s. s < p.symbols) word
 
@@ -33,20 +33,20 @@ IsSpelledBy p word = All (λ s. s < p.symbols) word
 abbrev pub configuration : Name → Tape → Tape → Tape → Configuration Name
 configuration state one two three = record { state = state; one = one; two = two; three = three }
 
--- the history tape after steps by the quintuples with these numbers, the last first: they stand from cell 1 on in the
--- order of the steps, and the head is at the last of them, or at cell 0 where there are none
+-- the history tape after steps by the quintuples with these numbers, the last step first: cells 1 and on contain the
+-- numbers in the order of the steps, and the head is at the last number, or at cell 0 if there is none
 abbrev pub history : List ℕ → Tape
 history ns = ahead (length ns) (word_tape (reverse ns))
 
--- Compute and retrace, between two steps of the machine: its state, its tape, the history, and this on the output tape.
+-- Compute and retrace, between two steps of the machine: its state, its tape, the history, and the output tape.
 abbrev pub computing : Moment → List ℕ → Tape → Configuration Name
 computing c ns output = configuration (Compute c.state) c.tape (history ns) output
 
 abbrev pub retracing : Moment → List ℕ → Tape → Configuration Name
 retracing c ns output = configuration (Retrace c.state) c.tape (history ns) output
 
--- Within a step by quintuple m from c: its symbol is written at the head, which hasn't moved, and the head of the
--- history is one cell further on, at a blank.
+-- Within a step by quintuple m from c: its symbol is written at the work tape's head, which has not moved, and the
+-- history's head is one cell further right, at a blank.
 abbrev pub computing_within : Moment → List ℕ → ℕ → Quint → Tape → Configuration Name
 computing_within c ns m q output = configuration (ComputeWithin m) (write c.tape q.write)
     (shift (history ns) Right) output
@@ -55,8 +55,8 @@ abbrev pub retracing_within : Moment → List ℕ → ℕ → Quint → Tape →
 retracing_within c ns m q output = configuration (RetraceWithin m) (write c.tape q.write)
     (shift (history ns) Right) output
 
--- Copying from the halted moment c: the heads of work and output tape are k cells from where copying began, and the
--- output tape holds these letters.
+-- Copying from the halted configuration c of the one-tape machine: the heads of the work and output tapes are k cells
+-- right of where copying began, and the output tape contains these letters.
 abbrev pub copying : Name → Moment → List ℕ → List ℕ → ℕ → Configuration Name
 copying state c ns copied k = configuration state (ahead k c.tape) (history ns) (ahead k (word_tape copied))
 
@@ -68,16 +68,16 @@ beginning p word = computing (start p word) [] blank_tape
 abbrev pub ending : Program → List ℕ → List ℕ → Configuration Name
 ending p word y = retracing (start p word) [] (word_tape y)
 
--- ---- each moment of a run
+-- ---- each configuration of a run
 
--- The machine halts at c, after steps by the quintuples ns, the last first, with the output y.
+-- The machine halts at c with the output y, after steps by the quintuples ns, the last step first.
 pub record Halts (p : Program) (word : List ℕ) (c : Moment) (ns : List ℕ) (y : List ℕ) : Type 0 where
   pub run : Follows anywhere p ns (start p word) c
   pub final : IsFinal p c
   pub output : IsOutput c.tape y
 
--- What a configuration of the reversible machine's run shows of the machine's own run from the word: one rule for each
--- kind of state.
+-- The configuration of the machine's own run from the word that a configuration of the reversible machine represents:
+-- one constructor for each kind of state.
 pub data Stands (p : Program) (word : List ℕ) (x : Configuration Name) : Type 0 where
   computes : (c : Moment) (ns : List ℕ) → Follows anywhere p ns (start p word) c → x ≡ computing c ns blank_tape
       → Stands p word x
@@ -98,30 +98,31 @@ pub data Stands (p : Program) (word : List ℕ) (x : Configuration Name) : Type 
 
 -- ---- runs
 
--- one step of the reversible machine in rooms
+-- a step of the reversible machine within rooms
 abbrev pub StepsOf : Program → Rooms → Configuration Name → Configuration Name → Type 0
 StepsOf p rooms c d = Steps rooms (bennett p) (final_name p) c d
 
--- where the heads may be: on the work tape from -left to right, in the history from 0 to the number of steps, on the
--- output tape from 0 to its last cell
+-- the allowed head positions: on the work tape from -left to right, on the history tape from 0 to the number of
+-- steps, on the output tape from 0 to its last cell
 abbrev pub rooms_of : Limits → Rooms
 rooms_of l = record { one = within l.left l.right; two = within 0 l.steps; three = within 0 l.output }
 
--- from the word, in these limits, the reversible machine makes n steps to d, and there its run ends so
+-- from the word, in these limits, the reversible machine makes n steps to d, and its run ends there in this way
 abbrev pub Comes : Program → List ℕ → Limits → ℕ → Configuration Name → Exit → Type 0
 Comes p word l n d e = HasExit (rooms_of l) (bennett p) (final_name p) n (beginning p word) d e
 
--- The reversible machine would leave at d after n steps, with i steps of the machine behind it: before or within the
--- next one, or while copying k letters.
+-- A head of the reversible machine would leave its tape from the configuration after n steps, when i steps of the
+-- machine are done: before or within the machine's next step, or after k letters are copied. The arguments `two` and
+-- `three` are the positions of the heads on tapes 2 and 3.
 abbrev pub IsAfter : ℕ → ℕ → Name → ℤ → ℤ → Type 0
 IsAfter i n (Compute j) two three = (two ≡ pos i) × (n ≡ 2 * i)
 IsAfter i n (ComputeWithin m) two three = (two ≡ pos (suc i)) × (n ≡ 2 * i + 1)
 IsAfter i n GoRight two three = (two ≡ pos i) × ((k : ℕ) × (three ≡ pos k) × (n ≡ 2 * i + 2 * k + 1))
 IsAfter i n _ two three = ⊥
 
--- The reversible machine's run from the word ends as the outcome says: halted with the output y, stuck in a state at a
--- symbol, which no quadruple of that state reads, or where a head would leave its tape. The number i is that of the
--- machine's own steps.
+-- The reversible machine's run from the word ends as the outcome says: halted with the output y, stuck in a state at
+-- a symbol that no quadruple of that state reads, or where a head would leave its tape. The number i counts the steps
+-- of the machine's own run.
 abbrev pub EndsAs : Program → List ℕ → Limits → ℕ → Outcome → Type 0
 EndsAs p word l i (outcome.Halted y) = All (λ s. s ≢ 0) y
     × Comes p word l (4 * i + 4 * length y + 5) (ending p word y) Finished
@@ -130,10 +131,10 @@ EndsAs p word l i (outcome.Stuck state symbol) = (d : Configuration Name) × Com
 EndsAs p word l i (outcome.Outside tape side) = (n : ℕ) × (d : Configuration Name)
     × Comes p word l n d (Leaving tape side) × IsAfter i n d.state d.two.head d.three.head
 
--- What the reversible machine is at where the machine's own run has no room after i steps: before the number of the
--- next step, for which the history has no cell; within that step, whose shift would leave the work tape; or, while the
--- output y of the halted moment is copied, behind k letters, of which the last one came from the last cell of the work
--- tape, or went to the last cell of the output tape.
+-- The configuration of the reversible machine when a head of the machine's own run would leave its tape after i
+-- steps: before the next step, if the history has no cell for its number; within that step, if its shift would leave
+-- the work tape; or after k letters of the output y are copied, with the head of the work tape or of the output tape
+-- on the last cell of that tape.
 pub data HasNoRoom (p : Program) (word : List ℕ) (l : Limits) (i tape : ℕ) (end : Side) (x : Configuration Name) :
     Type 0 where
   for_number : (c d : Moment) (ns : List ℕ) → Follows anywhere p ns (start p word) c → length ns ≡ i

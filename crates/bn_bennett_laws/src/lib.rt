@@ -1,6 +1,5 @@
-//! Bennett's reversible machine (Bennett 1973) over the definitions alone: its list of quadruples,
-//! what stands on its tapes at each moment of its run, and his theorem, without ends and within
-//! limits, for every machine in standard form.
+//! Bennett's reversible machine (Bennett 1973), as definitions: its list of quadruples, the contents of its tapes at
+//! each step of its run, and his theorem for every machine in standard form, on infinite tapes and within limits.
 #![tactic(auto)]
 
 mod laws;

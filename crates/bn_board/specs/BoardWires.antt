@@ -1,4 +1,4 @@
--- The relations that the functions that draw a board's wires use.
+-- The relations in the contracts of the functions that draw a circuit's wires.
 use Rattle.std.specs.Prelude.{◌≡◌, ℕ, ◌<◌, List, length, Some, slice_get, ◌⊎◌}
 use Rattle.bn_element.specs.Tables.{Table}
 use Rattle.bn_circuits.specs.Circuits.{Circuit, target}
@@ -27,18 +27,18 @@ pub data IsOwnWire (n : Circuit) (count : ℕ) (from to : Line) : Type 0 where
   of_bank : (m : ℕ) (t : Table) → m < count → slice_get n.tables m ≡ Some t → IsBankWire (base n.tables m) t from to
       → IsOwnWire n count from to
 
--- an output line of a module comes before line o of module e
+-- an output port of a module comes before port o of module e
 abbrev pub IsBefore : ℕ → ℕ → Line → Type 0
 IsBefore e o x = (x.element < e) ⊎ ((x.element ≡ e) × (x.line < o))
 
--- an own wire of a bank, or a wire between banks that leaves an output line before line o of module e
+-- an own wire of a bank, or a wire between banks that leaves an output port before port o of module e
 pub data IsWireBefore (n : Circuit) (e o : ℕ) (from to : Line) : Type 0 where
   own_wire : IsOwnWire n (length n.tables) from to → IsWireBefore n e o from to
   between_banks : (out into : Line) (t : Table) → IsBefore e o out → target n.wires out ≡ Some into
       → slice_get n.tables out.element ≡ Some t → from ≡ bank_output_line (base n.tables out.element) t out.line
       → to ≡ bank_input_line (base n.tables into.element) into.line → IsWireBefore n e o from to
 
--- the wire from output line `line` of module `number` to the input line `to` of another, on the board
+-- the wire from output port `line` of module `number` to the input port `to` of another, in the circuit
 pub record IsBetween (n : Circuit) (number line : ℕ) (to : Line) (w : Wire) : Type 0 where
   pub wire : (t : Table) → slice_get n.tables number ≡ Some t
       → w ≡ record {
@@ -46,7 +46,7 @@ pub record IsBetween (n : Circuit) (number line : ℕ) (to : Line) (w : Wire) : 
         to = bank_input_line (base n.tables to.element) to.line;
       }
 
--- a draft of this many elements has the wires of some list, which lead just where this relation holds
+-- a draft of this many elements has the wires of some list, whose wires are exactly those of this relation
 pub record IsDrawn (Leads : Line → Line → Type 0) (count : ℕ) (draft : EndList) : Type 0 where
   pub wires : List Wire
   pub drawn : AreDrawn count wires draft

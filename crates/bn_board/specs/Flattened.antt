@@ -1,5 +1,5 @@
--- A board: a net of rotary elements in a configuration that was reached from its start, with the layout by which it is
--- read (this project's own definition).
+-- A circuit (*board* in names): a net of rotary elements in a configuration that was reached from its start, with the
+-- layout by which it is read (own to this project).
 use Rattle.std.specs.Prelude.{◌≡◌, ℕ, ◌+◌, ◌-◌, ◌<◌, ◌≤◌, ◌^◌, List, All, length, Option, Some, None, slice_get}
 use Rattle.bn_element.specs.Tables.{Table}
 use Rattle.bn_circuits.specs.Situations.{Situation}
@@ -30,7 +30,7 @@ use Rattle.bn_network.specs.Limits.{AreSmall}
 use Rattle.bn_network_assembly.specs.Assembled.{Assembled, IsAssembledFrom, network_of}
 use Rattle.bn_circuits.specs.declared.net.TheConstants.{MOST_ELEMENTS}
 
--- a net, a configuration of it, the line by which the signal enters at the start, the line by which it leaves at the
+-- a net, a configuration of it, the port by which the signal enters at the start, the port by which it leaves at the
 -- end, and the layout
 pub record Flattened : Type 0 where
   pub net : Parts Rotary
@@ -39,7 +39,7 @@ pub record Flattened : Type 0 where
   pub end : Line
   pub layout : Layout
 
--- ---- where a board comes from
+-- ---- the origin of a circuit
 
 -- the configuration from which this one was reached: as many steps back as were made
 abbrev pub origin_by : Circuit → Config → Config
@@ -53,7 +53,7 @@ pub record IsReached (k : Circuit) (c : Config) : Type 0 where
   pub good : IsConfig k c
   pub reaches : Reaches (Goes k) c.steps (origin_by k c) c
 
--- the second board has the net, the start, the end, the layout and the origin of the first
+-- the second circuit has the net, the start, the end, the layout and the origin of the first
 pub record IsSameBoard (a b : Flattened) : Type 0 where
   pub net : b.net ≡ a.net
   pub start : b.start ≡ a.start
@@ -61,15 +61,15 @@ pub record IsSameBoard (a b : Flattened) : Type 0 where
   pub layout : b.layout ≡ a.layout
   pub origin_is : origin b ≡ origin a
 
--- ---- what a layout keeps
+-- ---- the invariant of a layout
 
--- a first command is given by an output line to a tape, and a state of the control awaits its answer
+-- a first command is sent by an output port to a tape, and its reply is awaited in a state of the control
 abbrev pub IsFirstWithin : ℕ → ℕ → Option (ℕ × ℕ) → Type 0
 IsFirstWithin states lines None = Unit {0}
 IsFirstWithin states lines (Some f) = (f.0 < states) × (1 ≤ f.1) × (f.1 < lines)
 
--- The window is not too large, each tape has a symbol and not too many, the control has a state, the board does not
--- have too many elements, and first commands and awaited reads are within these numbers.
+-- The window is not too large, each tape has at least one symbol and not too many, the control has a state, the
+-- circuit does not have too many elements, and first commands and awaited reads are within these numbers.
 pub record IsLayoutKept (b : Layout) : Type 0 where
   pub small : AreSmall b.limits
   pub tapes : length b.symbols ≡ 3
@@ -82,8 +82,8 @@ pub record IsLayoutKept (b : Layout) : Type 0 where
   pub awaited_counted : length b.awaited ≡ b.states
   pub awaited_tapes : All IsTapeAwaited b.awaited
 
--- A net is the board of a network whose modules lie as the layout says, and this configuration of it stands for a
--- situation of the network.
+-- A net is the circuit of a network whose modules are placed as the layout says, and this configuration of it
+-- represents a situation of the network.
 pub record IsOnNetwork (net : Parts Rotary) (c : Config) (b : Layout) : Type 0 where
   pub network : Circuit
   pub modules : AreModules network
@@ -99,7 +99,7 @@ pub record IsOnNetwork (net : Parts Rotary) (c : Config) (b : Layout) : Type 0 w
   pub bases : (t p : ℕ) → IsTape t → p < cells_in b.limits t
       → base network.tables (first_cell b.limits t + p) ≡ cell_element b t p
 
--- what holds of every board
+-- the invariant of a circuit
 pub record IsBoardKept (b : Flattened) : Type 0 where
   pub circuit : IsCircuit (rotary_circuit b.net)
   pub order : AreInOrder b.net.wires
@@ -108,9 +108,9 @@ pub record IsBoardKept (b : Flattened) : Type 0 where
   pub elements : length b.net.elements ≡ elements_of b.layout
   pub network : IsOnNetwork b.net (origin b) b.layout
 
--- ---- the board of a network
+-- ---- the circuit of a network
 
--- the line by which the signal enters at the start: the control's from outside; and the one by which it leaves at
+-- the port by which the signal enters at the start: the control's from outside; and the port by which it leaves at
 -- the end: the control's to the outside
 abbrev pub start_line : Line
 start_line = bank_input_line 0 0
@@ -118,8 +118,8 @@ start_line = bank_input_line 0 0
 abbrev pub end_line : Layout → Line
 end_line b = line_at (column_at 0 (lines_at b) (b.states - 1)) east
 
--- The board of an assembled network: for the machine, the window and the configuration for which the network was
--- assembled, it is the network's board at the start, and the layout is the machine's.
+-- The circuit of an assembled network: for the machine, the window and the configuration for which the network was
+-- assembled, it is the network's circuit at the start, and the layout is the machine's.
 pub record IsFlattened (a : Assembled) (b : Flattened) : Type 0 where
   pub board : IsBoard (network_of a) (rotary_circuit b.net)
   pub layout : (m : Quadruples) (c : Configuration ℕ) (names : List ControlState)

@@ -1,4 +1,4 @@
--- Where the signal of a board is, by modules (this project's own definition).
+-- The place of a circuit's signal, by modules (own to this project).
 use Rattle.std.specs.Prelude.{◌≡◌, ◌↔◌, ℕ, ◌+◌, ◌<◌, ◌≤◌, pos, ◌-ℤ◌, Option, Some}
 use Rattle.bn_circuits.specs.declared.place.Place.{Place}
 use Rattle.bn_circuits.specs.declared.place.Place.TheVariants.{Enter, Left}
@@ -9,12 +9,12 @@ use Rattle.bn_boards.specs.Layouts.{Layout, symbol_count_at, lines_at, cell_elem
 use Rattle.bn_board.specs.declared.located.Located.{Located}
 use Rattle.bn_board.specs.declared.located.Located.TheVariants.{Control, Cell, Outside}
 
--- The signal enters line l of element e: of a bank with this many lines that begins at this element it is input line i,
--- exactly where it is the west of row i of the first column.
+-- If the signal enters port l of element e, it enters input port i of a bank with this many ports that begins at the
+-- element `first` exactly if this is the west of row i of the first column.
 abbrev pub IsInputLine : ℕ → ℕ → ℕ → ℕ → Option ℕ → Type 0
 IsInputLine first lines e l line = (i : ℕ) → (line ≡ Some i) ↔ ((i < lines) × (e ≡ first + i) × (l ≡ west))
 
--- the module in whose bank the signal is, and the input line by which it enters it, if it does
+-- the module in whose bank the signal is, and the input port by which it enters, if it enters by one
 pub data IsLocated (b : Layout) (p : Place) (at : Located) : Type 0 where
   left : (e l : ℕ) → p ≡ Left e l → at ≡ Outside → IsLocated b p at
   in_control : (e l : ℕ) → p ≡ Enter e l → e < bank_size b.states (lines_at b)

@@ -1,4 +1,4 @@
--- The relations that the functions that make a board use.
+-- The relations in the contracts of the functions that build a circuit.
 use Rattle.std.specs.Prelude.{◌≡◌, ℕ, List, All, Some, slice_get}
 use Rattle.bn_element.specs.Tables.{Table}
 use Rattle.bn_circuits.specs.declared.place.Place.TheVariants.{Enter}
@@ -11,7 +11,7 @@ use Rattle.bn_boards.specs.Layouts.{Layout}
 use Rattle.bn_network_assembly.specs.Assembled.{Assembled}
 use Rattle.bn_network_assembly.specs.declared.module.Module.TheVariants.{Control}
 
--- the numbers of a board with this control in these limits
+-- the layout of a circuit with this control in these limits
 abbrev pub layout_by : Controlled → Limits → Layout
 layout_by v l = record {
   limits = l;
@@ -28,6 +28,6 @@ pub record IsLayoutOf (a : Assembled) (b : Layout) : Type 0 where
   pub tapes : All IsTapeAwaited control.awaited
   pub numbers : b ≡ layout_by control a.limits
 
--- the configuration at the start of a board whose modules are in these states
+-- the configuration at the start of a circuit whose modules are in these states
 abbrev pub start_by : List Table → List ℕ → Config
 start_by ts qs = record { states = bars_of ts qs; place = Enter 0 west; steps = 0 }

@@ -1,4 +1,4 @@
-//! The bars of a board at the start.
+//! The bars of a circuit at the start.
 
 ghost use Rattle.std.specs.Prelude.{◌≡◌, ℕ, ◌+◌, ◌<◌, ◌≤◌, ◌++◌, length, replicate, slice_set, Some, slice_get};
 ghost use Rattle.std.specs.Prelude.{IfOk, OnOk};
@@ -15,7 +15,7 @@ use bn_element::{Element, HORIZONTAL, VERTICAL};
 use bn_network_assembly::Module;
 use std::alloc::Global;
 
-// The bars of the board of this net of modules in these states.
+// The bars of the circuit of this net of modules in these states.
 pub(crate) fn start_bars(
     alloc: Global,
     net: &Net<Module>,
@@ -35,7 +35,7 @@ pub(crate) fn start_bars(
     Ok(bars)
 }
 
-// The bars of a module's bank in this state.
+// Adds the bars of a module's bank in this state.
 fn push_bank(bars: &mut Vec<u32>, bank: &Module, state: u32) -> Result<(), NoMemory>
     requires some { 0 < (module_table bank.now).states }
     requires few { length bars.old.items + size_of (module_table bank.now) ≤ MOST_ELEMENTS }

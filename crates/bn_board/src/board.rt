@@ -1,4 +1,4 @@
-//! Boards, and their runs.
+//! Circuits (*board* in names), and their runs.
 
 ghost use Rattle.std.specs.Prelude.{◌≡◌, length, IfOk};
 ghost use Rattle.std.specs.Bool.{OnTrue, OnFalse};
@@ -19,11 +19,11 @@ use bn_packed::{Direction, Packed};
 use std::alloc::Global;
 use std::marker::Model;
 
-/// A flat board: a circuit of a machine (this project's own definition): one net of rotary elements for a network of
-/// modules, in a configuration that was reached from the one in which it was made; with the line by which the signal
-/// enters at the start, the line by which it leaves at the end, and the numbers by which the board is read. Elements
-/// and lines are counted from 0. Clauses see the net, the configuration, the two lines and these numbers. No call
-/// changes anything but the configuration, and what that was at the start is always as many steps back as the board has
+/// The flat circuit of a machine (own to this project): one net of rotary elements for a network of modules, in a
+/// configuration that was reached from the one in which it was made; with the port by which the signal enters at the
+/// start, the port by which it leaves at the end, and the numbers by which the circuit is read. Elements and ports
+/// are counted from 0. Contracts see the net, the configuration, the two ports and these numbers. No call changes
+/// anything but the configuration; the configuration at the start is always as many steps back as the circuit has
 /// made.
 #[derive(Drop)]
 pub struct Board {
@@ -56,7 +56,7 @@ impl Model for Board {
 }
 
 impl Board {
-    // The board of these parts.
+    // The circuit with these parts.
     pub(crate) fn new(packed: Packed, start: Line, end: Line, layout: Layout) -> Board
         requires { IsBoardKept (record {
           net = packed.net;
@@ -81,7 +81,7 @@ impl Board {
         }
     }
 
-    /// The net with its configuration, packed. The contract also states what holds of every board afterwards.
+    /// The net with its configuration, packed. The contract also states what holds for every circuit afterwards.
     pub fn packed(&self) -> &Packed
         ensures net { result.now.net ≡ self.now.net }
         ensures config { result.now.config ≡ self.now.config }
@@ -90,8 +90,8 @@ impl Board {
         &self.packed
     }
 
-    /// The net with its configuration, packed, when the board is no longer needed. The contract also states what holds
-    /// of every board afterwards.
+    /// The net with its configuration, packed. The call consumes the circuit. The contract also states what holds for
+    /// every circuit afterwards.
     pub fn into_packed(self) -> Packed
         ensures net { result.net ≡ self.net }
         ensures config { result.config ≡ self.config }
@@ -109,21 +109,21 @@ impl Board {
         &self.layout
     }
 
-    /// The line by which the signal enters at the start.
+    /// The port by which the signal enters at the start.
     pub fn start(&self) -> Line
         ensures { result ≡ self.now.start }
     {
         self.start
     }
 
-    /// The line by which the signal leaves at the end.
+    /// The port by which the signal leaves at the end.
     pub fn end(&self) -> Line
         ensures { result ≡ self.now.end }
     {
         self.end
     }
 
-    /// The number of elements. The contract also states what holds of every board afterwards.
+    /// The number of elements. The contract also states what holds for every circuit afterwards.
     pub fn len(&self) -> u32
         ensures number { result ≡ length self.now.net.elements }
         ensures kept { IsBoardKept self.now }
@@ -131,7 +131,7 @@ impl Board {
         self.packed.len()
     }
 
-    /// The place of the signal. The contract also states what holds of every board afterwards.
+    /// The place of the signal. The contract also states what holds for every circuit afterwards.
     pub fn place(&self) -> Place
         ensures place { result ≡ self.now.config.place }
         ensures kept { IsBoardKept self.now }
@@ -139,21 +139,22 @@ impl Board {
         self.packed.place()
     }
 
-    /// The element steps made so far, from the configuration in which the board was made.
+    /// The number of element steps made so far, from the configuration in which the circuit was made.
     pub fn steps(&self) -> u64
         ensures { result ≡ self.now.config.steps }
     {
         self.packed.steps()
     }
 
-    /// A bound on the steps from the start to where the signal leaves.
+    /// A bound on the number of element steps from the start until the signal leaves.
     pub fn bound(&self) -> u64
         ensures { result ≡ bound_of self.now.layout }
     {
         self.layout.bound()
     }
 
-    /// A copy of the board, in the same configuration. The contract also states what holds of every board afterwards.
+    /// A copy of the circuit, in the same configuration. `Err`: out of memory. The contract also states what holds
+    /// for every circuit afterwards.
     pub fn copy(&self, alloc: Global) -> Result<Board, NoMemory>
         ensures same { IfOk result (λ b. b ≡ self.now) }
         ensures kept { IsBoardKept self.now }
@@ -168,8 +169,9 @@ impl Board {
         })
     }
 
-    /// Makes one element step. `false` exactly if none can be made, and then nothing changed: the signal has left, or
-    /// the steps are `CLOCK`. Allocates no memory. The contract also states what holds of every board afterwards.
+    /// Makes one element step. `false` exactly if none can be made; then nothing has changed, because the signal has
+    /// left, or the steps are `CLOCK`. Allocates no memory. The contract also states what holds for every circuit
+    /// afterwards.
     pub fn step(&mut self) -> bool
         ensures made { OnTrue result (Goes (rotary_circuit self.old.net) self.old.config self.new.config) }
         ensures kept { OnFalse result (self.new ≡ self.old) }
@@ -180,8 +182,9 @@ impl Board {
         self.packed.step()
     }
 
-    /// Undoes one element step. `false` exactly if no step led here, and then nothing changed: the steps are 0, or no
-    /// wire feeds the input line. Allocates no memory. The contract also states what holds of every board afterwards.
+    /// Undoes one element step. `false` exactly if no step led here; then nothing has changed, because the steps are
+    /// 0, or no wire leads to the input port. Allocates no memory. The contract also states what holds for every
+    /// circuit afterwards.
     pub fn back_step(&mut self) -> bool
         ensures made { OnTrue result (Goes (rotary_circuit self.old.net) self.new.config self.old.config) }
         ensures kept { OnFalse result (self.new ≡ self.old) }
@@ -192,8 +195,9 @@ impl Board {
         self.packed.back_step()
     }
 
-    /// Makes one element step in this direction, as `step` and `back_step` do. `false` exactly if none can be made, and
-    /// then nothing changed. Allocates no memory. The contract also states what holds of every board afterwards.
+    /// Makes one element step in this direction, as `step` and `back_step` do. `false` exactly if none can be made,
+    /// and then nothing has changed. Allocates no memory. The contract also states what holds for every circuit
+    /// afterwards.
     pub fn step_along(&mut self, direction: Direction) -> bool
         ensures made { OnTrue result (GoesTo direction (rotary_circuit self.old.net) self.old.config self.new.config) }
         ensures kept { OnFalse result (self.new ≡ self.old) }
@@ -207,8 +211,8 @@ impl Board {
         }
     }
 
-    /// Makes at most `e` element steps and returns how many: fewer only if no further step can be made. Moves of banks
-    /// are made at once. Allocates no memory.
+    /// Makes at most `e` element steps and returns how many: fewer only if no further step can be made. It makes the
+    /// moves of banks at once. Allocates no memory.
     pub fn run(&mut self, e: u64) -> u64
         ensures ran { IsLongestRun Direction.Forward (rotary_circuit self.old.net) e result self.old.config
             self.new.config }
@@ -227,8 +231,9 @@ impl Board {
         self.packed.run_back(e)
     }
 
-    // Makes at most `e` element steps, and stops after a step where the signal is about to enter a line of `stop`;
-    // reports the place after each to the watch. If the watch does not listen, moves of banks are made at once.
+    // Makes at most `e` element steps, and stops after a step if the signal is about to enter a port of `stop`;
+    // reports the place after each step to the watch. If the watch does not listen, it makes the moves of banks at
+    // once.
     pub(crate) fn run_until<S: Passing, W: Watch>(&mut self, e: u64, stop: &S, watch: &mut W) -> u64
         ensures ran { IsStoppedRun (rotary_circuit self.old.net) (S.stops stop.now) e result self.old.config
             self.new.config }

@@ -1,4 +1,4 @@
-//! What the cells of a board spell.
+//! The tapes that the cells of a circuit show.
 
 ghost use Rattle.std.specs.Prelude.{◌≡◌, ◌*◌, ◌<◌, ◌≤◌, IfOk, length, position};
 ghost use Rattle.std.specs.List.{range_with_len};
@@ -14,8 +14,8 @@ use bn_circuits::{MOST_ELEMENTS, NoMemory};
 use std::alloc::Global;
 
 impl Board {
-    /// What the cells of the three tapes show: in each cell the symbol of its first marked column, and the first cell
-    /// that shows the head.
+    /// The tapes that the cells show: in each cell the symbol of its first marked column, and on each tape the first
+    /// cell that shows the head. `Err`: out of memory.
     pub fn cells_of(&self, alloc: Global) -> Result<Spelled, NoMemory>
         ensures { IfOk result (λ s. s ≡ spelled_by self.now.layout self.now.config.states) }
     {
@@ -25,7 +25,7 @@ impl Board {
         Ok(Spelled { one, two, three })
     }
 
-    // What the cells of a tape show.
+    // The contents of a tape, as its cells show them.
     fn tape_of(&self, alloc: Global, tape: u32) -> Result<SpelledTape, NoMemory>
         requires first { 1 ≤ tape }
         requires last { tape ≤ 3 }

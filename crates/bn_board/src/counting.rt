@@ -1,4 +1,4 @@
-//! Runs of a board whose moments are counted.
+//! Runs of a circuit that count its moments.
 
 ghost use Rattle.std.specs.Prelude.{◌≡◌, ◌+◌, ◌<◌, ◌^◌};
 ghost use Rattle.bn_circuits.specs.Counting.{tally, one_if};
@@ -12,8 +12,8 @@ use crate::board::Board;
 use bn_circuits::Watch;
 
 impl Board {
-    /// Makes at most `e` element steps, as `run` does, reports the place after each to the watch, and returns after how
-    /// many of them the board was at the moment of some state. Allocates no memory.
+    /// Makes at most `e` element steps, as `run` does, reports the place after each step to the watch, and returns
+    /// after how many of them the circuit was at the moment of some state. Allocates no memory.
     pub fn run_counting<W: Watch>(&mut self, e: u64, watch: &mut W) -> u64
         ensures moments { result ≡ tally (is_moment self.old.layout) (rotary_circuit self.old.net) e self.old.config }
         ensures run { self.new.config ≡ run (rotary_circuit self.old.net) self.old.config e }
@@ -35,7 +35,7 @@ impl Board {
         moments
     }
 
-    // This many moments, and one more if the board is at one.
+    // This number of moments, plus one if the circuit is at a moment.
     fn count_moment(&self, moments: u64) -> u64
         requires { moments + 1 < 2 ^ 64 }
         ensures { result ≡ moments + one_if (is_moment self.now.layout self.now.config) }

@@ -1,4 +1,4 @@
-//! The bank of a board that the signal is about to enter.
+//! The bank of a circuit that the signal is about to enter.
 
 ghost use Rattle.std.specs.Prelude.{◌≡◌, ◌+◌, ◌*◌, ◌<◌, ◌≤◌, IfSome};
 ghost use Rattle.bn_network.specs.Networks.{cell_size, cells_in};
@@ -25,7 +25,7 @@ impl Banks for Layout {
 }
 
 impl Layout {
-    // The bank of which this element is a row of the first column.
+    // The bank in whose first column this element is a row.
     fn entered(&self, element: u32) -> Option<Entry>
         requires { element < elements_of self.now }
         ensures { IfSome result (λ v. IsEntryIn self.now v × (element ≡ v.first + v.row)) }
@@ -42,7 +42,7 @@ impl Layout {
         }
     }
 
-    // The control, where this element is a row of its first column.
+    // The control, if this element is a row of its first column.
     fn control_entered(&self, element: u32) -> Option<Entry>
         ensures { IfSome result (λ v. IsEntryIn self.now v × (element ≡ v.first + v.row)) }
     {
@@ -59,7 +59,7 @@ impl Layout {
         }
     }
 
-    // The cell of this tape of which this element is a row of the first column.
+    // The cell of this tape in whose first column this element is a row.
     fn entered_on(&self, tape: u32, element: u32) -> Option<Entry>
         requires first { 1 ≤ tape }
         requires last { tape ≤ 3 }

@@ -1,4 +1,4 @@
-//! By which exit the signal of a board has left.
+//! The exit by which the signal of a circuit has left.
 
 ghost use Rattle.std.specs.Prelude.{◌≡◌, ◌↔◌, ℕ, ◌+◌, ◌-◌, ◌<◌, ◌≤◌, Some, IfSome, IfNone};
 ghost use Rattle.bn_circuits.specs.declared.place.Place.TheVariants.{Left};
@@ -19,7 +19,7 @@ use bn_element::{EAST, WEST};
 use bn_machine::Side;
 
 impl Board {
-    /// By which exit the signal left, or that it has not left. Allocates no memory.
+    /// The exit by which the signal has left, or `Inside` if it has not left. Allocates no memory.
     pub fn exit_of(&self) -> Exit
         ensures { IsExit self.now.layout self.now.config.place result }
     {
@@ -28,7 +28,7 @@ impl Board {
 }
 
 impl Layout {
-    // By which exit a signal at this place left.
+    // The exit by which a signal at this place has left.
     pub(crate) fn exit_of(&self, place: Place) -> Exit
         ensures { IsExit self.now place result }
     {
@@ -38,7 +38,7 @@ impl Layout {
         }
     }
 
-    // By which exit a signal that left by this line left.
+    // The exit of a signal that has left by this port.
     fn exit_by(&self, left: Line) -> Exit
         ensures { IsExit self.now (Left left.element left.line) result }
     {
@@ -54,7 +54,7 @@ impl Layout {
         }
     }
 
-    // The control's line to the outside.
+    // The control's port to the outside.
     #[tactic(auto, using(crate::proofs::ExitLemmas::end_within))]
     pub(crate) fn end_line(&self) -> Line
         ensures place { Left result.element result.line ≡ end_place self.now }
@@ -66,8 +66,8 @@ impl Layout {
         }
     }
 
-    // The state and the symbol for which the machine has no quadruple, where this is the line of the control by which
-    // the signal then leaves.
+    // The state and the symbol for which the machine has no quadruple, if this is the control's port by which the
+    // signal then leaves.
     fn stuck_at(&self, left: Line) -> Option<(u32, u32)>
         ensures { (a c : ℕ) → (result ≡ Some (a, c)) ↔ IsNamedExit self.now (Left left.element left.line) (Stuck a c) }
     {
@@ -85,7 +85,7 @@ impl Layout {
         }
     }
 
-    // The symbol that a tape answers by this line of the control.
+    // The symbol that this port of the control carries as a tape's reply, if it carries one.
     fn answer_at(&self, tape: u32, line: u32) -> Option<u32>
         requires first { 1 ≤ tape }
         requires last { tape ≤ 3 }
@@ -100,7 +100,7 @@ impl Layout {
         }
     }
 
-    // The tape and the side of its window at which the signal left by this line.
+    // The tape and the side of its window at which a signal leaves by this port.
     fn window_at(&self, left: Line) -> Option<(u32, Side)>
         ensures named { IfSome result (λ w. IsNamedExit self.now (Left left.element left.line) (Window w.0 w.1)) }
         ensures none { IfNone result ((t : ℕ) (s : Side)
@@ -114,7 +114,7 @@ impl Layout {
         None
     }
 
-    // The side of this tape's window at which the signal left by this line.
+    // The side of this tape's window at which a signal leaves by this port.
     fn side_at(&self, tape: u32, left: Line) -> Option<Side>
         requires first { 1 ≤ tape }
         requires last { tape ≤ 3 }
@@ -132,7 +132,7 @@ impl Layout {
         }
     }
 
-    // An output line of a tape's cell.
+    // An output port of a tape's cell.
     #[tactic(auto, using(crate::proofs::ExitLemmas::output_few))]
     fn output_line(&self, tape: u32, cell: u32, line: u32) -> Line
         requires first { 1 ≤ tape }

@@ -1,4 +1,4 @@
-//! The lines by which the control's commands enter the first cells of the tapes.
+//! The ports by which the control's commands enter the first cells of the tapes.
 
 ghost use Rattle.std.specs.Prelude.{◌≡◌, ◌≤◌, ◌<◌, ◌+◌, ℕ, false};
 ghost use Rattle.std.specs.Bool.{OnTrue};
@@ -11,7 +11,7 @@ use bn_element::WEST;
 use bn_leap::{Entry, Passing};
 use bn_packed::Stop;
 
-// Elements one after another: the first, and how many they are.
+// Consecutive elements: the first, and their number.
 #[derive(Clone, Copy)]
 pub(crate) struct Rows {
     first: u32,
@@ -26,7 +26,7 @@ impl Rows {
         element >= self.first && element - self.first < self.count
     }
 
-    // Whether none of them is from one number on to below another.
+    // Whether none of them is at least `low` and below `high`.
     fn is_clear_of(&self, low: u64, high: u64) -> bool
         ensures { OnTrue result ((e : ℕ) → low ≤ e → e < high → is_among self.now.first self.now.count e ≡ false) }
     {
@@ -42,7 +42,7 @@ pub(crate) struct FirstRows {
     three: Rows,
 }
 
-// A run that stops where the signal is about to enter one of them from the west passes by no moment.
+// A run that stops whenever the signal is about to enter one of these rows from the west skips no moment.
 impl Stop for FirstRows {
     ghost use Rattle.bn_board.specs.Moments.{enters_first};
 
@@ -54,7 +54,8 @@ impl Stop for FirstRows {
     }
 }
 
-// A bank within which none of them is: those of a first cell itself are input lines of it.
+// A bank may be crossed at once if it contains none of these rows after the rows of its first column, which are its
+// input ports.
 impl Passing for FirstRows {
     fn passes_through(&self, bank: &Entry) -> bool {
         let low = u64::from(bank.first) + u64::from(bank.lines);
@@ -77,7 +78,7 @@ impl Layout {
         }
     }
 
-    // The rows of a tape's first cell that are lines of commands: a read, a write of each symbol, and two shifts.
+    // The rows of a tape's first cell that are ports of commands: a read, a write of each symbol, and two shifts.
     fn rows_of(&self, tape: u32) -> Rows
         requires first { 1 ≤ tape }
         requires last { tape ≤ 3 }

@@ -1,4 +1,4 @@
-//! The numbers by which a board is read.
+//! The numbers by which a circuit is read.
 
 ghost use Rattle.std.specs.Prelude.{◌≡◌, ◌<◌, ◌≤◌, ◌+◌, ◌*◌, ◌^◌, length, Some, slice_get, IfOk};
 ghost use Rattle.bn_boards.specs.Layouts.{symbol_count_at, lines_at, first_element, cell_element, elements_of};
@@ -17,10 +17,10 @@ use bn_network_assembly::Windows;
 use std::alloc::Global;
 use std::marker::Model;
 
-// The numbers by which a board is read: the window of each tape; how many symbols each tape has; how many states the
-// control has; for each state of the machine of quadruples its first command, as the control's state that awaits the
-// answer and the output line; and for each state of the control the first read that it awaits, as the machine's state
-// and the tape.
+// The numbers by which a circuit is read: the window of each tape; the number of symbols of each tape; the number of
+// the control's states; for each state of the machine of quadruples its first command, as the control's state that
+// waits for the reply and the output port; and for each state of the control the first read for which it waits, as
+// the machine's state and the tape.
 #[derive(Drop)]
 pub(crate) struct Layout {
     windows: Windows,
@@ -55,7 +55,7 @@ impl Model for Layout {
 }
 
 impl Layout {
-    // The layout of these numbers.
+    // The layout with these numbers.
     pub(crate) fn new(
         windows: Windows,
         symbols: [u32; 3],
@@ -109,7 +109,7 @@ impl Layout {
         &self.windows
     }
 
-    // How many symbols a tape has. The contract also states what holds of every layout afterwards.
+    // The number of symbols of a tape. The contract also states what holds for every layout afterwards.
     pub(crate) fn letters(&self, tape: u32) -> u32
         requires first { 1 ≤ tape }
         requires last { tape ≤ 3 }
@@ -121,7 +121,7 @@ impl Layout {
         self.symbols[tape as usize - 1]
     }
 
-    // How many cells a tape has.
+    // The number of cells of a tape.
     pub(crate) fn cells(&self, tape: u32) -> u32
         requires first { 1 ≤ tape }
         requires last { tape ≤ 3 }
@@ -132,7 +132,7 @@ impl Layout {
         self.windows.cells(tape)
     }
 
-    // How many cells of a tape lie left of position 0.
+    // The number of cells of a tape left of position 0.
     pub(crate) fn left(&self, tape: u32) -> u32
         requires first { 1 ≤ tape }
         requires last { tape ≤ 3 }
@@ -142,7 +142,7 @@ impl Layout {
         if tape == 1 { self.windows.left1 } else { 0 }
     }
 
-    // The states of the control. The contract also states what holds of every layout afterwards.
+    // The number of the control's states. The contract also states what holds for every layout afterwards.
     pub(crate) fn states(&self) -> u32
         ensures number { result ≡ self.now.states }
         ensures some { 0 < result }
@@ -158,7 +158,7 @@ impl Layout {
         self.firsts.as_slice()
     }
 
-    // The first read that a state of the control awaits.
+    // The first read for which a state of the control waits.
     pub(crate) fn awaited(&self, state: u32) -> Option<(u32, u32)>
         requires { state < self.now.states }
         ensures kept { slice_get self.now.awaited state ≡ Some result }
@@ -167,7 +167,7 @@ impl Layout {
         self.awaited[state as usize]
     }
 
-    // The control's lines before those of the next tape; tape 0 is the outside.
+    // The number of the control's ports before those of the next tape; tape 0 is the outside.
     pub(crate) fn lines_before(&self, tape: u32) -> u32
         requires { tape ≤ 3 }
         ensures number { result ≡ lines_before self.now.symbols tape }
@@ -181,7 +181,7 @@ impl Layout {
         lines
     }
 
-    // The lines of the control.
+    // The number of the control's ports.
     pub(crate) fn lines(&self) -> u32
         ensures number { result ≡ lines_at self.now }
         ensures few { result < 65536 }
@@ -190,7 +190,7 @@ impl Layout {
         self.lines_before(3)
     }
 
-    // The elements of the control's bank. The contract also states what holds of every layout afterwards.
+    // The number of elements of the control's bank. The contract also states what holds for every layout afterwards.
     #[tactic(auto, using(crate::proofs::LayoutLemmas::control_within))]
     pub(crate) fn control_size(&self) -> u32
         ensures number { result ≡ bank_size self.now.states (lines_at self.now) }
@@ -200,7 +200,7 @@ impl Layout {
         self.states * (self.lines() + 1)
     }
 
-    // The elements of the bank of one of a tape's cells.
+    // The number of elements of the bank of one of a tape's cells.
     #[tactic(auto, using(crate::proofs::LayoutLemmas::cell_small))]
     pub(crate) fn cell_size(&self, tape: u32) -> u32
         requires first { 1 ≤ tape }
@@ -212,7 +212,7 @@ impl Layout {
         2 * letters * (2 * letters + 8 + 1)
     }
 
-    // The elements of a tape.
+    // The number of elements of a tape.
     #[tactic(auto, using(crate::proofs::LayoutLemmas::row_few))]
     pub(crate) fn row_size(&self, tape: u32) -> u32
         requires first { 1 ≤ tape }
@@ -222,8 +222,8 @@ impl Layout {
         self.windows.cells(tape) * self.cell_size(tape)
     }
 
-    // The first element of a tape's cells; of tape 4 the number of all elements. The contract also states what holds of
-    // every layout afterwards.
+    // The first element of a tape's cells; for tape 4 the number of all elements. The contract also states what holds
+    // for every layout afterwards.
     #[tactic(auto, using(crate::proofs::LayoutLemmas::row_within, crate::proofs::LayoutLemmas::first_within))]
     pub(crate) fn first_element(&self, tape: u32) -> u32
         requires first { 1 ≤ tape }
@@ -239,7 +239,7 @@ impl Layout {
         first
     }
 
-    // The first element of a tape's cell, counted from its left end.
+    // The first element of a tape's cell; cells are counted from the left end, from 0.
     #[tactic(auto, using(crate::proofs::LayoutLemmas::cell_within))]
     pub(crate) fn cell_element(&self, tape: u32, cell: u32) -> u32
         requires first { 1 ≤ tape }
@@ -260,7 +260,7 @@ impl Layout {
         self.first_element(4)
     }
 
-    // A bound on the steps of a run from the start to its exit.
+    // A bound on the number of element steps of a run from the start to its exit.
     pub(crate) fn bound(&self) -> u64
         ensures { result ≡ bound_of self.now }
     {

@@ -1,4 +1,5 @@
-//! Flat boards: the network of a machine of quadruples as one net of rotary elements, and how it is run and read.
+//! Flat circuits (*board* in names): the network of a machine of quadruples as one net of rotary elements, with its
+//! runs and its readings.
 #![tactic(auto)]
 
 mod bars;

@@ -1,4 +1,4 @@
-//! The module that holds the signal of a board.
+//! The module in whose bank the signal of a circuit is.
 
 ghost use Rattle.std.specs.Prelude.{◌≡◌, ◌+◌, ◌*◌, ◌<◌, ◌≤◌, pos, ◌-ℤ◌};
 ghost use Rattle.bn_circuits.specs.declared.place.Place.TheVariants.{Enter};
@@ -16,8 +16,8 @@ use bn_element::WEST;
 use bn_network::MOST_SYMBOLS;
 
 impl Board {
-    /// The module in whose bank the signal is, and the input line by which it enters it there. Allocates no memory. The
-    /// contract also states what holds of every board afterwards.
+    /// The module in whose bank the signal is, and the input port by which it enters that bank. Allocates no memory.
+    /// The contract also states what holds for every circuit afterwards.
     pub fn located(&self) -> Located
         ensures located { IsLocated self.now.layout self.now.config.place result }
         ensures kept { IsBoardKept self.now }
@@ -30,7 +30,7 @@ impl Board {
 }
 
 impl Layout {
-    // The module in whose bank this input line is.
+    // The module in whose bank this input port is.
     fn located(&self, entered: Line) -> Located
         requires { entered.element < elements_of self.now }
         ensures { IsLocated self.now (Enter entered.element entered.line) result }
@@ -49,7 +49,7 @@ impl Layout {
         }
     }
 
-    // The cell of this tape in whose bank this input line is.
+    // The cell of this tape in whose bank this input port is.
     fn located_on(&self, tape: u32, entered: Line) -> Located
         requires first { 1 ≤ tape }
         requires last { tape ≤ 3 }
@@ -91,7 +91,7 @@ impl Layout {
         i64::from(cell) - i64::from(self.left(tape))
     }
 
-    // The lines of one of a tape's cells.
+    // The number of ports of one of a tape's cells.
     pub(crate) fn cell_lines(&self, tape: u32) -> u32
         requires first { 1 ≤ tape }
         requires last { tape ≤ 3 }
@@ -102,7 +102,7 @@ impl Layout {
     }
 }
 
-// The input line of a bank with this many lines that begins at this element, if this is one.
+// The input port of a bank with this many ports that begins at this element, if this is one.
 fn input_line(first: u32, lines: u32, entered: Line) -> Option<u32>
     requires { first ≤ entered.element }
     ensures { IsInputLine first lines entered.element entered.line result }

@@ -1,11 +1,11 @@
-//! Where the signal of a board is, by modules.
+//! The place of a circuit's signal, by modules.
 
-/// The module in which the signal of a board is (this project's own definition). Lines are counted from 0.
+/// The module in which the signal of a circuit is (own to this project). Ports are counted from 0.
 #[derive(Clone, Copy, PartialEq, Eq, Debug)]
 pub enum Located {
     /// In the control.
     Control {
-        /// The control's input line, where the signal enters it: the west of a row of its first column.
+        /// The control's input port, if the signal enters by one: the west of a row of its first column.
         line: Option<u32>,
     },
     /// In a tape cell.
@@ -14,9 +14,9 @@ pub enum Located {
         tape: u32,
         /// The cell's position on the tape.
         position: i64,
-        /// The cell's input line, where the signal enters it: the west of a row of its first column.
+        /// The cell's input port, if the signal enters by one: the west of a row of its first column.
         line: Option<u32>,
     },
-    /// In none: it has left.
+    /// In no module: the signal has left.
     Outside,
 }

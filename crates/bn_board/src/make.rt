@@ -1,4 +1,4 @@
-//! Making boards.
+//! Building circuits.
 
 ghost use Rattle.std.specs.Prelude.{◌≡◌, ◌≤◌, length, IfOk};
 ghost use Rattle.bn_circuits.specs.Order.{AreInOrder};
@@ -19,8 +19,8 @@ use bn_network_assembly::{Assembly, Module};
 use bn_packed::{Draft, Packed};
 use std::alloc::Global;
 
-/// The board of a network: each module as its bank of columns of rotary elements, bank after bank in the order of the
-/// modules, at the network's start. Elements are counted from 0.
+/// The circuit of a network: each module as its bank of columns of rotary elements, bank after bank in the order of
+/// the modules, at the network's start. Elements are counted from 0. `Err`: out of memory.
 pub fn flatten(alloc: Global, assembly: &Assembly) -> Result<Board, NoMemory>
     ensures made { IfOk result (IsFlattened assembly.now) }
     ensures kept { IfOk result IsBoardKept }
@@ -31,13 +31,13 @@ pub fn flatten(alloc: Global, assembly: &Assembly) -> Result<Board, NoMemory>
     Ok(Board::new(packed, START, end, layout))
 }
 
-// The line by which the signal enters at the start.
+// The port by which the signal enters at the start.
 const START: Line = Line {
     element: 0,
     line: WEST,
 };
 
-// The net of the board, with the bars at the start.
+// The net of the circuit, with the bars at the start.
 fn packed_of(alloc: Global, assembly: &Assembly, count: u32) -> Result<Packed, NoMemory>
     requires { count ≡ size (network_of assembly.now).tables }
     ensures board { IfOk result (λ p. IsBoard (network_of assembly.now) (rotary_circuit p.net)) }
@@ -60,7 +60,7 @@ fn packed_of(alloc: Global, assembly: &Assembly, count: u32) -> Result<Packed, N
     Ok(packed)
 }
 
-// A draft of this many elements with the wires of the board of this net of modules.
+// A draft of this many elements with the wires of the circuit of this net of modules.
 fn draft_of(alloc: Global, count: u32, net: &Net<Module>) -> Result<Draft, NoMemory>
     requires modules { AreModules (module_circuit net.now) }
     requires few { size (module_circuit net.now).tables ≤ MOST_ELEMENTS }

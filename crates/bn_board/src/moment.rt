@@ -1,4 +1,4 @@
-//! Of which state of the machine of quadruples a board is at the moment.
+//! The state of the machine of quadruples whose moment a circuit is at.
 
 ghost use Rattle.std.specs.Prelude.{◌≡◌, ℕ, ◌<◌, length, Some, None};
 ghost use Rattle.bn_circuits.specs.declared.place.Place.TheVariants.{Enter};
@@ -14,10 +14,10 @@ use bn_circuits::{Line, Place};
 use bn_element::{HORIZONTAL, WEST};
 
 impl Board {
-    /// The state of the machine of quadruples, counted from 0, whose moment this is: in the final state the signal has
-    /// left by the end line; in another it enters the first cell of a tape with the first command of that state, and
-    /// the control waits for the answer to it. Allocates no memory. The contract also states what holds of every board
-    /// afterwards.
+    /// The state of the machine of quadruples, counted from 0, whose moment this is. For the final state, the signal
+    /// has left by the end port; for another state, it enters the first cell of a tape with the first command of that
+    /// state, and the control waits for the reply. Allocates no memory. The contract also states what holds for every
+    /// circuit afterwards.
     pub fn moment(&self) -> Option<u32>
         ensures moment { result ≡ moment_at self.now.layout self.now.config }
         ensures kept { IsBoardKept self.now }
@@ -42,7 +42,7 @@ impl Board {
         }
     }
 
-    // The state of the machine that has no first command: the signal has left by the end line.
+    // The state of the machine that has no first command: the signal has left by the end port.
     fn ended(&self) -> Option<u32>
         requires { self.now.config.place ≡ end_place self.now.layout }
         ensures { result ≡ moment_at self.now.layout self.now.config }
@@ -55,7 +55,7 @@ impl Board {
         None
     }
 
-    // The first state of the machine whose first command is this one, with its answer awaited.
+    // The first state of the machine whose first command is this one, if the control waits for its reply.
     fn sent_first(&self, element: u32, command: u32) -> Option<u32>
         requires place { self.now.config.place ≡ Enter element west }
         requires command { IsCommandTo self.now.layout element (Some command) }
@@ -69,7 +69,7 @@ impl Board {
         None
     }
 
-    // Whether this first command is this one, with its answer awaited.
+    // Whether this first command is this one, and the control waits for its reply.
     fn is_sent(&self, element: u32, command: u32, first: Option<(u32, u32)>) -> bool
         requires place { self.now.config.place ≡ Enter element west }
         requires command { IsCommandTo self.now.layout element (Some command) }
@@ -92,7 +92,7 @@ impl Board {
 }
 
 impl Layout {
-    // The control's output line to a tape whose command leads to the west of this element.
+    // The control's output port whose command leads to the west of this element.
     #[tactic(auto, using(crate::proofs::LayoutLemmas::row_within))]
     fn command_to(&self, element: u32) -> Option<u32>
         ensures { IsCommandTo self.now element result }

@@ -1,4 +1,4 @@
-//! The numbers of a board, read off its network's control.
+//! The numbers of a circuit, taken from its network's control.
 
 ghost use Rattle.std.specs.Prelude.{◌≡◌, All, length, IfOk, OnOk};
 ghost use Rattle.bn_control.specs.Controlled.{IsTapeAwaited};
@@ -12,7 +12,7 @@ use bn_element::Element;
 use bn_network_assembly::{Assembly, Module};
 use std::alloc::Global;
 
-// The numbers of the board of this network.
+// The numbers of the circuit of this network.
 pub(crate) fn layout_of(alloc: Global, assembly: &Assembly) -> Result<Layout, NoMemory>
     ensures numbers { IfOk result (IsLayoutOf assembly.now) }
     ensures kept { IsKept assembly.now }
@@ -48,7 +48,7 @@ fn firsts_of(alloc: Global, control: &Control) -> Result<Vec<Option<(u32, u32)>>
     Ok(firsts)
 }
 
-// The first read that each state of the control awaits.
+// The first read for which each state of the control waits.
 #[tactic(auto, using(crate::proofs::CopyLemmas::copy_more, crate::proofs::CopyLemmas::copied))]
 fn awaited_of(alloc: Global, control: &Control) -> Result<Vec<Option<(u32, u32)>>, NoMemory>
     requires { length control.now.awaited ≡ control.now.machine.states }

@@ -1,4 +1,4 @@
-//! The wires of a board.
+//! The wires of a circuit.
 
 ghost use Rattle.std.specs.Prelude.{◌≡◌, ◌+◌, ◌<◌, ◌≤◌, length, Some, IfOk, OnOk};
 ghost use Rattle.bn_circuits.specs.Circuits.{IsOutputOf, target};
@@ -30,7 +30,7 @@ pub(crate) fn bases(alloc: Global, net: &Net<Module>) -> Result<Vec<u32>, NoMemo
     Ok(bases)
 }
 
-// The elements of a module's bank.
+// The number of elements of a module's bank.
 pub(crate) fn size_of(bank: &Module) -> u32
     requires some { 0 < (module_table bank.now).states }
     requires few { size_of (module_table bank.now) ≤ MOST_ELEMENTS }
@@ -39,7 +39,7 @@ pub(crate) fn size_of(bank: &Module) -> u32
     bank.states() * (bank.lines_in() + 1)
 }
 
-// A draft of this many elements with the wires of the board of this net of modules, whose banks begin at these
+// A draft of this many elements with the wires of the circuit of this net of modules, whose banks begin at these
 // elements.
 pub(crate) fn board_draft(
     alloc: Global,
@@ -76,7 +76,7 @@ fn own_wires(alloc: Global, count: u32, net: &Net<Module>, bases: &[u32]) -> Res
     Ok(draft)
 }
 
-// Draws the own wires of a module's bank, after those of the earlier ones.
+// Draws the own wires of a module's bank, after those of the earlier banks.
 fn draw_bank(
     alloc: Global,
     draft: &mut Draft,
@@ -98,7 +98,7 @@ fn draw_bank(
     Ok(())
 }
 
-// Draws the wires from a module to others, after those from earlier ones.
+// Draws the wires from a module to others, after those from earlier modules.
 fn draw_leaving(draft: &mut Draft, net: &Net<Module>, bases: &[u32], number: u32)
     requires modules { AreModules (module_circuit net.now) }
     requires few { size (module_circuit net.now).tables ≤ MOST_ELEMENTS }
@@ -114,7 +114,7 @@ fn draw_leaving(draft: &mut Draft, net: &Net<Module>, bases: &[u32], number: u32
     }
 }
 
-// Draws the wire from a module's output line to another module, if there is one.
+// Draws the wire from a module's output port to another module, if there is one.
 fn draw_between(draft: &mut Draft, net: &Net<Module>, bases: &[u32], number: u32, line: u32)
     requires modules { AreModules (module_circuit net.now) }
     requires few { size (module_circuit net.now).tables ≤ MOST_ELEMENTS }
@@ -135,7 +135,7 @@ fn draw_between(draft: &mut Draft, net: &Net<Module>, bases: &[u32], number: u32
     }
 }
 
-// The wire from a module's output line to this input line of another.
+// The wire from a module's output port to this input port of another.
 fn between(net: &Net<Module>, bases: &[u32], number: u32, line: u32, to: Line) -> Wire
     requires modules { AreModules (module_circuit net.now) }
     requires few { size (module_circuit net.now).tables ≤ MOST_ELEMENTS }
@@ -151,7 +151,7 @@ fn between(net: &Net<Module>, bases: &[u32], number: u32, line: u32, to: Line) -
     }
 }
 
-// The output line of a module's bank that begins at this element.
+// The output port of a module's bank that begins at this element.
 fn output_line(bank: &Module, first: u32, line: u32) -> Line
     requires some { 0 < (module_table bank.now).states }
     requires line { line < (module_table bank.now).inputs }
@@ -165,7 +165,7 @@ fn output_line(bank: &Module, first: u32, line: u32) -> Line
     }
 }
 
-// The input line of a bank that begins at this element.
+// The input port of a bank that begins at this element.
 fn input_line(first: u32, line: u32) -> Line
     requires { first + line ≤ MOST_ELEMENTS }
     ensures { result ≡ bank_input_line first line }

@@ -1,4 +1,5 @@
--- When a board is at a moment, in its own words: by the line that the signal enters and by the control's marked column.
+-- The moments of a circuit in terms of the circuit alone: by the port that the signal enters and by the control's
+-- marked column.
 use Rattle.std.specs.Prelude.{◌≡◌, ◌≢◌, ℕ, ◌<◌, List, length, Some, slice_get}
 use Rattle.bn_element.specs.Tables.{Table}
 use Rattle.bn_circuits.specs.Circuits.{Circuit}
@@ -15,9 +16,9 @@ use Rattle.bn_circuits.specs.Circuits.{line_at}
 use Rattle.bn_boards.specs.Boards.{base}
 use Rattle.bn_boards.specs.Flats.{Flat, machine_of}
 
--- The board is at the moment of the final state where the signal has left by the control's line to the outside; of
--- another state where it enters the line of that state's first command at the first cell of the tape, and the control's
--- column of the command's state is marked.
+-- The circuit is at the moment of the final state if the signal has left by the control's port to the outside. It is
+-- at the moment of another state if the signal enters the port of that state's first command at the first cell of the
+-- tape, and the control's column of the state that waits for the reply is marked.
 pub data IsBoardMoment (m : Quadruples) (l : Limits) (names : List ControlState) (n : Circuit) (d : Config)
     (a : ℕ) : Type 0 where
   left_by_end : a ≡ final_state_of m.rules → (control : Table) → slice_get n.tables 0 ≡ Some control
@@ -28,7 +29,7 @@ pub data IsBoardMoment (m : Quadruples) (l : Limits) (names : List ControlState)
       → (q : ℕ) → slice_get names q ≡ Some first.0
       → slice_get d.states (bottom_at 0 (control_lines m) q) ≡ Some horizontal → IsBoardMoment m l names n d a
 
--- one column of the control is marked at most
+-- at most one column of the control is marked
 abbrev pub HasOneState : Flat → Config → Type 0
 HasOneState f d =
     (i j : ℕ) → i < length f.names → j < length f.names

@@ -1,5 +1,6 @@
--- The flat board of any circuit of modules (this project's own profile): each module as its bank of columns of rotary
--- elements, one bank after another. It knows nothing of tapes, cells or controls.
+-- The flat circuit of rotary elements of any circuit of modules (own to this project; *board* in names): each module
+-- as its bank of columns of rotary elements, one bank after another. The definition does not depend on tapes, cells
+-- or controls.
 use Rattle.std.specs.Prelude.{◌≡◌, ◌≢◌, ◌↔◌, ℕ, zero, suc, ◌+◌, ◌*◌, ◌<◌, List, [], ◌∷◌, ◌++◌, length, replicate}
 use Rattle.std.specs.Prelude.{Option, Some, None, slice_get, slice_set, ◌⊎◌}
 use Rattle.bn_element.specs.Tables.{Table}
@@ -13,8 +14,8 @@ use Rattle.bn_realise.specs.Banks.{IsBankWire, IsResting, AreMarked, bottom_at, 
 use Rattle.bn_realise.specs.Banks.{turning_line}
 use Rattle.bn_circuits.specs.Situations.{Situation}
 
--- how many elements a bank has; how many the first modules have together, which is the first element of the next; and
--- how many all have
+-- the number of elements of a bank (`size_of`); of the first modules together, which is the first element of the next
+-- one (`base`); and of all modules (`size`)
 abbrev pub size_of : Table → ℕ
 size_of t = t.states * (t.inputs + 1)
 
@@ -26,15 +27,15 @@ base (t ∷ ts) (suc m) = size_of t + base ts m
 abbrev pub size : List Table → ℕ
 size ts = base ts (length ts)
 
--- modules that can be banks: each is reversible, has a state and a line, and as many lines out as in
+-- modules that can be banks: each is reversible, has a state and a port, and as many output as input ports
 pub record AreModules (n : Circuit) : Type 0 where
   pub circuit : IsCircuit n
   pub some_states : (m : ℕ) (t : Table) → slice_get n.tables m ≡ Some t → 0 < t.states
   pub some_lines : (m : ℕ) (t : Table) → slice_get n.tables m ≡ Some t → 0 < t.inputs
   pub square : (m : ℕ) (t : Table) → slice_get n.tables m ≡ Some t → t.outputs ≡ t.inputs
 
--- a board's wires: those of each module's bank; and for each wire between modules, one from the output line of the one
--- bank to the input line of the other
+-- the circuit's wires: those of each module's bank; and for each wire between modules, one from the output port of
+-- the first bank to the input port of the second
 pub data IsBoardWire (n : Circuit) (from to : Line) : Type 0 where
   own : (m : ℕ) (t : Table) → slice_get n.tables m ≡ Some t → IsBankWire (base n.tables m) t from to
       → IsBoardWire n from to
@@ -42,20 +43,20 @@ pub data IsBoardWire (n : Circuit) (from to : Line) : Type 0 where
       → from ≡ bank_output_line (base n.tables out.element) t out.line
       → to ≡ bank_input_line (base n.tables into.element) into.line → IsBoardWire n from to
 
--- the circuit of rotary elements k is the board of the circuit of modules n
+-- the circuit of rotary elements k is the circuit (board) of the network n
 pub record IsBoard (n k : Circuit) : Type 0 where
   pub circuit : IsCircuit k
   pub tables : k.tables ≡ replicate (size n.tables) rotary
   pub wires : (from to : Line) → (target k.wires from ≡ Some to) ↔ IsBoardWire n from to
 
--- the bars of a board whose modules are in these states
+-- the bars of a circuit whose modules are in these states
 abbrev pub bars_of : List Table → List ℕ → List ℕ
 bars_of [] qs = []
 bars_of (t ∷ ts) [] = []
 bars_of (t ∷ ts) (q ∷ qs) =
     slice_set (replicate (size_of t) vertical) (bottom_at 0 t.inputs q) horizontal ++ bars_of ts qs
 
--- where the signal is on the board that is between two modules
+-- the place of the signal in the circuit, for a place between two modules of the network
 abbrev pub output_at : List Table → ℕ → Option Table → ℕ → Place
 output_at ts e None o = Left 0 0
 output_at ts e (Some t) o = Left (bank_output_line (base ts e) t o).element east
@@ -64,11 +65,12 @@ abbrev pub on_board : List Table → Place → Place
 on_board ts (Enter e i) = Enter (base ts e + i) west
 on_board ts (Left e o) = output_at ts e (slice_get ts e) o
 
--- the board's configuration for a situation of its modules, with no step made yet
+-- the circuit's configuration for a situation of its modules, with no step made
 abbrev pub board_start : List Table → Situation → Config
 board_start ts s = record { states = bars_of ts s.states; place = on_board ts s.place; steps = 0 }
 
--- the board is between two modules, and each bank rests in its module's state
+-- the circuit represents the situation: the signal is between two modules, and each bank is at rest in its module's
+-- state
 pub record StandsFor (n : Circuit) (s : Situation) (c : Config) : Type 0 where
   pub count : length s.states ≡ length n.tables
   pub bars : length c.states ≡ size n.tables
@@ -77,8 +79,8 @@ pub record StandsFor (n : Circuit) (s : Situation) (c : Config) : Type 0 where
   pub admissible : IsPlace n s.place
   pub place : c.place ≡ on_board n.tables s.place
 
--- Strictly within a move from s to t: the signal enters a line to which one of some bank's own wires leads; and the
--- marks of each bank are those in s, or in t, or none.
+-- Strictly within a move from s to t: the signal enters a port to which one of some bank's own wires leads, and the
+-- marks of each bank are those in s, or those in t, or none.
 pub record IsAmid (n : Circuit) (s t : Situation) (d : Config) : Type 0 where
   pub at_module : ℕ
   pub table : Table
@@ -91,8 +93,8 @@ pub record IsAmid (n : Circuit) (s t : Situation) (d : Config) : Type 0 where
       × AreMarked d.states (base n.tables m) u.states u.inputs q
       × (((q ≡ slice_get s.states m) ⊎ (q ≡ slice_get t.states m)) ⊎ (q ≡ None))
 
--- where the module that is entered has no move, the signal leaves by a loose line; its bank has no mark, and every
--- other one rests in its module's state
+-- if the module that the signal enters has no move, the signal has left by a loose port; its bank has no mark, and
+-- every other bank is at rest in its module's state
 pub record IsLoose (n : Circuit) (s : Situation) (d : Config) : Type 0 where
   pub at_module : ℕ
   pub line : ℕ

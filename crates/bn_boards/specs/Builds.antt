@@ -1,5 +1,5 @@
--- What a uniform machine of quadruples is built to in a window (this project's own profile): its control's states in
--- order, its network, the network's board, and the layout by which the board is read.
+-- The build of a uniform machine of quadruples in a window (own to this project): its control's states in order, its
+-- network, the network's circuit, and the layout by which the circuit is read.
 use Rattle.std.specs.Prelude.{◌≡◌, ℕ, List, length}
 use Rattle.bn_circuits.specs.Circuits.{Circuit}
 use Rattle.bn_circuits.specs.Situations.{Situation}
@@ -23,7 +23,7 @@ pub record IsUniformNetwork (m : Quadruples) (l : Limits) (names : List ControlS
   pub numbering : IsNumbering m names
   pub network : IsNetwork m l names k
 
--- a machine, the numbers of cells that its tapes have, and what they are built to
+-- a machine, the limits that give the numbers of its tapes' cells, and the parts of its build
 pub record Build : Type 0 where
   pub machine : Quadruples
   pub limits : Limits
@@ -32,24 +32,24 @@ pub record Build : Type 0 where
   pub circuit : Circuit
   pub layout : Layout
 
--- the machine is uniform with a symbol on each tape, the network is its network in these limits, the circuit that
--- network's board, and the layout that of the board
+-- the machine is uniform with a symbol on each tape, the network is its network in these limits, `circuit` is that
+-- network's circuit, and the layout is the circuit's layout
 pub record IsBuild (f : Build) : Type 0 where
   pub is_network : IsUniformNetwork f.machine f.limits f.names f.network
   pub is_board : IsBoard f.network f.circuit
   pub is_layout : IsLayout f.machine f.limits f.names f.layout
 
--- how many elements its board has
+-- the number of elements of its circuit
 abbrev pub build_elements : Build → ℕ
 build_elements f = elements_by f.machine f.limits (length f.names)
 
--- the board at the start of c, with no step made
+-- the circuit at the start of c, with no step made
 abbrev pub start_of : Build → Configuration ℕ → Config
 start_of f c = board_start f.network.tables (start_from f.machine f.limits c)
 
--- The board at d, standing for the situation s, is at the start of c: c is in the initial state, whatever stands on its
--- tapes, and wherever in the window its heads are; the cells show its tapes, the control is in its first state, the
--- signal is at the control's line from outside, and no step was made.
+-- The circuit at d, which represents the situation s, is at the start of c: c is in the initial state, with any
+-- contents of its tapes and any positions of its heads within the window; the cells show its tapes, the control is in
+-- its first state, the signal is at the control's port from outside, and no step has been made.
 pub record IsStart (f : Build) (c : Configuration ℕ) (s : Situation) (d : Config) : Type 0 where
   pub initial : c.state ≡ initial_of f.machine.rules
   pub waits : IsControlAt f.names s.states Begin

@@ -1,4 +1,4 @@
--- What a board costs, and the bound on it: numbers of element steps (this project's own profile).
+-- The cost of a circuit's run, and a bound on it: numbers of element steps (own to this project).
 use Rattle.std.specs.Prelude.{◌≡◌, ℕ, ◌+◌, ◌*◌}
 use Rattle.bn_lists.specs.Runs.{Reaches}
 use Rattle.bn_circuits.specs.Situations.{Situation, Turns, IsAtEnd}
@@ -7,7 +7,8 @@ use Rattle.bn_boards.specs.Layouts.{Layout, elements_of}
 use Rattle.bn_boards.specs.Builds.{Build}
 use Rattle.bn_boards.specs.Flats.{Flat, build_of, situation_at_start}
 
--- the cost: the sum of the costs over the network's moves to its end, with the way to the loose line where it stops
+-- the cost: the sum of the costs of the network's moves to its end, including the path to the loose port where the
+-- run stops
 pub record HasNetworkCost (f : Build) (start : Situation) (cost : ℕ) : Type 0 where
   pub moves : ℕ
   pub last : Situation
@@ -15,11 +16,11 @@ pub record HasNetworkCost (f : Build) (start : Situation) (cost : ℕ) : Type 0 
   pub ended : IsAtEnd f.network last
   pub is : cost ≡ run_cost f.network (moves + 1) start
 
--- that of the run from the word
+-- the cost of the run from the word
 abbrev pub HasCost : Flat → ℕ → Type 0
 HasCost f cost = HasNetworkCost (build_of f) (situation_at_start f) cost
 
--- a bound on the cost of every board with this layout: at most 4 n + 4 r + 6 steps of the machine of quadruples are
--- begun, for n history cells and r output cells after the first, and each is at most six commands
+-- a bound on the cost of every circuit with this layout: at most 4n + 4r + 6 steps of the machine of quadruples are
+-- begun, for n history cells and r output cells after the first, and each takes at most six commands
 abbrev pub bound_of : Layout → ℕ
 bound_of b = 48 * elements_of b * (4 * b.limits.steps + 4 * b.limits.output + 7)

@@ -1,4 +1,4 @@
--- What the laws of this crate say, each a field of `Laws`: each machine has a network, a layout and a board.
+-- The statements of this crate's laws, each a field of `Laws`: each machine has a network, a layout and a circuit.
 use Rattle.std.specs.Prelude.{◌≡◌, ℕ, List}
 use Rattle.bn_circuits.specs.Circuits.{Circuit}
 use Rattle.bn_machine.specs.Machine.{Program}
@@ -15,8 +15,8 @@ use Rattle.bn_boards.specs.Layouts.{Layout, IsLayout}
 use Rattle.bn_boards.specs.Flats.{Flat, IsFlatOf, AreSameFlats}
 use Rattle.bn_circuits.specs.Alike.{AreAlike}
 
--- a uniform machine with a symbol on each tape has a network in any limits, and two of them have the same tables and
--- the same wires
+-- a uniform machine with a symbol on each tape has a network in any limits, and any two such networks have the same
+-- tables and the same wires
 abbrev pub NetworksAreThere : Type 0
 NetworksAreThere =
     ((m : Quadruples) (l : Limits) (names : List ControlState) → IsQuadMachine m → IsUniformMachine m → HasLetters m
@@ -29,7 +29,7 @@ abbrev pub NetworksAreModules : Type 0
 NetworksAreModules = (m : Quadruples) (l : Limits) (names : List ControlState) (k : Circuit) → HasLetters m
     → IsNumbering m names → IsNetwork m l names k → AreModules k
 
--- a uniform machine has a layout in any limits, and only one
+-- a uniform machine has exactly one layout in any limits
 abbrev pub LayoutsAreThere : Type 0
 LayoutsAreThere =
     ((m : Quadruples) (l : Limits) (names : List ControlState) → IsQuadMachine m → IsUniformMachine m
@@ -37,8 +37,8 @@ LayoutsAreThere =
     × ((m : Quadruples) (l : Limits) (names : List ControlState) (b c : Layout) → IsQuadMachine m
     → IsUniformMachine m → IsNumbering m names → IsLayout m l names b → IsLayout m l names c → b ≡ c)
 
--- a machine in standard form within the limits of tables has a board for each word and limits, and two of them are the
--- same up to the order of wires
+-- a machine in standard form within the limits of tables has a circuit for each word and limits, and any two such
+-- circuits are the same up to the order of wires
 abbrev pub FlatsAreThere : Type 0
 FlatsAreThere =
     (p : Program) (word : List ℕ) (l : Limits) → IsStandardMachine p → FitsTable p

@@ -1,4 +1,5 @@
--- By which line the board of any uniform machine is left, and what its cells spell then (this project's own profile).
+-- The port by which the signal leaves the circuit of any uniform machine, and the tapes that its cells then show (own
+-- to this project).
 use Rattle.std.specs.Prelude.{◌≡◌, ℕ, ◌+◌, ◌-◌, List, Some, slice_get}
 use Rattle.bn_circuits.specs.declared.place.Place.{Place}
 use Rattle.bn_circuits.specs.declared.place.Place.TheVariants.{Left}
@@ -15,17 +16,18 @@ use Rattle.bn_boards.specs.declared.exit.Exit.TheVariants as exit
 use Rattle.bn_boards.specs.Layouts.{IsNamedExit, lines_at, spelled_by, spelled_config}
 use Rattle.bn_boards.specs.Builds.{Build}
 
--- the line by which the signal leaves at the answer z of tape t, which the control awaits in state a of the machine
--- after the symbols that were read before
+-- the port by which the signal leaves at the reply z of tape t, for which the control waits in state a of the machine
+-- after it has read these symbols
 pub record IsStopLine (f : Build) (p : Place) (a t z : ℕ) (symbols : List ℕ) : Type 0 where
   pub column : ℕ
   pub named : slice_get f.names column ≡ Some (Reads a symbols)
   pub line : p ≡ Left (column_at 0 (lines_at f.layout) column + (lines_before f.layout.symbols (t - 1) + z)) west
 
--- By which line the board is left where the machine's run ends so at c, and what the cells spell then: by the end line,
--- the tapes of c; at the read at which the machine is stuck, its tapes but for the symbols that were read; where no
--- quadruple leaves the state, its tapes but for the scanned symbol of tape 1, for which the control asks there; or by
--- the line at a tape's end, the tapes as they are within the step that would leave.
+-- The port by which the signal leaves if the machine's run ends in this way at c, and the tapes that the cells then
+-- show. `by_end`: by the end port, with the tapes of c. `by_read`: at the read at which the machine is stuck, with
+-- its tapes without the symbols that were read. `by_wait`: if no quadruple leaves the state, at the reply to the
+-- control's read of tape 1, with the tapes without the scanned symbol of tape 1. `by_window`: by the port at a tape's
+-- end, with the tapes as they are within the step that would leave.
 pub data BoardLeaves (f : Build) (p : Place) (states : List ℕ) (c : Configuration ℕ) (e : Exit) : Type 0 where
   by_end : e ≡ Finished → IsNamedExit f.layout p exit.End → spelled_by f.layout states ≡ spelled_config f.limits c
       → BoardLeaves f p states c e

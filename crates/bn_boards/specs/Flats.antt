@@ -1,5 +1,5 @@
--- A machine's translation with its control, its network, its board and its layout: what a machine, a word and limits
--- are compiled to.
+-- The result of compiling a machine, a word and limits: the machine's translation with its control, its network, its
+-- circuit and its layout.
 use Rattle.std.specs.Prelude.{◌≡◌, ◌≢◌, ℕ, ◌≤◌, List, length, All}
 use Rattle.bn_circuits.specs.Alike.{AreAlike}
 use Rattle.bn_circuits.specs.Circuits.{Circuit}
@@ -18,7 +18,7 @@ use Rattle.bn_boards.specs.Boards.{IsBoard, board_start, size}
 use Rattle.bn_boards.specs.Builds.{Build}
 use Rattle.bn_boards.specs.Layouts.{Layout, IsLayout}
 
--- the machine of a translation with its control, its network in these limits, and its board
+-- the machine of a translation with its control, its network in these limits, and its circuit
 pub record Flat : Type 0 where
   pub translation : Translation
   pub limits : Limits
@@ -31,7 +31,7 @@ pub record Flat : Type 0 where
 abbrev pub machine_of : Flat → Quadruples
 machine_of f = f.translation.machine
 
--- what a one-tape machine is compiled to, as what its machine of quadruples is built to
+-- the build of the translation's machine of quadruples
 abbrev pub build_of : Flat → Build
 build_of f = record {
   machine = f.translation.machine;
@@ -51,15 +51,15 @@ pub record IsFlatOf (p : Program) (word : List ℕ) (l : Limits) (f : Flat) : Ty
   pub is_board : IsBoard f.network f.circuit
   pub is_layout : IsLayout f.translation.machine l f.names f.layout
 
--- the start of the board, and of the network
+-- the starts of the network and of the circuit
 abbrev pub situation_at_start : Flat → Situation
 situation_at_start f = network_start f.translation.machine f.limits f.word
 
 abbrev pub flat_start : Flat → Config
 flat_start f = board_start f.network.tables (situation_at_start f)
 
--- what may be compiled: a machine in standard form, a word of its letters that fits, limits and elements within the
--- greatest numbers
+-- the accepted inputs: a machine in standard form, a word of its letters that fits, and limits and a number of
+-- elements within the greatest numbers
 pub record IsAccepted (p : Program) (word : List ℕ) (l : Limits) (f : Flat) : Type 0 where
   pub standard : IsStandardMachine p
   pub letters : IsSpelledBy p word
@@ -68,7 +68,7 @@ pub record IsAccepted (p : Program) (word : List ℕ) (l : Limits) (f : Flat) : 
   pub small : AreSmall l
   pub few : size f.network.tables ≤ MOST_ELEMENTS
 
--- two boards of one machine, word and limits: the same up to the order of wires
+-- two circuits of one machine, word and limits: the same up to the order of wires
 pub record AreSameFlats (f g : Flat) : Type 0 where
   pub translation : f.translation ≡ g.translation
   pub names : f.names ≡ g.names

@@ -1,4 +1,4 @@
--- A run of the network from its start over the moments to its end, and the same run on the board.
+-- A run of the network from its start through its moments to its end, and the same run of the circuit.
 use Rattle.std.specs.Prelude.{◌≡◌, ℕ, ◌+◌, ◌*◌, ◌<◌, ◌≤◌, Bool, true, false, length, ◌⊎◌}
 use Rattle.bn_lists.specs.Runs.{Reaches}
 use Rattle.bn_machine.specs.Tape.{scanned}
@@ -26,8 +26,8 @@ pub record Strides (f : Build) (test : Situation → Bool) (x y : Situation × C
   pub shows : IsMomentOf f.machine f.limits f.names f.network y.0 y.1
   pub told : test y.0 ≡ true
 
--- From a start the network comes to its first moment, then over n steps to the moment of d, and from there to an end of
--- which this is so.
+-- From a start the network reaches its first moment, then over n steps the moment of d, and from there an end for
+-- which `Ends` holds.
 pub record ComesOver (f : Build) (test : Situation → Bool) (start : Situation) (c : Configuration ℕ) (n : ℕ)
     (d : Configuration ℕ) (Ends : Situation → Type 0) : Type 0 where
   pub first : Situation
@@ -44,12 +44,12 @@ pub record ComesOver (f : Build) (test : Situation → Bool) (start : Situation)
   pub ends : Ends last
   pub quiet : (moves ≡ 0) ⊎ (test last ≡ false)
 
--- so from the word to the end that the machine's own exit names
+-- the same from the word to the end that the machine's own exit determines
 abbrev pub NetworkComes : Flat → (Situation → Bool) → ℕ → Configuration ℕ → Exit → Type 0
 NetworkComes f test n d e = ComesOver (build_of f) test (situation_at_start f) (beginning_of f.translation f.word) n d
     (λ s. EndsBy (machine_of f) f.limits f.names s d e)
 
--- it ends as the outcome says
+-- the network ends as the outcome says
 abbrev pub NetworkEndsAs : Flat → (Situation → Bool) → ℕ → Outcome → Type 0
 NetworkEndsAs f test i (outcome.Halted y) = NetworkComes f test (4 * i + 4 * length y + 5)
     (ending_of f.translation f.word y) Finished

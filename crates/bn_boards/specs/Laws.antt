@@ -60,7 +60,7 @@ OneWordStarts = (m : Quadruples) (l : Limits) (word : List ℕ)
 
 -- ---- runs
 
--- the clock has room for as many element steps as the machine's steps bound them
+-- the clock has room for the bound on the element steps that the machine's steps give
 abbrev pub BuildsRunToTheirExit : Type 0
 BuildsRunToTheirExit =
     (f : Build) → IsBuild f → (c : Configuration ℕ) (s : Situation) (at_start : Config) → IsStart f c s at_start
@@ -68,15 +68,15 @@ BuildsRunToTheirExit =
     → 4 * build_elements f + 48 * build_elements f * (n + 1) ≤ clock
     → BuildRunsTo f s at_start n d e
 
--- r + j of the run's steps, and j of them back
+-- r + j steps of the run, followed by j backward steps
 abbrev pub BuildsRunBack : Type 0
 BuildsRunBack =
     (f : Build) → IsBuild f → (s : Situation) (at_start : Config) (n : ℕ) (d : Configuration ℕ) (e : Exit)
     → (ran : BuildRunsTo f s at_start n d e) → (j r : ℕ) → r + j ≤ ran.cost
     → back f.circuit (run f.circuit at_start (r + j)) j ≡ run f.circuit at_start r
 
--- What a board tells that has stopped at x after t steps: the machine's own run has ended, so and there, and the
--- board's run is the one to that end, in as many steps.
+-- If a circuit has stopped at x after t steps, the machine's own run has ended in this way at this configuration, and
+-- the circuit's run is the one to that end, in t steps.
 pub record Told (f : Build) (c : Configuration ℕ) (s : Situation) (at_start : Config) (t : ℕ)
     (x : Config) : Type 0 where
   pub steps : ℕ
@@ -87,21 +87,21 @@ pub record Told (f : Build) (c : Configuration ℕ) (s : Situation) (at_start : 
   pub cost : ran.cost ≡ t
   pub there : run f.circuit at_start ran.cost ≡ x
 
--- the clock has room for the t steps and those of one more step of the machine
+-- the clock has room for the t steps and for the element steps of one more step of the machine
 abbrev pub BuildsTellTheirMachine : Type 0
 BuildsTellTheirMachine =
     (f : Build) → IsBuild f → (c : Configuration ℕ) (s : Situation) (at_start : Config) → IsStart f c s at_start
     → (t : ℕ) (x : Config) → Reaches (Goes f.circuit) t at_start x → IsStuck f.circuit x
     → t + 48 * build_elements f ≤ clock → Told f c s at_start t x
 
--- wherever the clock runs out: it has room for the steps that lead from one step of the machine to the next
+-- at any step: the clock has room for the element steps from one step of the machine to the next
 abbrev pub BuildsAreLeftByTheirMachine : Type 0
 BuildsAreLeftByTheirMachine =
     (f : Build) → IsBuild f → 48 * build_elements f ≤ clock → (c : Configuration ℕ) (s : Situation) (at_start : Config)
     → IsStart f c s at_start → (t : ℕ) (x : Config) → Reaches (Goes f.circuit) t at_start x
     → (e l : ℕ) → x.place ≡ Left e l → HasLeft f c x.place x.states
 
--- the same of the moments that the layout finds, and of the start
+-- the same for the moments that the layout finds, and for the start
 abbrev pub BuildsShowTheirMachine : Type 0
 BuildsShowTheirMachine =
     (f : Build) → IsBuild f → 48 * build_elements f ≤ clock → (c : Configuration ℕ) (s : Situation) (at_start : Config)
@@ -129,105 +129,110 @@ InverseBuildsRunBack =
 -- ---- the laws
 
 pub record Laws : Type 0 where
-  -- Each module of a network is a bank of its board.
+  -- Each module of a network is a bank of the network's circuit.
   pub modules_are_banks : ModulesAreBanks
-  -- Every network of modules has a board.
+  -- Every network of modules has a circuit of rotary elements.
   pub boards_are_there : BoardsAreThere
-  -- One move of a network is one crossing of a bank on its board, in exactly its cost.
+  -- One move of a network is one crossing of a bank in its circuit, in exactly its cost.
   pub one_move_is_one_crossing : OneMove
-  -- Where a module has no move, the signal leaves its bank by the loose line.
+  -- If a module has no move, the signal leaves its bank by the loose port.
   pub missing_moves_lead_to_loose_lines : LooseMove
-  -- A path of a network is a path of its board, in the sum of the costs of its moves.
+  -- A path of a network is a path of its circuit, in the sum of the costs of its moves.
   pub boards_follow_networks : BoardsFollow
-  -- At each step of a run a board stands for a situation of its network, or it is strictly within a move.
+  -- At each step of a run a circuit represents a situation of its network, or it is strictly within a move.
   pub boards_visit_situations : BoardsVisit
-  -- Two boards of one machine, word and limits are the same up to the order of wires.
+  -- Two circuits of one machine, word and limits are the same up to the order of wires.
   pub flats_are_one : FlatsAreOne
-  -- A board's place has at most one named exit.
+  -- A place in a circuit has at most one named exit.
   pub exits_are_one : ExitsAreOne
-  -- What is said of the network is read off its board.
+  -- The moments, exits and tapes of the network of a machine in standard form can be read from its circuit.
   pub boards_are_read : BoardsRead
-  -- The boards of two words have one place at the start, and their bars differ at most at bottoms of tape 1's cells.
+  -- The circuits of two words have the same place at the start, and their bars differ at most at bottoms of the
+  -- columns of tape 1's cells.
   pub words_differ_in_cells : WordsDifferInCells
-  -- The boards of two words have the same elements and wires, the same layout, and one place at the end.
+  -- The circuits of two words have the same elements and wires, the same layout, and the same end place.
   pub words_share_boards : WordsShareBoards
-  -- A uniform machine with a symbol on each tape has a network in any limits, and two of them are alike.
+  -- A uniform machine with a symbol on each tape has a network in any limits, and any two such networks have the same
+  -- tables and wires.
   pub networks_are_there : NetworksAreThere
   -- Each module of a network can be a bank.
   pub networks_are_modules : NetworksAreModules
-  -- A uniform machine has a layout in any limits, and only one.
+  -- A uniform machine has exactly one layout in any limits.
   pub layouts_are_there : LayoutsAreThere
-  -- A machine in standard form within the limits of tables has a board for each word and limits, and two of them are
-  -- the same up to the order of wires.
+  -- A machine in standard form within the limits of tables has a circuit for each word and limits, unique up to the
+  -- order of wires.
   pub flats_are_there : FlatsAreThere
-  -- The network comes over its moments to the end that the machine's own bounded run comes to.
+  -- The network passes its moments to the end that the machine's own bounded run determines.
   pub networks_end_alike : NetworksEndAlike
-  -- The board runs to the exit that the machine's own bounded run names.
+  -- The circuit runs to the exit that the machine's own bounded run determines.
   pub boards_run_to_their_exit : BoardsRunToTheirExit
-  -- A board has one cost.
+  -- A circuit has at most one cost.
   pub costs_are_one : CostsAreOne
-  -- A board's signal is inside below its cost, and has left at it; the cost is within the bound, and the bound below
-  -- the greatest number of steps.
+  -- A circuit's signal is inside below its cost, and has left at it; the cost is within the bound, and the bound is
+  -- below the greatest number of steps.
   pub boards_end_in_time : BoardsEndInTime
-  -- At its cost a board has exactly the exits that the outcome names.
+  -- At its cost a circuit has exactly the exits that the outcome determines.
   pub exits_tell_outcomes : ExitsTellOutcomes
-  -- A board is left by each exit exactly where the machine's own bounded run comes out so, and by no line without a
-  -- name.
+  -- The signal leaves a circuit by each exit exactly if the machine's own bounded run has that outcome, and by no
+  -- port without a name.
   pub boards_leave_by_outcomes : BoardsLeaveByOutcomes
-  -- A board that is left by its end spells the restored word, a blank history and the output alone.
+  -- When the signal leaves a circuit by its end port, the cells show the restored word, a blank history and only the
+  -- output.
   pub boards_are_restored : BoardsAreRestored
-  -- A run of a board, taken back in part, is a shorter run.
+  -- Backward steps from a run of a circuit lead to the configuration of a shorter run.
   pub boards_run_back : BoardsRunBack
-  -- A board that stands for a situation of its network is at the network's moment.
+  -- A circuit that represents a situation of its network is at the network's moment.
   pub moments_are_told : MomentsAreTold
-  -- What is found by a board's layout is the moment that its lines and its control's marked column tell.
+  -- The moment found by a circuit's layout is the one given by its ports and its control's marked column.
   pub moments_are_by_marks : MomentsAreByMarks
-  -- A board is at a moment exactly at the sums of costs at which its network is at one; at every step no bank has two
-  -- marked columns and no tape shows two heads.
+  -- A circuit is at a moment exactly at the sums of costs at which its network is at one; no bank ever has two marked
+  -- columns, no tape two heads.
   pub boards_have_moments : BoardsHaveMoments
-  -- What is said of the network of any uniform machine is read off its board.
+  -- The moments, exits and tapes of the network of any uniform machine can be read from its circuit.
   pub networks_are_read : NetworksAreRead
-  -- What is said of the network of a translation is read off its board.
+  -- The moments, exits and tapes of the network of a translation can be read from its circuit.
   pub boards_are_read_alike : BoardsRead
-  -- The network of any uniform machine goes over its moments from the start, with one head a tape.
+  -- The network of any uniform machine passes its moments from the start, with one head per tape.
   pub networks_have_moments : NetworksHaveMoments
-  -- At the answer of its first read the network of any uniform machine stops exactly where the machine is stuck there.
+  -- At the reply to its first read, the network of any uniform machine stops exactly if the machine is stuck there.
   pub networks_stop_at_first_reads : NetworksStopAtFirstReads
-  -- The cells of a board at its start spell the word on tape 1 from cell 1 on, and nothing else, with the heads at 0.
+  -- The cells of a circuit at its start show the word on tape 1 from cell 1 on, and nothing else, with the heads at
+  -- 0.
   pub starts_spell_words : StartsSpellWords
   -- A uniform machine with a symbol on each tape has a build in every window.
   pub builds_are_there : BuildsAreThere
-  -- A build starts with each configuration in the initial state that stands in its window.
+  -- A build can start with each configuration in the initial state that fits its window.
   pub builds_start_anywhere : BuildsStartAnywhere
-  -- Three words of the tapes' symbols, none longer than its tape's right side, stand in the window.
+  -- Three words of the tapes' symbols, each at most as long as its tape's right side, fit the window.
   pub words_fit : WordsFit
-  -- So a build starts with a word on each tape, from cell 1 on, all heads at 0.
+  -- A build can start with a word on each tape that fits the window, from cell 1 on, with all heads at 0.
   pub builds_start_with_words : BuildsStartWithWords
-  -- With a word on tape 1 alone that is the start with this word as it is of the machines that the program translates.
+  -- With a word on tape 1 alone, this start is the start of a translated machine with that word.
   pub one_word_starts : OneWordStarts
-  -- For every uniform machine, window and start, where the clock has room: whatever the machine's own run in the window
-  -- comes to, its board runs in exactly its cost to that exit, and spells its tapes there.
+  -- If the clock has room, any uniform machine's circuit runs, in exactly its cost, to the exit of the machine's own
+  -- run in the window, and shows its tapes.
   pub builds_run_to_their_exit : BuildsRunToTheirExit
-  -- Steps taken back from within such a run restore it, all of them the start.
+  -- Backward steps from within such a run restore its earlier configurations, and all of them together restore the
+  -- start.
   pub builds_run_back : BuildsRunBack
-  -- The converse, where the clock has room: where the board makes t steps and then no more, the machine's own run has
-  -- ended, and the board has run to that exit.
+  -- The converse, if the clock has room: if the circuit makes t steps and stops, the machine's own run has ended, and
+  -- the circuit has run to that exit.
   pub builds_tell_their_machine : BuildsTellTheirMachine
-  -- Wherever the signal has left, the machine's own run has ended, and the board was left by that exit.
+  -- Whenever the signal has left, the machine's own run has ended, and the signal has left by the exit of that end.
   pub builds_are_left_by_their_machine : BuildsAreLeftByTheirMachine
-  -- Wherever its layout finds a moment, the machine's own run has come to a configuration in that state, whose tapes
-  -- the cells spell; and at the start they spell those of the start.
+  -- Whenever the layout finds a moment, the machine's own run has reached a configuration in that state, and the
+  -- cells show its tapes; likewise at the start.
   pub builds_show_their_machine : BuildsShowTheirMachine
-  -- The machine's own run in the window ends once, so there is one exit; and the board's run to an exit has one cost,
-  -- and ends in one configuration.
+  -- The machine's own run in the window ends in only one way; the circuit's run to an exit has one cost and one last
+  -- configuration.
   pub builds_end_once : BuildsEndOnce
-  -- Where the machine runs from a start in n steps to its end, a build of its inverse in the same window starts with
-  -- what is left there, and the inverse runs from it in n steps to its own end, which is the start.
+  -- If the machine runs from a start to its end in n steps, a build of its inverse starts with that end, and the
+  -- inverse runs back in n steps.
   pub inverse_builds_run_back : InverseBuildsRunBack
-  -- The machine's own run in the window ends, from any configuration in the initial state that stands in the window,
-  -- after fewer steps than there are ways to be.
+  -- The machine's own run in the window ends, from any initial configuration that fits the window, after fewer steps
+  -- than the window has configurations.
   pub own_runs_end : OwnRunsEnd
-  -- So it does from words on the tapes.
+  -- The machine's own run in the window ends also from words on the tapes.
   pub own_runs_from_words_end : OwnRunsFromWordsEnd
-  -- It has one number of steps, one last configuration, and one exit.
+  -- The machine's own run in the window has one number of steps, one last configuration, and one exit.
   pub own_runs_are_one : OwnRunsAreOne

@@ -1,4 +1,4 @@
--- What the laws of this crate say, each a field of `Laws`.
+-- The statements of this crate's laws, each a field of `Laws`.
 use Rattle.std.specs.Prelude.{◌≡◌, ◌≢◌, ℕ, ◌*◌, ◌<◌, Bool, List, slice_get}
 use Rattle.bn_circuits.specs.Alike.{AreAlike}
 use Rattle.bn_circuits.specs.Situations.{Situation}
@@ -14,7 +14,7 @@ use Rattle.bn_boards.specs.Flats.{Flat, IsFlatOf, IsAccepted, flat_start, AreSam
 use Rattle.bn_boards.specs.Readings.{BoardReads}
 use Rattle.bn_boards.specs.declared.exit.Exit.{Exit}
 
--- two boards of one machine, word and limits are the same up to the order of wires
+-- two circuits of one machine, word and limits are the same up to the order of wires
 abbrev pub FlatsAreOne : Type 0
 FlatsAreOne = (p : Program) (word : List ℕ) (l : Limits) (f g : Flat) → IsStandardMachine p → IsFlatOf p word l f
     → IsFlatOf p word l g → AreSameFlats f g
@@ -24,12 +24,13 @@ abbrev pub ExitsAreOne : Type 0
 ExitsAreOne = (p : Program) (word : List ℕ) (l : Limits) (f : Flat) → IsFlatOf p word l f → IsAccepted p word l f
     → (at : Place) (e x : Exit) → IsNamedExit f.layout at e → IsNamedExit f.layout at x → e ≡ x
 
--- what is said of the network is read off its board
+-- the network's moments, exits and tapes can be read from its circuit
 abbrev pub BoardsRead : Type 0
 BoardsRead = (p : Program) (word : List ℕ) (l : Limits) (f : Flat) → IsFlatOf p word l f → IsAccepted p word l f
     → (test : Situation → Bool) × BoardReads f test
 
--- two words on one machine in one window
+-- two words on one machine in one window: the circuits have the same place at the start, and differ only in bars of
+-- tape 1's cells
 abbrev pub WordsDifferInCells : Type 0
 WordsDifferInCells =
     (p : Program) (word other : List ℕ) (l : Limits) (f g : Flat) → IsFlatOf p word l f → IsFlatOf p other l g
@@ -39,7 +40,7 @@ WordsDifferInCells =
     → e ≢ bottom_at (cell_element f.layout 1 c) (cell_line_count (symbol_count_at f.layout 1)) j)
     → slice_get (flat_start f).states e ≡ slice_get (flat_start g).states e)
 
--- the boards of two words have the same wires and elements, the same layout, and one place at the end
+-- the circuits of two words have the same wires and elements, the same layout, and the same end place
 abbrev pub WordsShareBoards : Type 0
 WordsShareBoards =
     (p : Program) (word other : List ℕ) (l : Limits) (f g : Flat) → IsStandardMachine p → IsFlatOf p word l f

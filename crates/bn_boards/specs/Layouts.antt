@@ -1,4 +1,5 @@
--- The numbers by which a board is read (this project's own profile): its exits, its moments, and what its cells spell.
+-- The numbers by which a circuit is read (own to this project): its exits, its moments, and the tapes that its cells
+-- show.
 use Rattle.std.specs.Prelude.{◌≡◌, ◌↔◌, ℕ, zero, suc, ◌+◌, ◌-◌, ◌*◌, ◌<◌, ◌≤◌, ℤ, pos, ◌-ℤ◌, Bool, false, not}
 use Rattle.std.specs.Prelude.{List, [], length, map, position, Option, Some, None, slice_get, if◌then◌else◌, ◌==◌, ◌&&◌}
 use Rattle.std.specs.Prelude.{nat_lt, is_some}
@@ -25,9 +26,10 @@ use Rattle.bn_network.specs.Cells.{line_number, cell_line_count}
 use Rattle.bn_network.specs.Controls.{ControlState, Reads, Tape as to_tape, IsEntry, lines_before, IsFirstKept}
 use Rattle.bn_network.specs.Networks.{cells_in, left_of, bank_size, cell_size}
 
--- What a board keeps beside its net: the limits; the numbers of symbols; how many states the control has; for each
--- state of the quadruple machine the control state and the output line of its first command, nothing for the final
--- state; for each control state that awaits a first read, the state of the quadruple machine and the tape.
+-- The data by which a circuit is read, beside its elements and wires: the limits; the numbers of symbols; the number
+-- of the control's states; for each state of the quadruple machine the control state and the output port of its first
+-- command, or nothing for the final state; for each control state that waits for a first read, the state of the
+-- quadruple machine and the tape.
 pub record Layout : Type 0 where
   pub limits : Limits
   pub symbols : List ℕ
@@ -49,7 +51,7 @@ first_element b (suc zero) = bank_size b.states (lines_at b)
 first_element b (suc (suc t)) =
     first_element b (suc t) + cells_in b.limits (suc t) * cell_size (symbol_count_at b (suc t))
 
--- the first element of the cell at this place of a tape
+-- the first element of the cell at place p of a tape, counted from 0
 abbrev pub cell_element : Layout → ℕ → ℕ → ℕ
 cell_element b t p = first_element b t + p * cell_size (symbol_count_at b t)
 
@@ -58,7 +60,7 @@ elements_of b = first_element b 4
 
 -- ---- exits
 
--- the output line of a cell
+-- the place of a signal that leaves by an output port of a cell
 abbrev pub cell_output : Layout → ℕ → ℕ → ℕ → Place
 cell_output b t p l = Left (column_at (cell_element b t p) (cell_line_count (symbol_count_at b t))
     (2 * symbol_count_at b t - 1) + l) east
@@ -66,7 +68,8 @@ cell_output b t p l = Left (column_at (cell_element b t p) (cell_line_count (sym
 abbrev pub end_place : Layout → Place
 end_place b = Left (column_at 0 (lines_at b) (b.states - 1)) east
 
--- by which exit the signal left, if it left (a line of these by which a signal can have left has no wire)
+-- the exit by which the signal left, if it left (among these ports, those by which a signal can have left have no
+-- wire)
 pub data IsNamedExit (b : Layout) (p : Place) : Exit → Type 0 where
   inside : (e l : ℕ) → p ≡ Enter e l → IsNamedExit b p Inside
   ends : p ≡ end_place b → IsNamedExit b p End
@@ -79,7 +82,7 @@ pub data IsNamedExit (b : Layout) (p : Place) : Exit → Type 0 where
   left : (t : ℕ) → 0 < t → t ≤ 3 → p ≡ cell_output b t 0 (line_number (symbol_count_at b t) TakeLeft)
       → IsNamedExit b p (Window t side.Left)
 
--- the exit; each line without a name is unnamed
+-- the exit of the signal; a port without a name has the exit `Unnamed`
 pub data IsExit (b : Layout) (p : Place) (e : Exit) : Type 0 where
   named : IsNamedExit b p e → IsExit b p e
   unnamed : e ≡ Unnamed → ((x : Exit) → IsNamedExit b p x → ⊥) → IsExit b p e
@@ -92,8 +95,8 @@ same_place (Enter e i) (Left f j) = false
 same_place (Left e i) (Enter f j) = false
 same_place (Left e i) (Left f j) = e == f && i == j
 
--- where a command of the control leads, by its output line: to the line with the same place among those of its tape's
--- first cell
+-- the place to which a command of the control leads, by its output port: the port in the same position among those of
+-- its tape's first cell
 abbrev pub command_place : Layout → ℕ → Place
 command_place b o =
     if nat_lt o (lines_before b.symbols 1) then Enter (first_element b 1 + (o - lines_before b.symbols 0)) west
@@ -103,7 +106,7 @@ command_place b o =
 abbrev pub is_marked_at : List ℕ → ℕ → Bool
 is_marked_at states e = slice_index_or states e 1 == 0
 
--- the signal is where this first command leads, and the control waits for its answer
+-- the signal is where this first command leads, and the control waits for its reply
 abbrev pub is_sent : Layout → Config → Option (ℕ × ℕ) → Bool
 is_sent b c None = same_place c.place (end_place b)
 is_sent b c (Some f) = same_place c.place (command_place b f.1) && is_marked_at c.states (bottom_at 0 (lines_at b) f.0)
@@ -115,11 +118,11 @@ moment_at b c = position (is_sent b c) b.firsts
 abbrev pub is_moment : Layout → Config → Bool
 is_moment b c = is_some (moment_at b c)
 
--- the number of moments from here on, over at most t steps
+-- the number of moments from this configuration on, over at most t steps
 abbrev pub moments : Layout → Circuit → ℕ → Config → ℕ
 moments b k t c = one_if (is_moment b c) + tally (is_moment b) k t c
 
--- ---- what the cells spell
+-- ---- the tapes that the cells show
 
 -- the first marked column of a bank
 abbrev pub marked_column : List ℕ → ℕ → ℕ → ℕ → Option ℕ
@@ -159,8 +162,8 @@ spelled_by b states = record {
   three = spelled_tape b states 3;
 }
 
--- What n cells, of which `below` lie below 0, spell of a tape: the position of its head, where it is in one of them,
--- and the symbols.
+-- The contents of a tape that n cells show, of which `below` are left of 0: the position of its head, if it is in one
+-- of them, and the symbols.
 abbrev pub tape_in : ℕ → ℕ → Tape → SpelledTape
 tape_in below n x = record {
   first = pos 0 -ℤ pos below;
@@ -168,7 +171,7 @@ tape_in below n x = record {
   cells = map (λ j. Some (cell x (pos j -ℤ pos below))) (range_with_len 0 n);
 }
 
--- what the cells spell of three tapes
+-- the contents of three tapes that the cells show
 abbrev pub spelled_tapes : Limits → (Tape × Tape × Tape) → Spelled
 spelled_tapes l x = record {
   one = tape_in l.left (l.left + l.right + 1) x.0;
@@ -179,7 +182,7 @@ spelled_tapes l x = record {
 abbrev pub spelled_config : Limits → Configuration ℕ → Spelled
 spelled_config l c = spelled_tapes l (c.one, c.two, c.three)
 
--- ---- the layout of a machine's board
+-- ---- the layout of a machine's circuit
 
 pub record IsLayout (m : Quadruples) (l : Limits) (names : List ControlState) (b : Layout) : Type 0 where
   pub limits : b.limits ≡ l

@@ -1,5 +1,5 @@
--- The moments of a board: at the sums of the network's costs alone, one more for each step of the machine of
--- quadruples; never two marks in a bank, never two heads on a tape.
+-- The moments of a circuit: they occur exactly at the sums of the network's costs, one more than the machine of
+-- quadruples makes steps; no bank ever has two marks, and no tape two heads.
 use Rattle.std.specs.Prelude.{◌≡◌, ◌↔◌, ℕ, ◌+◌, ◌*◌, ◌<◌, ◌≤◌, List, Some, slice_get}
 use Rattle.bn_element.specs.Tables.{Table}
 use Rattle.bn_lists.specs.Runs.{Reaches}
@@ -24,16 +24,16 @@ use Rattle.bn_boards.specs.Flats.{Flat, machine_of, IsFlatOf, IsAccepted, situat
 use Rattle.bn_boards.specs.Costs.{HasCost}
 use Rattle.bn_boards.specs.BoardRuns.{BoardSpells}
 
--- where the board stands for a situation of the network, its moment is the network's
+-- if the circuit represents a situation of the network, its moment is the network's
 abbrev pub MomentsAreTold : Type 0
 MomentsAreTold =
     (p : Program) (word : List ℕ) (l : Limits) (f : Flat) → IsFlatOf p word l f → IsAccepted p word l f
     → (s : Situation) (d : Config) (a : ℕ) → StandsFor f.network s d
     → (moment_at f.layout d ≡ Some a) ↔ IsMoment (machine_of f) f.names f.network s a
 
--- After t steps the board is at the moment of a: t is the cost of the network's moves to its moment of a; the machine
--- is in a after some steps, which are one fewer than the moments so far; the network shows its tapes, and the board's
--- cells spell them.
+-- After t steps the circuit is at the moment of a: t is the cost of the network's moves to its moment of a; the
+-- machine is in a after one step fewer than the number of moments so far; the network shows its tapes, and so do the
+-- circuit's cells.
 pub record MomentOnBoard (f : Flat) (t a : ℕ) : Type 0 where
   pub moves : ℕ
   pub at : Situation
@@ -48,15 +48,16 @@ pub record MomentOnBoard (f : Flat) (t a : ℕ) : Type 0 where
   pub shows : IsMomentOf (machine_of f) f.limits f.names f.network at config
   pub spells : BoardSpells f (run f.circuit (flat_start f) t).states config
 
--- what is found by the layout is the board's moment
+-- the moment that the layout finds is the circuit's moment
 abbrev pub MomentsAreByMarks : Type 0
 MomentsAreByMarks =
     (p : Program) (word : List ℕ) (l : Limits) (f : Flat) → IsFlatOf p word l f → IsAccepted p word l f
     → (d : Config) (a : ℕ) → HasOneState f d
     → (moment_at f.layout d ≡ Some a) ↔ IsBoardMoment (machine_of f) l f.names f.network d a
 
--- Up to its cost a board is at a moment exactly at the sums of costs at which its network is at one, in its own words
--- and by the layout; and at every step, past its end too, no bank has two marked columns and no tape shows two heads.
+-- Up to its cost a circuit is at a moment exactly at the sums of costs at which its network is at one, both by
+-- `IsBoardMoment` and by the layout. At every step, also past its end, no bank has two marked columns and no tape
+-- shows two heads.
 pub record HasMoments (l : Limits) (f : Flat) : Type 0 where
   pub sums : (cost t a : ℕ) → HasCost f cost → t ≤ cost
       → IsBoardMoment (machine_of f) l f.names f.network (run f.circuit (flat_start f) t) a ↔ MomentOnBoard f t a

@@ -21,13 +21,14 @@ use Rattle.bn_boards.specs.Builds.{IsUniformNetwork}
 use Rattle.bn_boards.specs.Flats.{Flat, IsFlatOf, IsAccepted, flat_start}
 use Rattle.bn_boards.specs.Layouts.{spelled_by, spelled_config}
 
--- the configuration of the machine at the start: the word on tape 1 from cell 1 on, all else blank, the heads at 0
+-- the configuration of the machine at the start: the word on tape 1 from cell 1 on, all other cells blank, the heads
+-- at 0
 abbrev pub machine_start : Quadruples → List ℕ → Configuration ℕ
 machine_start m word = record { state = initial_of m.rules; one = word_tape word; two = blank_tape; three = blank_tape }
 
--- A network goes over its moments: a test tells them; from the start it comes in one move to that of the machine's
--- start, from the moment of a configuration to that of the next one in a counted number of moves, with none strictly
--- between, and from the last one to its end; and wherever it comes to no tape has two heads.
+-- A network passes its moments, which a test recognises: from the start it reaches the moment of the machine's start
+-- in one move; from the moment of a configuration, that of the next one in a counted number of moves, with none
+-- strictly between; and from the last moment, its end. In every situation that it reaches, no tape has two heads.
 pub record GoesOverMoments (m : Quadruples) (l : Limits) (names : List ControlState) (k : Circuit)
     (test : Situation → Bool) : Type 0 where
   pub tells : TellsMoments m names k test
@@ -52,9 +53,9 @@ NetworksHaveMoments =
     (m : Quadruples) (l : Limits) (names : List ControlState) (k : Circuit) → IsUniformNetwork m l names k
     → (test : Situation → Bool) × GoesOverMoments m l names k test
 
--- From the moment of a configuration whose state begins with a read, of tape t, the network comes in a counted number
--- of moves to the answer of this read, and the control still awaits it. There it stops exactly where the machine is
--- stuck at its first read.
+-- From the moment of a configuration whose state begins with a read of tape t, the network reaches the reply to this
+-- read in a counted number of moves, and the control still waits for it. There the network stops exactly if the
+-- machine is stuck at its first read.
 abbrev pub NetworksStopAtFirstReads : Type 0
 NetworksStopAtFirstReads =
     (m : Quadruples) (l : Limits) (names : List ControlState) (k : Circuit) → IsUniformNetwork m l names k
@@ -64,7 +65,7 @@ NetworksStopAtFirstReads =
     × (u.place ≡ Enter 0 (in_number m (to_tape t (Answer (scanned (tape_of c t))))))
     × IsControlAt names u.states (Reads c.state []) × (IsAtEnd k u ↔ IsStoppedAt m c t)
 
--- at its start a board's cells spell the word on tape 1 from cell 1 on, blank tapes 2 and 3, and the heads at 0
+-- at its start a circuit's cells show the word on tape 1 from cell 1 on, blank tapes 2 and 3, and the heads at 0
 abbrev pub StartsSpellWords : Type 0
 StartsSpellWords =
     (p : Program) (word : List ℕ) (l : Limits) (f : Flat) → IsFlatOf p word l f → IsAccepted p word l f

@@ -1,4 +1,4 @@
--- What is read off the board of any uniform machine's network.
+-- The readings of the network of any uniform machine from its circuit.
 use Rattle.std.specs.Prelude.{◌≡◌, ◌↔◌, ℕ, ◌+◌, ◌<◌, Bool, false, List, All, length, Some, slice_get}
 use Rattle.bn_circuits.specs.Circuits.{Circuit}
 use Rattle.bn_circuits.specs.Situations.{Situation}
@@ -17,8 +17,8 @@ use Rattle.bn_boards.specs.Builds.{IsUniformNetwork}
 use Rattle.bn_boards.specs.Layouts.{Layout, IsLayout, is_moment, moment_at, elements_of, symbol_count_at, lines_at}
 use Rattle.bn_boards.specs.Layouts.{cell_element, end_place, cell_output, spelled_by, spelled_config}
 
--- Numbers agree, places and cells stand for what they are named after, a test tells moments on network and board alike,
--- and the start has one head a tape.
+-- The numbers of network and circuit agree, places and cells correspond, a test recognises the moments of both, and
+-- the start has one head per tape.
 pub record NetworkReads (m : Quadruples) (l : Limits) (word : List ℕ) (names : List ControlState) (n : Circuit)
     (b : Layout) (test : Situation → Bool) : Type 0 where
   pub modules : AreModules n
@@ -48,7 +48,7 @@ pub record NetworkReads (m : Quadruples) (l : Limits) (word : List ℕ) (names :
   pub spells_loose : (s : Situation) (d : Config) (i : ℕ) (c : Configuration ℕ) → IsLoose n s d → s.place ≡ Enter 0 i
       → ShowsAllCells m l s.states c → spelled_by b d.states ≡ spelled_config l c
 
--- what is said of the network of any uniform machine is read off its board
+-- the network of any uniform machine can be read from its circuit
 abbrev pub NetworksAreRead : Type 0
 NetworksAreRead =
     (m : Quadruples) (l : Limits) (word : List ℕ) (names : List ControlState) (k : Circuit) (b : Layout)

@@ -1,5 +1,5 @@
--- Runs of machines of quadruples in a window end (Bennett 1973 for the quadruples; the window is this project's own
--- profile).
+-- Runs of machines of quadruples in a window end (Bennett 1973 for the quadruples; the window is own to this
+-- project).
 use Rattle.std.specs.Prelude.{◌≡◌, ℕ, ◌+◌, ◌*◌, ◌<◌, ◌^◌, List}
 use Rattle.bn_lists.specs.Runs.{Reaches}
 use Rattle.bn_machine.specs.Outcome.{Limits}
@@ -12,17 +12,18 @@ use Rattle.bn_network.specs.Controls.{symbol_count}
 use Rattle.bn_network.specs.Moments.{HasLetters}
 use Rattle.bn_network.specs.Starts.{AreInputs, FitsWindow, words_on}
 
--- in how many ways a tape of z symbols can stand in its window: what the cells hold, and where the head is
+-- the number of contents and head positions of a tape of z symbols in its window
 abbrev pub tape_count : ℕ → ℕ → ℕ → ℕ
 tape_count z left right = z ^ (left + right + 1) * (left + right + 1)
 
--- in how many ways a machine can be in these limits: its state, and each tape
+-- the number of configurations of a machine in these limits: of its state and each tape
 abbrev pub situation_count : Quadruples → Limits → ℕ
 situation_count m l =
     m.states * (tape_count (symbol_count m 1) l.left l.right
     * (tape_count (symbol_count m 2) 0 l.steps * tape_count (symbol_count m 3) 0 l.output))
 
--- The machine's own run in the window from c makes these steps, fewer than there are ways to be, and ends there so.
+-- The machine's own run in the window from c makes this number of steps, fewer than the window has configurations,
+-- and ends there in this way.
 pub record OwnRun (m : Quadruples) (l : Limits) (c : Configuration ℕ) : Type 0 where
   pub steps : ℕ
   pub last : Configuration ℕ
@@ -32,7 +33,7 @@ pub record OwnRun (m : Quadruples) (l : Limits) (c : Configuration ℕ) : Type 0
   pub few : steps < situation_count m l
   pub fits : FitsWindow m l last
 
--- Where no two quadruples overlap in domain, none in range, and none leads to the initial state.
+-- If no two quadruples overlap in domain, no two overlap in range, and none leads to the initial state, the run ends.
 abbrev pub OwnRunsEnd : Type 0
 OwnRunsEnd =
     (m : Quadruples) (l : Limits) → IsQuadMachine m → IsDeterministic m.rules → IsReversible m.rules
@@ -46,7 +47,7 @@ OwnRunsFromWordsEnd =
     → HasNoFlaw (initial_flaw m.rules) m.rules → HasLetters m → (one two three : List ℕ) → AreInputs m l one two three
     → OwnRun m l (words_on m one two three)
 
--- from one start there is one such run
+-- any two such runs from one start are equal
 abbrev pub OwnRunsAreOne : Type 0
 OwnRunsAreOne = (m : Quadruples) (l : Limits) → IsDeterministic m.rules → (c : Configuration ℕ) (a b : OwnRun m l c)
     → (a.steps ≡ b.steps) × (a.last ≡ b.last) × (a.exit ≡ b.exit)

@@ -1,6 +1,7 @@
-//! What a board is and how it is read. The flat board of any network of modules: each module is a bank of columns
-//! of rotary elements, and one move of the network is one crossing of a bank. Its exits, its moments, what its
-//! cells spell, what it costs, and what is the same in all boards of one machine. Definitions, their types and laws.
+//! The circuit of rotary elements of any network of modules (*board* in names), and how it is read: each module is a
+//! bank of columns of rotary elements, and one move of the network is one crossing of a bank. The circuit's exits,
+//! its moments, the tapes that its cells show, its cost, and what all circuits of one machine share. Definitions,
+//! their types and laws.
 #![tactic(auto)]
 
 mod exit;

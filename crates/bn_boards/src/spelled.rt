@@ -1,9 +1,9 @@
-//! What the cells of a board spell.
+//! The tapes that the cells of a circuit show.
 
 use std::marker::Model;
 
-/// The symbols that a tape's cells show, from left to right: none where no column of the cell is marked.
-/// Clauses see the list.
+/// The symbols that a tape's cells show, from left to right: none for a cell without a marked column. Contracts see
+/// the list.
 #[derive(Debug, Drop)]
 pub struct Cells {
     items: Vec<Option<u32>>,
@@ -20,14 +20,14 @@ impl Model for Cells {
 impl Cells {
     ghost use Rattle.std.specs.Prelude.{◌≡◌};
 
-    /// The list of these symbols. Takes no memory.
+    /// The cells with these symbols. It takes no memory.
     pub fn new(symbols: Vec<Option<u32>>) -> Cells
         ensures { result ≡ symbols.items }
     {
         Cells { items: symbols }
     }
 
-    /// The symbols as a slice. Takes no memory.
+    /// The symbols as a slice. It takes no memory.
     pub fn as_slice(&self) -> &[Option<u32>]
         ensures { result.now ≡ self.now }
     {
@@ -35,18 +35,18 @@ impl Cells {
     }
 }
 
-/// What a tape's cells show.
+/// The contents of a tape, as its cells show them.
 #[derive(Debug, Drop)]
 pub struct SpelledTape {
     /// The position of the first cell.
     pub first: i64,
-    /// The position of the first cell that shows the head; none where no cell does.
+    /// The position of the first cell that shows the head; none if no cell does.
     pub head: Option<i64>,
     /// The symbol of each cell.
     pub cells: Cells,
 }
 
-/// What the three tapes of a board show.
+/// The contents of the three tapes of a circuit.
 #[derive(Debug, Drop)]
 pub struct Spelled {
     /// Tape 1, the work tape.

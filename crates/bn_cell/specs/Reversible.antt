@@ -1,5 +1,5 @@
--- That a cell's table is reversible, which each element hands to the trait: its moves by names are one to one, and so
--- are its numbers.
+-- The proof that a cell's table is reversible, which each element passes to the trait: its moves by names are
+-- one-to-one, and so are its numbers.
 use Rattle.std.proofs.Common.{◌≡◌, inl, inr, ℕ, zero, suc, ◌*◌, ◌<◌, nat_lt, Option, Some, None, refl, subst, arith}
 use Rattle.std.proofs.lemmas.Bool.{cases_Bool, lt-ltb, ltb-true, ltb-false}
 use Rattle.std.proofs.lemmas.Bool.Decides.{nat_tests}
@@ -84,7 +84,7 @@ valid_line z n lt = go (cell_line z n) (numbers z n lt) refl
     go (Answer u) e f = grind (arith, nat_tests)
     go _ e f = tt
 
--- moves by names, one to one, on the states and lines of z symbols, make moves by numbers that are so
+-- if the moves by names are one-to-one on the states and ports for z symbols, the moves by numbers are one-to-one
 module _ (z : ℕ) (go back_go : CellState → CellLine → Option (CellState × CellLine))
     (turns : (q : CellState) (i : CellLine) → Whole (go q i) (λ m. back_go m.0 m.1 ≡ Some (q, i)))
     (keeps : (q : CellState) (l : CellLine) → 0 < z → IsStateOf z q → IsLineOf z l

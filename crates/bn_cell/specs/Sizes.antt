@@ -1,16 +1,16 @@
--- For how many symbols there is a cell, and the machine that is one.
+-- The numbers of symbols for which there is a cell, and the machines that are cells.
 use Rattle.std.specs.Prelude.{◌≡◌, ℕ, ◌+◌, ◌*◌, ◌≤◌, Bool, true, false, length}
 use Rattle.std.specs.Coded.{le_prop}
 use Rattle.bn_rsm.specs.Machines.{Machine, machine_table}
 use Rattle.bn_network.specs.Cells.{CellState, Plain, Head, cell_table}
 use Rattle.bn_network.specs.declared.limits.TheConstants.{MOST_SYMBOLS}
 
--- there is a symbol, the blank, and there are not too many
+-- there is at least one symbol, the blank, and there are not too many
 pub record IsCellSize (z : ℕ) : Type 0 where
   pub some : 1 ≤ z
   pub few : z ≤ MOST_SYMBOLS
 
--- this is known in one way only
+-- any two proofs of it are equal
 pub IsCellSize-prop : (z : ℕ) → IsProp (IsCellSize z)
 IsCellSize-prop z = hlevel le_prop
 
@@ -19,7 +19,8 @@ abbrev pub cell_state : Bool → ℕ → CellState
 cell_state true t = Head t
 cell_state false t = Plain t
 
--- The machine is the cell for z symbols: two states a symbol, 2z + 8 lines, and the cell's moves, each listed once.
+-- The machine is the cell for z symbols: it has two states for each symbol, 2z + 8 ports, and the cell's moves, each
+-- listed once.
 pub record IsCellOf (z : ℕ) (m : Machine) : Type 0 where
   pub states : m.states ≡ 2 * z
   pub lines : m.lines ≡ 2 * z + 8

@@ -1,4 +1,4 @@
-//! Tape cells: the reversible sequential machine that keeps one symbol of a tape, and whether the head stands there.
+//! Tape cells: the reversible sequential machine that stores one symbol of a tape, and whether the head is there.
 #![tactic(auto)]
 
 mod laws;

@@ -1,4 +1,4 @@
-//! Cells are made here.
+//! The tape cell as a machine given by a list of moves.
 ghost use Rattle.std.specs.Prelude.{◌≡◌, ◌<◌, ◌*◌, ◌++◌, IfOk, OnOk};
 ghost use Rattle.bn_network.specs.Cells.{cell_table, cell_line_count};
 ghost use Rattle.bn_cell.specs.Sizes.{IsCellSize, IsCellOf};
@@ -9,8 +9,8 @@ use bn_element::Element;
 use bn_rsm::{NoMemory, Rsm, RsmMove};
 use std::alloc::{AllocError, Global};
 
-/// The tape cell for so many symbols as a machine given by its moves, state by state and in each by rising line. `Err`
-/// comes only for want of memory.
+/// The tape cell for this number of symbols as a machine given by its moves, listed state by state and, for each
+/// state, by rising port. `Err`: out of memory.
 pub fn cell(alloc: Global, symbols: u32) -> Result<Rsm, NoMemory>
     requires { IsCellSize symbols }
     ensures { IfOk result (λ m. IsCellOf symbols m) }
@@ -30,7 +30,7 @@ fn moves_of(alloc: Global, cell: &CellTable) -> Result<Vec<RsmMove>, AllocError>
     Ok(moves)
 }
 
-// The moves from a state, by rising line.
+// The moves from a state, by rising port.
 fn push_row(moves: &mut Vec<RsmMove>, cell: &CellTable, state: u32) -> Result<(), AllocError>
     requires { state < 2 * cell.now.symbols }
     ensures { OnOk result (moves.new.items

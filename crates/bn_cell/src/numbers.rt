@@ -1,12 +1,12 @@
-//! The numbers of a cell's lines and states.
+//! The numbers of a cell's ports and states.
 ghost use Rattle.std.specs.Prelude.{◌≡◌, ◌<◌};
 ghost use Rattle.bn_network.specs.Cells.{line_number, cell_line, cell_line_count, IsLineOf, state_number};
 ghost use Rattle.bn_cell.specs.Sizes.{IsCellSize, cell_state};
 
 use bn_network::CellLine;
 
-/// The number of a line, in or out, of a cell for so many symbols; lines and symbols are counted from 0. It takes no
-/// memory. (The order of the lines is this project's own profile.)
+/// The number of a port, in or out, of a cell for this number of symbols; ports and symbols are counted from 0. It
+/// takes no memory. (The order of the ports is own to this project.)
 pub fn line_number(symbols: u32, line: CellLine) -> u32
     requires size { IsCellSize symbols }
     requires line { IsLineOf symbols line }
@@ -26,7 +26,7 @@ pub fn line_number(symbols: u32, line: CellLine) -> u32
     }
 }
 
-/// The line with this number, counted from 0, of a cell for so many symbols. It takes no memory.
+/// The port with this number, counted from 0, of a cell for this number of symbols. It takes no memory.
 pub fn line_of(symbols: u32, number: u32) -> CellLine
     requires size { IsCellSize symbols }
     requires number { number < cell_line_count symbols }
@@ -56,8 +56,8 @@ pub fn line_of(symbols: u32, number: u32) -> CellLine
     }
 }
 
-/// The number of the state, counted from 0, in which a cell for so many symbols has this symbol, with the head or
-/// without it. It takes no memory.
+/// The number of the state, counted from 0, in which a cell for this number of symbols has this symbol, with the head
+/// or without it. It takes no memory.
 pub fn state_number(symbols: u32, head: bool, symbol: u32) -> u32
     requires size { IsCellSize symbols }
     requires symbol { symbol < symbols }

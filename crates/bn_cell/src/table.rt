@@ -1,15 +1,15 @@
-//! A cell by arithmetic.
+//! The tape cell as an element whose moves are computed.
 
 use crate::numbers::{line_number, line_of, state_number};
 use bn_element::Element;
 use bn_network::CellLine;
 
-/// The tape cell for so many symbols, from 1 to 4,001, the blank, number 0, among them (this project's own profile). It
-/// has two states a symbol: the symbols without the head, then the symbols with it. Its 2 * `symbols` + 8 lines, both
-/// ways, are those of `CellLine`. Moves are computed, and it takes no memory.
+/// The tape cell for 1 to 4,001 symbols, including the blank, which is number 0 (own to this project). It has two
+/// states for each symbol: first the symbols without the head, then the symbols with it. Its 2 * `symbols` + 8 ports,
+/// in and out, are those of `CellLine`. Its moves are computed; it takes no memory.
 #[derive(Debug, Drop)]
 pub struct CellTable {
-    /// How many symbols the cell can keep.
+    /// The number of symbols that the cell can store.
     pub symbols: u32,
     ghost size: { IsCellSize symbols } by { IsCellSize-prop symbols },
 }
@@ -32,7 +32,7 @@ impl CellTable {
         }
     }
 
-    // A state and a line in numbers.
+    // The numbers of a state and a port.
     fn numbered(&self, head: bool, symbol: u32, line: CellLine) -> Option<(u32, u32)>
         requires symbol { symbol < self.now.symbols }
         requires line { IsLineOf self.now.symbols line }

@@ -1,4 +1,4 @@
--- Circuits with the same tables and the same wires, listed in whatever order, and tables with the same moves.
+-- Circuits with the same tables and the same wires, listed in any order, and tables with the same moves.
 use Rattle.std.specs.Prelude.{◌≡◌, ℕ, List, Some, slice_get}
 use Rattle.bn_element.specs.Tables.{Table, IsReversible, Move, table_by, AreWithin}
 use Rattle.bn_circuits.specs.Circuits.{Circuit, target, source}
@@ -22,13 +22,13 @@ pub record RunAlike (k m : Circuit) (c : Config) (t : ℕ) : Type 0 where
 abbrev pub AlikeRunAlike : Type 0
 AlikeRunAlike = (k m : Circuit) → AreAlike k m → (c : Config) (t : ℕ) → RunAlike k m c t
 
--- reversible tables with the same numbers and the same moves are one
+-- reversible tables with the same numbers and the same moves are equal
 abbrev pub TablesAreOne : Type 0
 TablesAreOne =
     (t u : Table) → IsReversible t → IsReversible u → t.states ≡ u.states → t.inputs ≡ u.inputs → t.outputs ≡ u.outputs
     → ((q i : ℕ) → t.go q i ≡ u.go q i) → t ≡ u
 
--- two moves from one pair are one, and two to one pair: a list in which a move may stand twice
+-- two moves from the same pair are equal, and so are two moves to the same pair; a move may occur twice in the list
 pub record AreConsistent (ms : List Move) : Type 0 where
   pub ahead : (i j : ℕ) (a b : Move) → slice_get ms i ≡ Some a → slice_get ms j ≡ Some b
       → a.state ≡ b.state → a.input ≡ b.input → (a.next ≡ b.next) × (a.output ≡ b.output)

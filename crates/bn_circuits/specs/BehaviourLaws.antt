@@ -8,9 +8,9 @@ use Rattle.bn_circuits.specs.Behaviours.{AreTotal, AreOnto, IsFreeInput, IsFreeO
 use Rattle.bn_circuits.specs.Circuits.{AreStates}
 use Rattle.bn_circuits.specs.Behaviours.{most_crossing, Behaves, Hangs}
 
--- ---- where a signal comes that enters from outside
+-- ---- where a signal from outside goes
 
--- what a signal from outside comes to: it leaves, or it stops at a pair without a move
+-- a signal from outside leaves, or it stops at a pair of state and port without a move
 pub data Comes (k : Circuit) (q : List ℕ) (i : Line) : Type 0 where
   leaves : (r : List ℕ) (o : Line) (n : ℕ) → Behaves k q i r o n → n ≤ most_crossing k → Comes k q i
   hangs : (r : List ℕ) (l : Line) (n : ℕ) → Hangs k q i r l n → n < most_crossing k → Comes k q i
@@ -19,7 +19,7 @@ abbrev pub SignalsLeaveOrHang : Type 0
 SignalsLeaveOrHang =
     (k : Circuit) → IsCircuit k → (q : List ℕ) (i : Line) → AreStates k.tables q → IsFreeInput k i → Comes k q i
 
--- it does one of the two, and that in one way
+-- a signal from outside either leaves or stops, and in one way
 abbrev pub SignalsComeOnce : Type 0
 SignalsComeOnce =
     ((k : Circuit) (q : List ℕ) (i : Line) (r s : List ℕ) (o p : Line) (m n : ℕ)
@@ -29,7 +29,7 @@ SignalsComeOnce =
     × ((k : Circuit) (q : List ℕ) (i : Line) (r s : List ℕ) (o l : Line) (m n : ℕ)
     → Behaves k q i r o m → Hangs k q i s l n → ⊥)
 
--- where each element has all its moves, it leaves
+-- if each element has all its moves, the signal leaves
 pub record Passage (k : Circuit) (q : List ℕ) (i : Line) : Type 0 where
   pub states : List ℕ
   pub output : Line
@@ -42,7 +42,7 @@ CircuitsAreLeft =
     (k : Circuit) → IsCircuit k → AreTotal k.tables → (q : List ℕ) (i : Line) → AreStates k.tables q → IsFreeInput k i
     → Passage k q i
 
--- what it leads to is in range again, and at least one step was made
+-- after a behaviour the states are in range, the port has no wire, and at least one step was made
 abbrev pub BehavioursStay : Type 0
 BehavioursStay =
     (k : Circuit) → IsCircuit k → (q : List ℕ) (i : Line) (r : List ℕ) (o : Line) (n : ℕ) → Behaves k q i r o n
@@ -50,14 +50,14 @@ BehavioursStay =
 
 -- ---- backward
 
--- two pairs of states and free input line that lead to one pair are one
+-- two pairs of states and free input port that lead to the same pair are equal
 abbrev pub BehavioursAreOneToOne : Type 0
 BehavioursAreOneToOne =
     (k : Circuit) → IsCircuit k → (p q : List ℕ) (i j : Line) (r : List ℕ) (o : Line) (m n : ℕ)
     → Behaves k p i r o m → Behaves k q j r o n → (p ≡ q) × (i ≡ j) × (m ≡ n)
 
--- where each state and output line of each element has a move that leads to it, so has each pair of states and free
--- output line of the circuit
+-- if some move leads to each state and output port of each element, a behaviour leads to each pair of states and free
+-- output port of the circuit
 pub record Origin (k : Circuit) (r : List ℕ) (o : Line) : Type 0 where
   pub states : List ℕ
   pub input : Line
@@ -72,7 +72,7 @@ BehavioursAreOnto =
 
 -- ---- with the clock
 
--- a behaviour is the run of the circuit, where the clock has room, and the same run taken back
+-- if the clock has room, a behaviour is the run of the circuit, and the same run undone
 abbrev pub BehavioursAreRuns : Type 0
 BehavioursAreRuns =
     (k : Circuit) → IsCircuit k → (q : List ℕ) (i : Line) (r : List ℕ) (o : Line) (n made t : ℕ)

@@ -15,7 +15,7 @@ unfoldable pub tally : (Config → Bool) → Circuit → ℕ → Config → ℕ
 tally test k zero c = 0
 tally test k (suc t) c = option_map_or (λ d. one_if (test d) + tally test k t d) (next k c) 0
 
--- counts add up, and a path whose test holds at its end alone counts one
+-- counts add up; on a path between whose ends the test holds nowhere, the count is that of its end
 abbrev pub TalliesAdd : Type 0
 TalliesAdd =
     ((k : Circuit) (test : Config → Bool) (m n : ℕ) (c d : Config) → Reaches (Goes k) m c d

@@ -1,4 +1,4 @@
--- What can be wrong with a list of wires, and which wire is the first at fault.
+-- The faults of a list of wires, and its first faulty wire.
 use Rattle.std.specs.Prelude.{◌≡◌, ℕ, ◌-◌, ◌<◌, nat_lt, ◌&&◌, List, length, take, Option, Some, None, is_some}
 use Rattle.std.specs.Prelude.{slice_get, if◌then◌else◌, Bool, Result, Ok, Err}
 use Rattle.bn_element.specs.Tables.{Table}
@@ -7,13 +7,13 @@ use Rattle.bn_circuits.specs.declared.line.Wire.{Wire}
 use Rattle.bn_circuits.specs.declared.refusal.NetRefusal.{NetRefusal}
 use Rattle.bn_circuits.specs.declared.refusal.NetRefusal.TheVariants.{Range, TwoTargets, TwoSources, NoMemory}
 
--- a number is out of range; an earlier wire leaves this output line; an earlier wire ends at this input line
+-- a number is out of range; an earlier wire leaves this output port; an earlier wire ends at this input port
 pub data WireFault : Type 0 where
   out_of_range : WireFault
   second_target : WireFault
   second_source : WireFault
 
--- both lines of the wire are there
+-- both ports of the wire exist
 abbrev pub is_within : List Table → Wire → Bool
 is_within tables w =
     nat_lt w.from.line (outputs_of tables w.from.element) && nat_lt w.to.line (inputs_of tables w.to.element)
@@ -42,14 +42,14 @@ pub record IsFirstFault (tables : List Table) (wires : List Wire) (i : ℕ) (fau
   pub here : fault_of tables (take (i - 1) wires) wire ≡ Some fault
   pub before : (j : ℕ) → j < i - 1 → IsFaultless tables wires j
 
--- what a refusal says of the wires; want of memory says nothing
+-- what a refusal states about the wires; `NoMemory` states nothing
 abbrev pub IsRefusal : List Table → List Wire → NetRefusal → Type 0
 IsRefusal tables wires (Range i) = IsFirstFault tables wires i out_of_range
 IsRefusal tables wires (TwoTargets i) = IsFirstFault tables wires i second_target
 IsRefusal tables wires (TwoSources i) = IsFirstFault tables wires i second_source
 IsRefusal tables wires NoMemory = Unit {0}
 
--- what a test answers for the fault that it found in the wire of this number
+-- the result of a test that found this fault in the wire with this number
 abbrev pub checked : Option WireFault → ℕ → Result (Unit {0}) NetRefusal
 checked None i = Ok tt
 checked (Some out_of_range) i = Err (Range i)

@@ -17,8 +17,8 @@ use Rattle.bn_circuits.specs.BehaviourLaws.{SignalsLeaveOrHang, SignalsComeOnce,
 use Rattle.bn_circuits.specs.BehaviourLaws.{BehavioursAreOneToOne, BehavioursAreOnto, BehavioursAreRuns}
 
 pub record Laws : Type 0 where
-  -- One configuration at most follows another, and in a circuit one at most comes before: this is
-  -- why a step can be undone.
+  -- Every configuration has at most one successor, and in a circuit at most one predecessor. Therefore a step can be
+  -- undone.
   pub steps_are_one_to_one :
       ((k : Circuit) (c d e : Config) → Goes k c d → Goes k c e → d ≡ e) × ((k : Circuit) → IsCircuit k
       → (c d e : Config) → Goes k c e → Goes k d e → c ≡ d)
@@ -26,7 +26,7 @@ pub record Laws : Type 0 where
   pub steps_compute :
       ((k : Circuit) (c d : Config) → (next k c ≡ Some d) ↔ Goes k c d) × ((k : Circuit) → IsCircuit k
       → (c d : Config) → IsConfig k d → (previous k d ≡ Some c) ↔ Goes k c d)
-  -- A step leads from a configuration of the circuit to one, and only from one to one.
+  -- A step from a configuration of the circuit leads to one, and a step to one comes from one.
   pub configurations_stay :
       ((k : Circuit) → IsCircuit k → (c d : Config) → IsConfig k c → Goes k c d → IsConfig k d) × ((k : Circuit)
       → IsCircuit k → (c d : Config) → IsConfig k d → Goes k c d → IsConfig k c)
@@ -34,54 +34,54 @@ pub record Laws : Type 0 where
   pub runs_compose :
       ((k : Circuit) (c : Config) (s t : ℕ) → run k c (s + t) ≡ run k (run k c s) t)
       × ((k : Circuit) (c : Config) (s t : ℕ) → back k c (s + t) ≡ back k (back k c s) t)
-  -- `run` makes as many steps as were asked for, or as many as can be made.
+  -- `run` makes as many steps as requested, or as many as possible.
   pub runs_are_longest : (k : Circuit) (c : Config) (t : ℕ) → Makes k c t (run k c t)
-  -- Exactly n steps are the run of n steps.
+  -- If exactly n steps lead from c to d, the run of n steps from c ends at d.
   pub runs_are_functions : (k : Circuit) (n : ℕ) (c d : Config) → Reaches (Goes k) n c d → run k c n ≡ d
-  -- Exactly n steps, taken back, lead to where they began; and a run back that has reached a
-  -- beginning, or made as many steps as were asked for, is `back`.
+  -- Undoing exactly n steps restores their start. A run back that made as many steps as requested, or reached a
+  -- configuration without a predecessor, is `back`.
   pub runs_undo :
       ((k : Circuit) → IsCircuit k → (n : ℕ) (c d : Config) → Reaches (Goes k) n c d → back k d n ≡ c)
       × ((k : Circuit) → IsCircuit k → (n t : ℕ) (c d : Config) → IsConfig k c → Reaches (Goes k) n c d → n ≤ t
       → (n < t → IsFirst k c) → back k d t ≡ c)
-  -- A run taken back in part is a shorter run.
+  -- Undoing a part of a run gives a shorter run.
   pub runs_undo_in_part : RunsUndoInPart
-  -- Of a path, what stands strictly between its ends passes the path's test.
+  -- The configurations strictly between the ends of a path pass the path's test.
   pub paths_pass_between : PathsPassBetween
-  -- The places told of a run are the places of its configurations, as many as steps can be made.
+  -- The places reported for a run are those of its configurations, as many as steps can be made.
   pub places_are_those_of_runs : PlacesAreThoseOfRuns
-  -- The places told of a run back are the places of its configurations, as many as steps back can be made.
+  -- The places reported for a run back are those of its configurations, as many as steps back can be made.
   pub places_are_those_of_runs_back : PlacesAreThoseOfRunsBack
   -- A counted step is a step within the clock.
   pub steps_are_counted : StepsAreCounted
-  -- A path is a counted path, where the clock has room.
+  -- If the clock has room, a path is a counted path.
   pub paths_are_counted : PathsAreCounted
   -- Counts along a run add up.
   pub tallies_add : TalliesAdd
-  -- Circuits with the same tables and the same wires, in whatever order, run alike.
+  -- Circuits with the same tables and the same wires, in any order, run alike.
   pub alike_run_alike : AlikeRunAlike
   -- Reversible tables with the same numbers and the same moves are one table.
   pub tables_are_one : TablesAreOne
-  -- A list of moves in which two moves that agree on a side are one makes a reversible table.
+  -- If any two moves of a list that agree on one side are equal, the list makes a reversible table.
   pub consistent_moves_are_reversible : ConsistentMovesAreReversible
-  -- A watch in memory that is told n places tells its list exactly as long as n is at most its room.
+  -- After n places, the list of a watch in memory is known exactly if n is at most its room.
   pub watches_tell_within_room : WatchesTellWithinRoom
-  -- Of wires in order, as those of a net are, no two leave one line.
+  -- No two wires of a list in order, such as that of a net, leave the same port.
   pub wires_stand_once : WiresStandOnce
   -- `MOST_ELEMENTS`, the limit of a circuit that is read, made or written, is 2^22.
   pub most_elements_are_stated : MOST_ELEMENTS ≡ 2 ^ 22
-  -- A signal that comes in from outside leaves, or it stops where an element has no move.
+  -- A signal that enters from outside leaves, or it stops where an element has no move.
   pub signals_leave_or_hang : SignalsLeaveOrHang
-  -- It does one of the two, and that in one way.
+  -- A signal from outside does not both leave and stop, and it does either in one way.
   pub signals_come_once : SignalsComeOnce
-  -- Where each element has a move from each of its states and input lines, the signal leaves.
+  -- If each element has a move from each of its states and input ports, the signal leaves.
   pub circuits_are_left : CircuitsAreLeft
-  -- The states are in range then, and the line has no wire.
+  -- When a signal has left, the states are in range, the port has no wire, and at least one step was made.
   pub behaviours_stay : BehavioursStay
-  -- Two pairs of states and free input line that lead to one pair are one.
+  -- Two pairs of states and free input port that lead to the same pair are equal.
   pub behaviours_are_one_to_one : BehavioursAreOneToOne
-  -- Where a move leads to each state and output line of each element, each pair of states and free output line is led
-  -- to.
+  -- If some move leads to each state and output port of each element, a signal from outside leads to each pair of
+  -- states and free output port.
   pub behaviours_are_onto : BehavioursAreOnto
-  -- A behaviour is the run of the circuit, where the clock has room, and that run taken back.
+  -- If the clock has room, a behaviour is the run of the circuit, and that run undone.
   pub behaviours_are_runs : BehavioursAreRuns

@@ -1,4 +1,4 @@
--- A net as contracts see it: its elements, and its wires in the order of their output lines.
+-- A net as contracts see it: its elements, and its wires in the order of their output ports.
 use Rattle.std.specs.Prelude.{List, map}
 use Rattle.bn_element.specs.Tables.{Table}
 use Rattle.bn_circuits.specs.Circuits.{Circuit}

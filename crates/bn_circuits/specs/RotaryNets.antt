@@ -11,7 +11,7 @@ use Rattle.bn_circuits.specs.Parts.{Parts, circuit}
 abbrev pub rotary_circuit : Parts Rotary → Circuit
 rotary_circuit net = circuit (λ _. rotary) net
 
--- the net has so many elements, and an output line leads where these wires lead it
+-- the net has `count` elements, and each output port leads to the same input port as by these wires
 pub record IsNetOf (net : Parts Rotary) (count : ℕ) (wires : List Wire) : Type 0 where
   pub elements : length net.elements ≡ count
   pub targets : (from : Line) → target net.wires from ≡ target wires from

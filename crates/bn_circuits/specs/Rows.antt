@@ -1,5 +1,5 @@
--- Rows of cells, one row an element and one cell a line: how wires are kept for look-up. A cell holds the line at the
--- other end of the wire, or nothing.
+-- Rows of cells, one row for each element and one cell for each port: how wires are stored for look-up. A cell contains
+-- the port at the other end of the wire, or nothing.
 use Rattle.std.specs.Prelude.{◌≡◌, ℕ, ◌+◌, ◌^◌, ◌<◌, ◌≤◌, ◌↔◌, List, [], ◌∷◌, ◌++◌, length, Option, Some, None}
 use Rattle.std.specs.Prelude.{slice_get, slice_set, slice_range, option_and_then}
 use Rattle.std.specs.Option.{option_map_or}
@@ -12,7 +12,7 @@ use Rattle.bn_circuits.specs.declared.line.Wire.{Wire}
 abbrev pub Rows : Type 0
 Rows = List (List (Option Line))
 
--- what the cell of a line holds
+-- the content of the cell of a port
 abbrev pub entry : Rows → Line → Option Line
 entry rows at_line =
     option_and_then (λ row. option_and_then (λ cell. cell) (slice_get row at_line.line))
@@ -34,7 +34,7 @@ rows_at [] cells = []
 rows_at (a ∷ []) cells = []
 rows_at (a ∷ b ∷ starts) cells = slice_range cells a b ∷ rows_at (b ∷ starts) cells
 
--- the starts never fall, and the last is the number of cells
+-- the starts do not decrease, and the last is the number of cells
 abbrev pub AreStarts : List ℕ → ℕ → Type 0
 AreStarts [] n = ⊥
 AreStarts (a ∷ []) n = a ≡ n
@@ -52,15 +52,15 @@ abbrev pub wires_of : ℕ → Rows → List Wire
 wires_of e [] = []
 wires_of e (row ∷ rows) = wires_of_row e 0 row ++ wires_of (suc e) rows
 
--- The rows are the wires of these elements, kept both ways: a cell for each output line and one for each input line,
--- and an output's cell holds an input exactly where that input's cell holds the output.
+-- The rows are the wires of these elements, stored both ways, with a cell for each output port and one for each input
+-- port. An output's cell contains an input exactly if that input's cell contains the output.
 pub record IsWired (tables : List Table) (targets sources : Rows) : Type 0 where
   pub outputs : (e : ℕ) → width targets e ≡ outputs_of tables e
   pub inputs : (e : ℕ) → width sources e ≡ inputs_of tables e
   pub paired : (from to : Line) → (entry targets from ≡ Some to) ↔ (entry sources to ≡ Some from)
   pub few : length tables < 2 ^ 32
 
--- where rows of these widths begin, the first at a, and at last where all end
+-- where rows of these widths begin, the first at a, and then where the last one ends
 abbrev pub starts_from : ℕ → List ℕ → List ℕ
 starts_from a [] = a ∷ []
 starts_from a (w ∷ widths) = a ∷ starts_from (a + w) widths

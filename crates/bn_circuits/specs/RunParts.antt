@@ -1,25 +1,24 @@
--- Parts of a run: what a run taken back in part comes to, what is known of a path at each of its steps, and the places
--- on the way.
+-- Parts of a run: where a partly undone run ends, what holds at each step of a path, and the places on the way.
 use Rattle.std.specs.Prelude.{◌≡◌, ℕ, ◌+◌, ◌<◌, ◌≤◌, Bool, true, length, Some, slice_get}
 use Rattle.bn_lists.specs.Runs.{Reaches, Passes}
 use Rattle.bn_circuits.specs.Circuits.{Circuit, Goes, IsCircuit, IsConfig, IsStuck, IsFirst}
 use Rattle.bn_circuits.specs.Stepping.{run, back, places, places_back}
 use Rattle.bn_circuits.specs.declared.config.Config.{Config}
 
--- a run taken back in part is a shorter run
+-- undoing a part of a run gives a shorter run
 abbrev pub RunsUndoInPart : Type 0
 RunsUndoInPart =
     (k : Circuit) → IsCircuit k → (s r t : ℕ) (c d : Config) → t ≡ r + s → Reaches (Goes k) t c d
     → back k d s ≡ run k c r
 
--- of a path, what stands strictly between its ends passes the test
+-- the configurations strictly between the ends of a path pass the test
 abbrev pub PathsPassBetween : Type 0
 PathsPassBetween =
     (k : Circuit) (test : Config → Bool) (n t : ℕ) (c d : Config) → Passes (Goes k) test n c d → 0 < t → t < n
     → test (run k c t) ≡ true
 
--- The places told of a run are those of the run's configurations: the place with number i, from 0, is that after i + 1
--- steps; and there are as many as steps can be made, at most as many as are asked for.
+-- The places reported for a run are those of its configurations: the place with number i, counted from 0, is that after
+-- i + 1 steps. There are as many places as steps can be made, at most t.
 pub record ArePlacesOfRun (k : Circuit) (t : ℕ) (c : Config) : Type 0 where
   pub count : ℕ
   pub all : length (places k t c) ≡ count
@@ -31,8 +30,8 @@ pub record ArePlacesOfRun (k : Circuit) (t : ℕ) (c : Config) : Type 0 where
 abbrev pub PlacesAreThoseOfRuns : Type 0
 PlacesAreThoseOfRuns = (k : Circuit) (t : ℕ) (c : Config) → ArePlacesOfRun k t c
 
--- Likewise the places told of a run back: the place with number i, from 0, is that after i + 1 steps back; and there
--- are as many as steps back can be made, at most as many as are asked for.
+-- Likewise for a run back: the place with number i, counted from 0, is that after i + 1 steps back. There are as many
+-- places as steps back can be made, at most t.
 pub record ArePlacesOfRunBack (k : Circuit) (t : ℕ) (d : Config) : Type 0 where
   pub count : ℕ
   pub all : length (places_back k t d) ≡ count

@@ -1,5 +1,5 @@
--- Circuits without the clock: a step of the signal that counts nothing. What a run leads to doesn't depend on the
--- number of steps made before, so laws on long runs speak of situations.
+-- Circuits without the clock: steps of the signal that are not counted. The result of a run does not depend on the
+-- number of steps made before. Therefore laws on long runs are stated on situations.
 use Rattle.std.specs.Prelude.{◌≡◌, ℕ, ◌+◌, ◌≤◌, Bool, List, Option, Some, None, slice_get, slice_set, option_and_then}
 use Rattle.bn_lists.specs.Runs.{Passes}
 use Rattle.bn_circuits.specs.Circuits.{Circuit, clock, go_of, place_after, Crosses, Goes}
@@ -18,7 +18,7 @@ situation states place = record { states = states; place = place }
 abbrev pub situation_of : Config → Situation
 situation_of c = situation c.states c.place
 
--- the configuration of this situation after so many steps
+-- the configuration with this situation and this number of steps
 abbrev pub counted : Situation → ℕ → Config
 counted s n = record { states = s.states; place = s.place; steps = n }
 
@@ -26,7 +26,7 @@ counted s n = record { states = s.states; place = s.place; steps = n }
 abbrev pub Turns : Circuit → Situation → Situation → Type 0
 Turns k s t = Crosses k s.states s.place t.states t.place
 
--- the situation after a move of this element to a state and an output line
+-- the situation after a move of this element to a state and an output port
 abbrev pub crossed : Circuit → List ℕ → ℕ → (ℕ × ℕ) → Situation
 crossed k states e m = situation (slice_set states e m.0) (place_after k.wires (record { element = e; line = m.1 }))
 
@@ -53,7 +53,7 @@ StepsAreCounted =
     → Turns k (situation_of c) (situation_of d) × (d.steps ≡ c.steps + 1) × (c.steps + 1 ≤ clock))
     × ((k : Circuit) (s t : Situation) (n : ℕ) → Turns k s t → n + 1 ≤ clock → Goes k (counted s n) (counted t (n + 1)))
 
--- so a path of n steps is one of n counted steps, where the clock has room
+-- if the clock has room, a path of n steps is a path of n counted steps
 abbrev pub PathsAreCounted : Type 0
 PathsAreCounted =
     (k : Circuit) (test : Situation → Bool) (n : ℕ) (s t : Situation) (c : Config) → situation_of c ≡ s

@@ -10,24 +10,24 @@ use Rattle.bn_circuits.specs.declared.place.Place.{Place}
 use Rattle.bn_circuits.specs.declared.place.Place.TheVariants.{Enter, Left}
 use Rattle.bn_circuits.specs.declared.config.Config.{Config}
 
--- the configuration of this situation after one step more, where the clock has room for it
+-- the configuration with this situation and one step more, if the clock has room for it
 abbrev pub next_by : ℕ → Situation → Option Config
 next_by steps s = if nat_le (steps + 1) clock then Some (counted s (steps + 1)) else None
 
--- the one configuration that follows, if there is one
+-- the successor of a configuration, if there is one
 abbrev pub next : Circuit → Config → Option Config
 next k c = option_and_then (next_by c.steps) (turn k (situation_of c))
 
--- the output line by which the signal came to this place
+-- the output port by which the signal reached this place
 abbrev pub line_before : List Wire → Place → Option Line
 line_before ws (Left e o) = Some (record { element = e; line = o })
 line_before ws (Enter e i) = source ws (record { element = e; line = i })
 
--- the configuration before a move of this element from a state and an input line
+-- the configuration before a move of this element from a state and an input port
 abbrev pub moved_back : Config → ℕ → ℕ → (ℕ × ℕ) → Config
 moved_back d steps e m = record { states = slice_set d.states e m.0; place = Enter e m.1; steps = steps }
 
--- the one configuration that came before, if there is one, by the number of steps
+-- the predecessor of a configuration, if there is one, by its number of steps
 abbrev pub previous_by : Circuit → Config → ℕ → Option Config
 previous_by k d zero = None
 previous_by k d (suc steps) =
@@ -38,7 +38,7 @@ previous_by k d (suc steps) =
 abbrev pub previous : Circuit → Config → Option Config
 previous k d = previous_by k d d.steps
 
--- one step on, or one step back, where there is one
+-- the configuration after one step, or one step back, if there is one, otherwise the same configuration
 abbrev pub advance : Circuit → Config → Config
 advance k c = unwrap_or (next k c) c
 

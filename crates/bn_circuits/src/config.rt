@@ -9,7 +9,7 @@ use std::marker::Model;
 pub const CLOCK: u64 = 4611686018427387904;
 
 /// The state of each element of a circuit, in the order of the elements, counted from 0.
-/// Clauses see the list of numbers.
+/// Contracts see the list of numbers.
 #[derive(Debug, Drop)]
 pub struct States {
     items: Vec<u32>,
@@ -24,21 +24,21 @@ impl Model for States {
 }
 
 impl States {
-    /// The list of these states. Takes no memory.
+    /// The list of these states. Allocates no memory.
     pub fn new(states: Vec<u32>) -> States
         ensures { result ≡ states.items }
     {
         States { items: states }
     }
 
-    /// The states as a slice, one an element.
+    /// The states as a slice, one for each element.
     pub fn as_slice(&self) -> &[u32]
         ensures { result.now ≡ self.now }
     {
         self.items.as_slice()
     }
 
-    /// The state of an element, counted from 0. Takes no memory.
+    /// The state of an element, both counted from 0. Allocates no memory.
     pub fn get(&self, element: usize) -> u32
         requires { element < length self.now }
         ensures { slice_get self.now element ≡ Some result }
@@ -47,7 +47,7 @@ impl States {
         states[element]
     }
 
-    /// Gives the element another state. Takes no memory.
+    /// Sets the state of an element, both counted from 0. Allocates no memory.
     pub fn set(&mut self, element: usize, state: u32)
         requires { element < length self.old }
         ensures { self.new ≡ slice_set self.old element state }
@@ -56,8 +56,8 @@ impl States {
     }
 }
 
-/// A configuration of a circuit: the state of each element, the place of the signal, and how many
-/// element steps led here.
+/// A configuration of a circuit: the state of each element, the place of the signal, and the number of element steps
+/// made.
 #[derive(Debug, Drop)]
 pub struct Config {
     /// The state of each element.

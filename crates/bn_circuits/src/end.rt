@@ -1,4 +1,4 @@
-//! The other end of a line's wire.
+//! The other end of a port's wire.
 
 ghost use Rattle.std.specs.Prelude.{◌≡◌, ◌<◌, Some, None};
 
@@ -8,8 +8,8 @@ use std::marker::Model;
 /// The number that no element has, since a net has fewer than 2 to the power 32 of them.
 pub(crate) const NO_ELEMENT: u32 = 4_294_967_295;
 
-/// The line at the other end of a wire, or nothing, in eight bytes: an `Option<Line>` takes twelve, and a net has eight
-/// of them an element. Clauses see the line, if any.
+/// The port at the other end of a wire, or nothing, in eight bytes: an `Option<Line>` takes twelve, and a net of rotary
+/// elements has eight of them per element. Contracts see the port, if there is one.
 #[derive(Clone, Copy, Debug)]
 pub(crate) struct End {
     element: u32,
@@ -40,7 +40,7 @@ impl Model for End {
 }
 
 impl End {
-    /// No line.
+    /// No port.
     pub(crate) fn none() -> End
         ensures { result ≡ None }
     {
@@ -50,7 +50,7 @@ impl End {
         }
     }
 
-    /// This line.
+    /// This port.
     pub(crate) fn of(line: Line) -> End
         requires { line.element < NO_ELEMENT }
         ensures { result ≡ Some line }
@@ -61,7 +61,7 @@ impl End {
         }
     }
 
-    /// The line, if there is one.
+    /// The port, if there is one.
     pub(crate) fn line(self) -> Option<Line>
         ensures { result ≡ self }
     {

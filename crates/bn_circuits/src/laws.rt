@@ -1,7 +1,7 @@
-//! Laws over the definitions alone. The function does nothing: its contract is the laws.
+//! Laws on the definitions alone. The function does nothing: its contract is the laws.
 ghost use Rattle.bn_circuits.specs.Laws.{Laws};
 
-/// Laws over the definitions alone, a named field each.
+/// Laws on the definitions alone, a named field each.
 pub fn circuits_laws()
     ensures { Laws }
 {}

@@ -1,4 +1,4 @@
-//! What every circuit of Hithwelor stands on: lines, wires and places, circuits of reversible elements, and the
+//! The base of every circuit of Hithwelor: ports (`Line`), wires and places, circuits of reversible elements, and the
 //! step of the one signal forward and backward.
 #![tactic(auto)]
 

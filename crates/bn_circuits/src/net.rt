@@ -1,4 +1,4 @@
-//! Nets: elements joined by wires, and the steps of their one signal.
+//! Nets: elements connected by wires, and the steps of their one signal.
 
 ghost use Rattle.std.specs.Prelude.{◌≡◌, ◌↔◌, ◌+◌, ◌^◌, ◌<◌, ◌≤◌, List, [], length, map, Option, Some, None, IsTrue};
 ghost use Rattle.std.specs.Prelude.{IfOk, IfSome, OnOk, IfErr, slice_get, if◌then◌else◌};
@@ -28,9 +28,9 @@ use std::marker::Model;
 /// The most elements of a circuit that is read, made or written as a text (this project's own profile).
 pub const MOST_ELEMENTS: u64 = 4_194_304;
 
-/// Elements with wires from output lines to input lines, one to one. Elements and their lines are
-/// counted from 0. Clauses see the elements and the list of wires, in the order of their output
-/// lines. The wires are kept both ways, so that a step forward and a step backward are look-ups.
+/// Elements with wires from output ports to input ports, one to one. Elements and their ports are counted from 0.
+/// Contracts see the elements and the list of wires, in the order of their output ports. The wires are stored both
+/// ways: a step forward and a step backward are look-ups.
 #[derive(Debug, Drop)]
 pub struct Net<E: Element> {
     elements: Vec<E>,
@@ -51,10 +51,10 @@ impl<E: Element> Model for Net<E> {
 }
 
 impl<E: Element> Net<E> {
-    /// The net of these elements and wires. Wires are taken in order, and the first faulty one is
-    /// named: `Range` where a number of it is out of range, else `TwoTargets` where an earlier wire
-    /// leaves the same output line, else `TwoSources` where an earlier wire ends at the same input
-    /// line.
+    /// The net of these elements and wires. The wires are tested in order, and the error names the first faulty one:
+    /// `Range` if one of its numbers is out of range; otherwise `TwoTargets` if an earlier wire leaves the same output
+    /// port; otherwise `TwoSources` if an earlier wire ends at the same input port. It is `NoMemory` if memory runs
+    /// out.
     pub fn try_new(alloc: Global, elements: Vec<E>, wires: &[Wire]) -> Result<Net<E>, NetRefusal>
         requires few_elements { length elements.items < 2 ^ 32 }
         requires few_wires { length wires.now < 2 ^ 32 }
@@ -73,8 +73,8 @@ impl<E: Element> Net<E> {
         Ok(net)
     }
 
-    /// The net of these elements and wires, where no wire has a fault: no wire is tested again, and the call fails for
-    /// want of memory alone.
+    /// The net of these elements and wires, none of which has a fault. No wire is tested again, and the call fails only
+    /// if memory runs out.
     pub fn new(alloc: Global, elements: Vec<E>, wires: &[Wire]) -> Result<Net<E>, NoMemory>
         requires few_elements { length elements.items < 2 ^ 32 }
         requires faultless { AreFaultless (map E.table elements.items) wires.now }
@@ -91,7 +91,7 @@ impl<E: Element> Net<E> {
         Ok(net)
     }
 
-    /// The number of elements. Its contract also tells what every net keeps.
+    /// The number of elements. The contract also states the invariant of every net.
     pub fn len(&self) -> u32
         ensures number { result ≡ length self.now.elements }
         ensures circuit { IsCircuit (circuit E.table self.now) }
@@ -108,8 +108,8 @@ impl<E: Element> Net<E> {
         &self.elements[element as usize]
     }
 
-    /// The input line to which the wire of this output line leads, `None` exactly where no wire
-    /// leaves it. Its contract also tells what every net keeps.
+    /// The input port to which the wire of this output port leads, or `None` exactly if no wire leaves this port. The
+    /// contract also states the invariant of every net.
     pub fn target(&self, from: Line) -> Option<Line>
         requires { IsOutputOf (map E.table self.now.elements) from }
         ensures line { result ≡ target self.now.wires from }
@@ -119,8 +119,8 @@ impl<E: Element> Net<E> {
         self.targets.get(from)
     }
 
-    /// The output line from which the wire of this input line comes, `None` exactly where no wire
-    /// ends at it. Its contract also tells what every net keeps.
+    /// The output port from which the wire to this input port comes, or `None` exactly if no wire ends at this port.
+    /// The contract also states the invariant of every net.
     pub fn source(&self, to: Line) -> Option<Line>
         requires { IsInputOf (map E.table self.now.elements) to }
         ensures line { result ≡ source self.now.wires to }
@@ -130,8 +130,8 @@ impl<E: Element> Net<E> {
         self.sources.get(to)
     }
 
-    /// Whether the configuration is one of this net: one state an element, each in range; a place
-    /// in range, and no wire at a line by which the signal has left; and at most `CLOCK` steps.
+    /// Whether the configuration is one of this net: one state for each element, each in range; a place in range,
+    /// with no wire at the port by which the signal has left, if it has; and at most `CLOCK` steps.
     pub fn accepts(&self, config: &Config) -> bool
         ensures { IsTrue result ↔ IsConfig (circuit E.table self.now) config.now }
     {
@@ -140,8 +140,8 @@ impl<E: Element> Net<E> {
             && self.accepts_place(config.place)
     }
 
-    /// Makes one element step. `false` exactly where none can be made, and then nothing changed: the
-    /// signal has left, or the element has no move, or the steps are `CLOCK`. A step back undoes it.
+    /// Makes one element step and returns `true`. Returns `false`, with nothing changed, exactly if no step can be
+    /// made: the signal has left, or the element has no move, or the steps are `CLOCK`. A step back undoes the step.
     pub fn step(&self, config: &mut Config) -> bool
         requires { IsConfig (circuit E.table self.now) config.old }
         ensures made { OnTrue result (Goes (circuit E.table self.now) config.old config.new) }
@@ -169,9 +169,9 @@ impl<E: Element> Net<E> {
         true
     }
 
-    /// Takes one element step back. `false` exactly where no step led here, and then nothing
-    /// changed: the steps are 0, or no wire feeds the input line, or no move of the element before
-    /// leads to this pair.
+    /// Undoes one element step and returns `true`. Returns `false`, with nothing changed, exactly if no step leads to
+    /// the configuration: the steps are 0, or no wire ends at the input port, or no move of the element that the
+    /// signal came from leads to this pair of state and port.
     pub fn back_step(&self, config: &mut Config) -> bool
         requires { IsConfig (circuit E.table self.now) config.old }
         ensures made { OnTrue result (Goes (circuit E.table self.now) config.new config.old) }
@@ -199,8 +199,8 @@ impl<E: Element> Net<E> {
         true
     }
 
-    /// Makes at most `e` element steps and answers how many: fewer only where none can be made from
-    /// where it ends.
+    /// Makes at most `e` element steps and returns how many: fewer than `e` only if no step can be made from the last
+    /// configuration.
     pub fn run(&self, config: &mut Config, e: u64) -> u64
         requires { IsConfig (circuit E.table self.now) config.old }
         ensures bound { result ≤ e }
@@ -218,8 +218,8 @@ impl<E: Element> Net<E> {
         e
     }
 
-    /// Takes at most `e` element steps back and answers how many: fewer only where no step led to
-    /// where it ends.
+    /// Undoes at most `e` element steps and returns how many: fewer than `e` only if no step leads to the last
+    /// configuration.
     pub fn run_back(&self, config: &mut Config, e: u64) -> u64
         requires { IsConfig (circuit E.table self.now) config.old }
         ensures bound { result ≤ e }
@@ -256,7 +256,7 @@ impl<E: Element> Net<E> {
         })
     }
 
-    // Tests a wire against those that are there: its first fault, under its number, counted from 1.
+    // Tests a wire against the wires of the net: its first fault, with its number, counted from 1.
     fn check(&self, wire: Wire, number: u32) -> Result<(), NetRefusal>
         ensures { result ≡ checked (fault_of (map E.table self.now.elements) self.now.wires wire) number }
     {
@@ -288,7 +288,7 @@ impl<E: Element> Net<E> {
         self.sources.set(wire.to, wire.from);
     }
 
-    // Whether the input line is there.
+    // Whether the input port exists.
     fn has_input(&self, line: Line) -> bool
         ensures { IsTrue result ↔ IsInputOf (map E.table self.now.elements) line }
     {
@@ -296,7 +296,7 @@ impl<E: Element> Net<E> {
             && line.line < self.elements[line.element as usize].lines_in()
     }
 
-    // Whether the output line is there.
+    // Whether the output port exists.
     fn has_output(&self, line: Line) -> bool
         ensures { IsTrue result ↔ IsOutputOf (map E.table self.now.elements) line }
     {
@@ -304,7 +304,7 @@ impl<E: Element> Net<E> {
             && line.line < self.elements[line.element as usize].lines_out()
     }
 
-    // Whether there is one state an element, each in range.
+    // Whether there is one state for each element, each in range.
     fn accepts_states(&self, states: &[u32]) -> bool
         ensures { IsTrue result ↔ AreStates (map E.table self.now.elements) states.now }
     {
@@ -332,7 +332,7 @@ impl<E: Element> Net<E> {
         }
     }
 
-    // The move of an element from a state and an input line.
+    // The move of an element from a state and an input port.
     fn go(&self, element: u32, state: u32, line: u32) -> Option<(u32, u32)>
         requires state { state < states_of (map E.table self.now.elements) element }
         requires line { line < inputs_of (map E.table self.now.elements) element }
@@ -342,7 +342,7 @@ impl<E: Element> Net<E> {
         self.elements[element as usize].go(state, line)
     }
 
-    // The move of an element to a state and an output line.
+    // The move of an element to a state and an output port.
     fn back(&self, element: u32, state: u32, line: u32) -> Option<(u32, u32)>
         requires state { state < states_of (map E.table self.now.elements) element }
         requires line { line < outputs_of (map E.table self.now.elements) element }
@@ -352,7 +352,7 @@ impl<E: Element> Net<E> {
         self.elements[element as usize].back(state, line)
     }
 
-    // Where the signal is once it has come out by this output line.
+    // Where the signal is after it has left an element by this output port.
     fn place_after(&self, from: Line) -> Place
         requires { IsOutputOf (map E.table self.now.elements) from }
         ensures { result ≡ place_after self.now.wires from }
@@ -369,7 +369,7 @@ impl<E: Element> Net<E> {
         }
     }
 
-    // The output line by which the signal came to this place.
+    // The output port by which the signal reached this place.
     fn line_before(&self, place: Place) -> Option<Line>
         requires { IsPlace (circuit E.table self.now) place }
         ensures line { result ≡ line_before self.now.wires place }
@@ -383,7 +383,7 @@ impl<E: Element> Net<E> {
     }
 }
 
-// The number of output lines of each element.
+// The number of output ports of each element.
 fn output_counts<E: Element>(alloc: Global, elements: &[E]) -> Result<Vec<u32>, NoMemory>
     requires { length elements.now < 2 ^ 32 }
     ensures { IfOk result (λ v. v.items ≡ map (λ x. (E.table x).outputs) elements.now) }
@@ -395,7 +395,7 @@ fn output_counts<E: Element>(alloc: Global, elements: &[E]) -> Result<Vec<u32>, 
     Ok(counts?)
 }
 
-// The number of input lines of each element.
+// The number of input ports of each element.
 fn input_counts<E: Element>(alloc: Global, elements: &[E]) -> Result<Vec<u32>, NoMemory>
     requires { length elements.now < 2 ^ 32 }
     ensures { IfOk result (λ v. v.items ≡ map (λ x. (E.table x).inputs) elements.now) }

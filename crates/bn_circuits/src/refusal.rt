@@ -1,26 +1,26 @@
-//! What the calls of this crate refuse.
+//! The refusals of the calls of this crate.
 
 use bn_lists::NoMemory;
 
-/// Why no net was made of some elements and wires. Wires are counted from 1.
+/// Why some elements and wires are not a net. Wires are counted from 1.
 #[derive(Clone, Copy, PartialEq, Eq, Debug)]
 pub enum NetRefusal {
-    /// Wire `i` is the first at fault: its output line or its input line isn't there.
+    /// Wire `i` is the first faulty one: its output port or its input port does not exist.
     Range {
         /// The wire's number, from 1.
         i: u32,
     },
-    /// Wire `i` is the first at fault: an earlier wire leaves the same output line.
+    /// Wire `i` is the first faulty one: an earlier wire leaves the same output port.
     TwoTargets {
         /// The wire's number, from 1.
         i: u32,
     },
-    /// Wire `i` is the first at fault: an earlier wire ends at the same input line.
+    /// Wire `i` is the first faulty one: an earlier wire ends at the same input port.
     TwoSources {
         /// The wire's number, from 1.
         i: u32,
     },
-    /// There was no memory.
+    /// Memory ran out.
     NoMemory,
 }
 

@@ -1,4 +1,4 @@
-//! A flat map from lines to lines: a row of cells an element, all rows in one array.
+//! A flat map from ports to ports: a row of cells for each element, all rows in one array.
 
 ghost use Rattle.std.specs.Prelude.{◌≡◌, ℕ, ◌+◌, ◌^◌, ◌<◌, ◌≤◌, List, [], length, map, replicate, None, IfOk};
 ghost use Rattle.std.specs.Prelude.{Some, slice_get, slice_set, option_and_then};
@@ -12,10 +12,10 @@ use bn_lists::NoMemory;
 use std::alloc::Global;
 use std::marker::Model;
 
-/// For each element a row with a cell for each of its lines; a cell holds a line or nothing.
+/// A row for each element, with a cell for each of its ports; a cell contains a port or nothing.
 #[derive(Debug, Drop)]
 pub(crate) struct RowMap {
-    // Where each row begins among the cells, and at last the number of cells.
+    // The index of the first cell of each row, and then the number of cells.
     starts: Vec<usize>,
     cells: Vec<End>,
 }
@@ -32,7 +32,7 @@ impl Model for RowMap {
 }
 
 impl RowMap {
-    /// What the cell of this line holds.
+    /// The content of the cell of this port.
     pub(crate) fn get(&self, line: Line) -> Option<Line>
         requires { line.line < width self.now line.element }
         ensures { result ≡ entry self.now line }
@@ -40,7 +40,7 @@ impl RowMap {
         cell_at(self.starts.as_slice(), self.cells.as_slice(), line)
     }
 
-    /// Writes a line into the cell of this line.
+    /// Writes the port `to` into the cell of the port `line`.
     pub(crate) fn set(&mut self, line: Line, to: Line)
         requires within { line.line < width self.old line.element }
         requires low { to.element < NO_ELEMENT }
@@ -61,7 +61,7 @@ impl RowMap {
     }
 }
 
-// What the cell of this line holds, among rows that begin at these starts.
+// The content of the cell of this port, among rows that begin at these indices.
 fn cell_at(starts: &[usize], cells: &[End], line: Line) -> Option<Line>
     requires are { AreStarts starts.now (length cells.now) }
     requires within { line.line < width (rows_at starts.now cells.now) line.element }
@@ -70,7 +70,7 @@ fn cell_at(starts: &[usize], cells: &[End], line: Line) -> Option<Line>
     cells[place_of(starts, cells, line)].line()
 }
 
-// Writes a line into the cell of this line.
+// Writes the port `to` into the cell of the port `line`.
 fn write_at(starts: &[usize], cells: &mut [End], line: Line, to: Line)
     requires are { AreStarts starts.now (length cells.old) }
     requires within { line.line < width (rows_at starts.now cells.old) line.element }
@@ -81,7 +81,7 @@ fn write_at(starts: &[usize], cells: &mut [End], line: Line, to: Line)
     cells[place] = End::of(to);
 }
 
-// The index of the cell of this line.
+// The index of the cell of this port.
 fn place_of(starts: &[usize], cells: &[End], line: Line) -> usize
     requires are { AreStarts starts.now (length cells.now) }
     requires within { line.line < width (rows_at starts.now cells.now) line.element }
@@ -93,7 +93,7 @@ fn place_of(starts: &[usize], cells: &[End], line: Line) -> usize
     starts[line.element as usize] + line.line as usize
 }
 
-// Where each row of these widths begins, and at last where all end.
+// The index at which each row of these widths begins, and then the index at which the last one ends.
 fn starts_of(alloc: Global, widths: &[u32]) -> Result<Vec<usize>, NoMemory>
     requires { length widths.now < 2 ^ 32 }
     ensures { IfOk result (λ v. v.items ≡ starts_from 0 widths.now) }

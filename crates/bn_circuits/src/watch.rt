@@ -1,4 +1,4 @@
-//! Who is told of each place that a signal comes to.
+//! Watches: receivers of each place that a signal reaches.
 
 ghost use Rattle.std.specs.Prelude.{◌≡◌, ℕ, false, ◌<◌, ◌≤◌, ◌++◌, ◌∷◌, [], List, length, Option, Some, None, IfOk};
 ghost use Rattle.std.specs.Prelude.{nat_lt, if◌then◌else◌, vec_len};
@@ -9,32 +9,32 @@ use bn_lists::NoMemory;
 use std::alloc::Global;
 use std::marker::Model;
 
-/// Someone who is told the place after each element step. A watch has one meaning: the list of the
-/// places that it was told, where it tells that list.
+/// A receiver of the place after each element step. Contracts see a watch as the list of the places that it received,
+/// if it makes this list known.
 pub trait Watch {
     ghost use Rattle.std.specs.Prelude.{◌≡◌, Option, None, List, [], ◌∷◌};
     ghost use Rattle.std.specs.Bool.{OnFalse};
     ghost use Rattle.bn_circuits.specs.declared.place.Place.{Place};
     ghost use Rattle.bn_circuits.specs.Watching.{Hears};
 
-    /// The places told, the first one first, or nothing where no list is told.
+    /// The places received, the first one first, or `None` if the list is not known.
     ghost told: { Self → Option (List Place) };
 
-    /// Whether it is to be told places, as a watch is that doesn't say otherwise: one that isn't tells no list, so a
-    /// run need not come to each place by itself.
+    /// Whether the watch needs the places; `true` by default. A watch that returns `false` makes no list known, and a
+    /// run may skip over places.
     fn listens(&self) -> bool
         ensures { OnFalse result (told self.now ≡ None) }
     {
         true
     }
 
-    /// Tells it a place: afterwards it tells no list, or it told its list before, and the list has
-    /// grown by this place at its end. Takes no memory.
+    /// Reports a place to the watch. Afterwards its list is not known, or it was known before and has grown by this
+    /// place at its end. Allocates no memory.
     fn enter(&mut self, place: &Place)
         ensures { Hears (told self.old) (place.now ∷ []) (told self.new) };
 }
 
-/// A watch that tells no list.
+/// A watch that keeps no list.
 #[derive(Clone, Copy, Debug)]
 pub struct Quiet;
 
@@ -50,7 +50,7 @@ impl Watch for Quiet {
     fn enter(&mut self, _place: &Place) {}
 }
 
-/// A watch in memory. It tells its list as long as it was told at most `room` places.
+/// A watch in memory. Its list is known as long as it has received at most `room` places.
 #[derive(Debug, Drop)]
 pub struct MemWatch {
     places: Vec<Place>,
@@ -74,7 +74,7 @@ impl Model for MemWatch {
 impl MemWatch {
     ghost use Rattle.bn_circuits.specs.Heard.{Heard};
 
-    /// A watch that was told nothing yet, with room for this many places; it takes its memory here.
+    /// A watch that has received no place yet, with room for this many places. It allocates all its memory here.
     pub fn try_new(alloc: Global, room: usize) -> Result<MemWatch, NoMemory>
         ensures { IfOk result (λ w.
             w ≡ (let fresh : Heard = record { places = []; room = room; lost = false } in fresh)) }
@@ -87,7 +87,7 @@ impl MemWatch {
         })
     }
 
-    /// The first places told, at most `room` of them.
+    /// The first places received, at most `room` of them.
     pub fn places(&self) -> &[Place]
         ensures { result.now ≡ self.now.places }
     {

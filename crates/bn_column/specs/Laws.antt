@@ -5,9 +5,9 @@ use Rattle.bn_circuits.specs.Circuits.{Circuit, clock, Goes}
 use Rattle.bn_circuits.specs.declared.config.Config.{Config}
 use Rattle.bn_column.specs.Columns.{IsColumn, IsEntering, IsAtRest, IsBeside, IsWithin, crossing_cost, crossed}
 
--- In any circuit, where the signal enters row i of a column at rest, counted from 0, and the clock has room: exactly
--- the steps of its cost lead to the crossing's end, and each test that holds of what is within the crossing holds
--- strictly between.
+-- In any circuit, if the signal enters row i, counted from 0, of a column at rest, and the clock admits the cost:
+-- exactly that many steps lead to the end of the crossing, and each test that holds of what is within the crossing
+-- holds strictly between.
 abbrev pub ColumnsAreCrossed : Type 0
 ColumnsAreCrossed =
     (k : Circuit) (b rows i : ℕ) (marked from_east : Bool) (c : Config) (test : Config → Bool) → IsColumn k b rows
@@ -15,13 +15,13 @@ ColumnsAreCrossed =
     → ((d : Config) → IsWithin b rows marked from_east c.states d → test d ≡ true)
     → Passes (Goes k) test (crossing_cost rows (i + 1) marked from_east) c (crossed k b rows i marked from_east c)
 
--- After a crossing the column is at rest again, marked exactly where the signal came from the east.
+-- After a crossing the column is at rest again, and is marked exactly if the signal came from the east.
 abbrev pub CrossedColumnsRest : Type 0
 CrossedColumnsRest =
     (k : Circuit) (b rows i : ℕ) (marked from_east : Bool) (c : Config) → IsEntering b rows i marked from_east c
     → IsAtRest (crossed k b rows i marked from_east c).states b rows from_east
 
--- A crossing changes no bar beside the column.
+-- A crossing changes no bar outside the column.
 abbrev pub CrossingsStayWithin : Type 0
 CrossingsStayWithin =
     (k : Circuit) (b rows i : ℕ) (marked from_east : Bool) (c : Config) (e : ℕ) → IsBeside b rows e
@@ -30,9 +30,10 @@ CrossingsStayWithin =
 -- ---- the laws
 
 pub record Laws : Type 0 where
-  -- The four crossings of a column, in exactly their steps, with what holds strictly between.
+  -- The four crossings of a column take exactly their costs in steps, and each test that holds within a crossing holds
+  -- strictly between its ends.
   pub columns_are_crossed : ColumnsAreCrossed
-  -- After a crossing the column is at rest, and marked exactly where the signal came from the east.
+  -- After a crossing the column is at rest, and it is marked exactly if the signal came from the east.
   pub crossed_columns_rest : CrossedColumnsRest
-  -- A crossing changes no bar beside the column.
+  -- A crossing changes no bar outside the column.
   pub crossings_stay_within : CrossingsStayWithin

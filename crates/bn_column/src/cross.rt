@@ -1,4 +1,4 @@
-//! The crossings of a column in a net, and what they cost.
+//! The crossings of a column in a net, and their costs.
 ghost use Rattle.std.specs.Prelude.{◌≡◌, ℕ, ◌≤◌, Bool};
 ghost use Rattle.bn_circuits.specs.Circuits.{IsConfig};
 ghost use Rattle.bn_column.specs.Columns.{crossing_cost, IsColumn, IsEntering, CanCross, IsCrossing};
@@ -7,8 +7,8 @@ ghost use Rattle.bn_circuits.specs.RotaryNets.{rotary_circuit};
 use bn_circuits::{Config, Net, Place};
 use bn_element::{EAST, HORIZONTAL, Rotary};
 
-/// The element steps of a crossing of a column of `rows` rows, from entering row `row`, counted from
-/// 1, to leaving it. It takes no memory.
+/// The element steps of a crossing of a column of `rows` rows, from entering row `row`, counted from 1, to leaving it,
+/// for a column that is marked or not and a signal that enters from the east or the west. The call takes no memory.
 pub fn cost(rows: u32, row: u32, marked: bool, from_east: bool) -> u64
     requires first { 1 ≤ row }
     requires last { row ≤ rows }
@@ -21,8 +21,8 @@ pub fn cost(rows: u32, row: u32, marked: bool, from_east: bool) -> u64
     }
 }
 
-/// Crosses the column of `rows` rows whose top row is element `first`, from the row that the signal
-/// enters, and answers the number of element steps made. It takes no memory.
+/// Crosses the column of `rows` rows whose top row is element `first`, from the row that the signal enters, and
+/// returns the number of element steps made. The call takes no memory.
 pub fn cross_in(net: &Net<Rotary>, config: &mut Config, first: u32, rows: u32) -> u64
     requires good { IsConfig (rotary_circuit net.now) config.old }
     requires column { IsColumn (rotary_circuit net.now) first rows }

@@ -1,4 +1,4 @@
-//! Columns of rotary elements: their wires in any net, their four crossings, and what these cost.
+//! Columns of rotary elements: their wires in any net, their four crossings, and the costs of these.
 #![tactic(auto)]
 
 mod cross;

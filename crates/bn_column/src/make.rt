@@ -1,4 +1,4 @@
-//! Columns are made here.
+//! Construction of columns.
 ghost use Rattle.std.specs.Prelude.{◌≡◌, ◌↔◌, Bool, IfOk};
 ghost use Rattle.bn_column.specs.Nets.{IsNoCount, IsStanding};
 
@@ -8,8 +8,8 @@ use crate::wires::column_wires;
 use bn_circuits::rotary_net;
 use std::alloc::Global;
 
-/// The column of so many rows, which begins marked or not. `Rows` comes exactly where the number of
-/// rows is 0 or above 65,535.
+/// The column of this many rows, which begins marked or not. Returns `Rows` exactly if the number of rows is 0 or
+/// above 65,535.
 pub fn column(alloc: Global, rows: u32, marked: bool) -> Result<Column, ColumnRefusal>
     ensures made { IfOk result (λ c. IsStanding c rows marked) }
     ensures rows { (result ≡ Err ColumnRefusal.Rows) ↔ IsNoCount rows }

@@ -1,13 +1,13 @@
-//! What the calls of this crate refuse.
+//! Refusals of the calls of this crate.
 
 use bn_lists::NoMemory;
 
-/// Why no column was made.
+/// Why a column was not made.
 #[derive(Clone, Copy, PartialEq, Eq, Debug)]
 pub enum ColumnRefusal {
     /// The number of rows is 0 or above 65,535.
     Rows,
-    /// There was no memory.
+    /// Memory ran out.
     NoMemory,
 }
 

@@ -1,4 +1,4 @@
-//! A column by itself.
+//! A net that is one column and nothing else.
 ghost use Rattle.std.specs.Prelude.{◌≡◌, ℕ, ◌-◌, ◌<◌, ◌≤◌, Bool, true, false, IfOk, replicate, [], ◌∷◌, ◌++◌};
 ghost use Rattle.bn_column.specs.Columns.{bar};
 ghost use Rattle.bn_circuits.specs.Circuits.{IsConfig};
@@ -10,8 +10,8 @@ use bn_lists::NoMemory;
 use std::alloc::Global;
 use std::marker::Model;
 
-/// A net that is one column of rotary elements, and whether the column begins marked. Clauses see the
-/// net, the number of rows, and the mark.
+/// A net that is one column of rotary elements, and whether the column begins marked. Contracts see the net, the
+/// number of rows, and the mark.
 #[derive(Debug, Drop)]
 pub struct Column {
     net: Net<Rotary>,
@@ -45,7 +45,7 @@ impl Column {
         Column { net, rows, marked }
     }
 
-    /// The column's net: its rows are the elements from 0 on, and the bottom comes last.
+    /// The column's net: its rows, from the top, are the elements from 0 on, and its bottom is the last element.
     pub fn net(&self) -> &Net<Rotary>
         ensures net { result.now ≡ self.now.net }
         ensures column { IsColumnNet self.now.net self.now.rows }
@@ -53,8 +53,8 @@ impl Column {
         &self.net
     }
 
-    /// The column at rest, marked as it begins, with the signal about to enter the row, counted from
-    /// 1, from the west. No step is made yet.
+    /// The column at rest, marked as it begins, with the signal about to enter this row, counted from 1, from the
+    /// west. The count of steps is 0.
     pub fn at_west(&self, alloc: Global, row: u32) -> Result<Config, NoMemory>
         requires first { 1 ≤ row }
         requires last { row ≤ self.now.rows }
@@ -65,8 +65,8 @@ impl Column {
         self.at_side(alloc, row, WEST)
     }
 
-    /// The column at rest, marked as it begins, with the signal about to enter the row, counted from
-    /// 1, from the east. No step is made yet.
+    /// The column at rest, marked as it begins, with the signal about to enter this row, counted from 1, from the
+    /// east. The count of steps is 0.
     pub fn at_east(&self, alloc: Global, row: u32) -> Result<Config, NoMemory>
         requires first { 1 ≤ row }
         requires last { row ≤ self.now.rows }
@@ -77,9 +77,9 @@ impl Column {
         self.at_side(alloc, row, EAST)
     }
 
-    /// Crosses the column, at rest and marked or not, from the row that the signal enters, and answers
-    /// the number of element steps made. The signal has left then: by the east of its row, or by the west
-    /// where the column was marked. It takes no memory.
+    /// Crosses the column, at rest and marked or not, from the row that the signal enters, and returns the number of
+    /// element steps made. The signal then has left by the east of its row, or by the west if the column was marked.
+    /// The call takes no memory.
     pub fn cross(&self, config: &mut Config) -> u64
         requires good { IsConfig (rotary_circuit self.now.net) config.old }
         requires entering { CanCross 0 self.now.rows config.old }
@@ -92,7 +92,7 @@ impl Column {
         cross_in(&self.net, config, 0, self.rows)
     }
 
-    // The column at rest with the signal about to enter the row by this line.
+    // The column at rest with the signal about to enter this row, counted from 1, by this port.
     fn at_side(&self, alloc: Global, row: u32, side: u32) -> Result<Config, NoMemory>
         requires first { 1 ≤ row }
         requires last { row ≤ self.now.rows }
@@ -112,7 +112,7 @@ impl Column {
     }
 }
 
-// The bars of a column at rest: vertical in all rows, and the mark in the bottom.
+// The bars of a column at rest: vertical in all rows, and the mark in the bottom: horizontal if the column is marked.
 fn resting(alloc: Global, rows: u32, marked: bool) -> Result<Vec<u32>, NoMemory>
     ensures { IfOk result (λ v. v.items ≡ replicate rows 1 ++ bar marked ∷ []) }
 {

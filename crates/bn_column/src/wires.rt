@@ -27,8 +27,8 @@ pub fn column_wires(alloc: Global, first: u32, rows: u32) -> Result<Vec<Wire>, N
     Ok(wires)
 }
 
-/// Adds the wires between this row and the next element, down and up. After `NoMemory` the list is as it was, or with
-/// the wire down behind it.
+/// Adds the wires between this row and the next element, down and up. After `NoMemory` the list is unchanged, or the
+/// wire down is appended to it.
 pub fn push_rung(wires: &mut Vec<Wire>, row: u32) -> Result<(), NoMemory>
     requires { row + 1 < 2 ^ 32 }
     ensures added { OnOk result (wires.new.items ≡ (wires.old.items ++ wire_of row 2 (row + 1) 0 ∷ [])
@@ -41,7 +41,7 @@ pub fn push_rung(wires: &mut Vec<Wire>, row: u32) -> Result<(), NoMemory>
     Ok(())
 }
 
-/// The wire from this output line of element `from` to that input line of element `to`.
+/// The wire from output port `from_line` of element `from` to input port `to_line` of element `to`.
 pub fn wire(from: u32, from_line: u32, to: u32, to_line: u32) -> Wire
     ensures { result ≡ wire_of from from_line to to_line }
 {
@@ -57,7 +57,7 @@ pub fn wire(from: u32, from_line: u32, to: u32, to_line: u32) -> Wire
     }
 }
 
-/// Adds a wire behind those of a list. After `NoMemory` the list is as it was.
+/// Appends a wire to a list. After `NoMemory` the list is unchanged.
 pub fn push_wire(wires: &mut Vec<Wire>, wire: Wire) -> Result<(), NoMemory>
     ensures added { OnOk result (wires.new.items ≡ wires.old.items ++ wire ∷ []) }
     ensures refused { OnErr result (wires.new.items ≡ wires.old.items) }

@@ -1,4 +1,4 @@
--- The commands of a quadruple as the program keeps them.
+-- The commands of a quadruple as the program stores them.
 use Rattle.std.specs.Prelude.{ℕ, List, [], ◌∷◌, ◌++◌, length, Option, Some, None}
 use Rattle.bn_machine.specs.declared.quint.Shift.{Shift as HeadShift}
 use Rattle.bn_machine.specs.declared.quint.Shift.TheVariants as way
@@ -20,7 +20,7 @@ use Rattle.bn_control.specs.declared.named.NamedMove.{NamedMove}
 use Rattle.bn_control.specs.Names.{listed, symbols_of, state_of}
 use Rattle.bn_control.specs.Shown.{written}
 
--- the line, and the state and the line, that are kept so
+-- the port, and the pair of state and port, that are stored in this form
 abbrev pub line_of : Line → control.ControlLine
 line_of Outside = control.Outside
 line_of (Tape t l) = control.Tape t l
@@ -28,7 +28,7 @@ line_of (Tape t l) = control.Tape t l
 abbrev pub sending_of : Sending → control.ControlMove
 sending_of s = (state_of s.state, line_of s.line)
 
--- the command that is sent to a tape, awaited in a state
+-- the command sent to a tape, with the state that waits for its reply
 abbrev pub command : StateName → ℕ → CellLine → CellLine → Command
 command q t sent answer = record { sending = record { state = q; line = Tape t sent }; answer = Tape t answer }
 
@@ -37,7 +37,7 @@ abbrev pub read_command : ℕ → Symbols → ℕ → Option ℕ → List Comman
 read_command a before t None = []
 read_command a before t (Some c) = command (Reads a (length (listed before)) before) t line.Read (line.Answer c) ∷ []
 
--- its shift, if it is shifted other than by 0
+-- the shift of a tape, if it is shifted other than by 0
 abbrev pub shift_by : ℕ → ℕ → HeadShift → List Command
 shift_by n t way.Left = command (Shifts n t) t line.ShiftLeft line.DoneLeft ∷ []
 shift_by n t way.Stay = []
@@ -47,7 +47,7 @@ abbrev pub shift_command : ℕ → ℕ → Act → List Command
 shift_command n t (Write c) = []
 shift_command n t (Shift s) = shift_by n t s
 
--- the write on it, if it is written
+-- the write on a tape, if it is written
 abbrev pub write_command : ℕ → Symbols → ℕ → Act → List Command
 write_command a rest t (Write c) = command (Writes a (record { 0 = t }) rest) t (line.Write c) line.DoneWrite ∷ []
 write_command a rest t (Shift s) = []
@@ -76,12 +76,12 @@ commands_by n r = read_commands r ++ (shift_commands n r ++ write_commands r)
 
 -- ---- moves by names
 
--- what is sent after a command: the next command, or at last this
+-- what is sent after a command: the next command, or `last` after the last one
 abbrev pub next_of : Sending → List Command → Sending
 next_of last [] = last
 next_of last (c ∷ cs) = c.sending
 
--- the moves along the commands of a quadruple, and then to this
+-- the moves from each command of a quadruple to the next, and from the last one to `last`
 abbrev pub moves_by : Sending → List Command → List NamedMove
 moves_by last [] = []
 moves_by last (c ∷ cs) = record { state = c.sending.state; line = c.answer; to = next_of last cs } ∷ moves_by last cs

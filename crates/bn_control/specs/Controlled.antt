@@ -1,4 +1,4 @@
--- A control with what its states say of the machine of quadruples.
+-- A control, with what its states mean for the machine of quadruples.
 use Rattle.std.specs.Prelude.{◌≡◌, ◌↔◌, ℕ, ◌+◌, ◌-◌, ◌<◌, ◌≤◌, ◌^◌, List, [], All, length, Option, Some, None}
 use Rattle.std.specs.Prelude.{slice_get, slice_index, refl}
 use Rattle.std.specs.Coded.{Coded, coded_ℕ, coded_list, coded_option, coded×, code_by}
@@ -10,10 +10,10 @@ use Rattle.bn_network.specs.Controls.{lines_before, IsFirstKept}
 use Rattle.bn_network.specs.declared.limits.TheConstants.{MOST_SYMBOLS}
 use Rattle.bn_control.specs.declared.make.TheConstants.{MOST_QUADRUPLES, MOST_STATES}
 
--- The control as a sequential machine; how many symbols each tape has, tape 1 first; for each state of the machine of
--- quadruples the control's state that awaits the answer to its first command, and the output line by which that is
--- given, nothing for the final state; and for each state of the control the state of the machine of quadruples and the
--- tape whose first read it awaits, if it awaits one.
+-- The control as a sequential machine; the number of symbols of each tape, tape 1 first; for each state of the
+-- machine of quadruples the control's state that waits for the reply to its first command, and the output port by
+-- which it is sent, or nothing for the final state; and for each state of the control the state of the machine of
+-- quadruples and the tape for whose first read it waits, if it waits for one.
 pub record Controlled : Type 0 where
   pub machine : Machine
   pub symbols : List ℕ
@@ -33,7 +33,7 @@ controlled_code =
 
 -- ---- which machines have a control
 
--- there are few enough quadruples and states, and each tape has a symbol and not too many
+-- there are few enough quadruples and states, and each tape has at least one symbol and not too many
 pub record IsWithinLimits (m : Quadruples) : Type 0 where
   pub quadruples : length m.rules ≤ MOST_QUADRUPLES
   pub states : m.states ≤ MOST_STATES
@@ -42,12 +42,13 @@ pub record IsWithinLimits (m : Quadruples) : Type 0 where
 
 -- ---- the control of a machine
 
--- the state of the control is the one that awaits the first read of this state of the machine, on this tape
+-- the state of the control is the one that waits for the reply to the first read of this state of the machine, on
+-- this tape
 pub record IsAwaiting (m : Quadruples) (q : ControlState) (a t : ℕ) : Type 0 where
   pub state : q ≡ Reads a []
   pub entry : IsEntry m a (Reads a [], Tape t Read)
 
--- This is the control of the machine: its states in order have these names.
+-- This is the control of the machine; its states in order have these names.
 pub record IsControlOf (m : Quadruples) (names : List ControlState) (v : Controlled) : Type 0 where
   pub numbering : IsNumbering m names
   pub table : IsControlTable m names (machine_table v.machine)
@@ -61,28 +62,28 @@ pub record IsControlOf (m : Quadruples) (names : List ControlState) (v : Control
 
 -- ---- where the machine is stuck
 
--- by input line j a tape, counted from 1, answers that its head scans symbol c
+-- input port j carries the reply of a tape, counted from 1, that its head scans symbol c
 pub record IsAnswer (symbols : List ℕ) (t j c : ℕ) : Type 0 where
   pub among : c < slice_index symbols (t - 1)
   pub line : j ≡ lines_before symbols (t - 1) + c
 
--- The state n of the control awaits the first read of state a on some tape, line j answers that this tape has symbol c,
--- and there is no move.
+-- State n of the control waits for the reply to the first read of state a on some tape, port j carries the reply that
+-- this tape's head scans symbol c, and there is no move.
 pub record IsStuckAt (v : Controlled) (n j a c : ℕ) : Type 0 where
   pub tape : ℕ
   pub awaits : slice_get v.awaited n ≡ Some (Some (a, tape))
   pub answers : IsAnswer v.symbols tape j c
   pub none : (machine_table v.machine).go n j ≡ None
 
--- ---- what a control keeps
+-- ---- the invariant of a control
 
--- a tape that is awaited, if one is, is one of the three
+-- the tape whose reply is awaited, if there is one, is one of the three
 abbrev pub IsTapeAwaited : Option (ℕ × ℕ) → Type 0
 IsTapeAwaited None = Unit {0}
 IsTapeAwaited (Some p) = (1 ≤ p.1) × (p.1 ≤ 3)
 
--- three numbers of symbols that aren't too great, fewer than 2^32 states of the machine, a list as long as the control
--- has states, and in it tapes from 1 to 3
+-- three numbers of symbols that are not too great, fewer than 2^32 states of the machine, as many entries for awaited
+-- reads as the control has states, and in them tapes from 1 to 3
 pub record IsKept (machine : Machine) (symbols : List ℕ) (firsts awaited : List (Option (ℕ × ℕ))) : Type 0 where
   pub tapes : length symbols ≡ 3
   pub few_symbols : All (λ z. z ≤ MOST_SYMBOLS) symbols

@@ -1,4 +1,5 @@
--- The names of the states that quadruples show, in a row, and those of the states that wait for ever.
+-- The names of the states that quadruples show, in a row, and those of the open states, which wait for tape 1 and
+-- have no move.
 use Rattle.std.specs.Prelude.{◌≡◌, ℕ, suc, List, [], ◌∷◌, ◌++◌, map}
 use Rattle.bn_lists.specs.Lists.{Has}
 use Rattle.bn_quad.specs.Quadruples.{Quadruples, Rule}
@@ -11,18 +12,18 @@ use Rattle.bn_control.specs.Commands.{commands_by}
 
 -- ---- what quadruples show
 
--- the names of the states that await the answers to the commands of the quadruple with this number
+-- the names of the states that wait for the replies to the commands of the quadruple with this number
 abbrev pub rule_names : ℕ → Rule ℕ → List StateName
 rule_names n r = map (λ (c : Command). c.sending.state) (commands_by n r)
 
--- those of some quadruples, the first of which has this number
+-- those of a list of quadruples, the first of which has this number
 abbrev pub names_from : ℕ → List (Rule ℕ) → List StateName
 names_from n [] = []
 names_from n (r ∷ rs) = rule_names n r ++ names_from (suc n) rs
 
--- ---- states that wait for ever
+-- ---- open states
 
--- the names of the states that wait for ever in one of the first k states of the machine
+-- the names of the open states for the first k states of the machine
 pub record AreOpen (m : Quadruples) (k : ℕ) (ss : List StateName) : Type 0 where
   pub proper : (x : StateName) → Has ss x → IsProper x
   pub only : (x : StateName) → Has ss x → IsOpenBelow m k (state_of x)

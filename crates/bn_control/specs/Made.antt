@@ -1,4 +1,4 @@
--- What a control is made of, and its parts.
+-- The data from which a control is built, and the parts built from them.
 use Rattle.std.specs.Prelude.{◌≡◌, ◌↔◌, ℕ, ◌<◌, ◌≤◌, ◌^◌, List, All, map, Option, Some, slice_get, length}
 use Rattle.bn_quad.specs.Quadruples.{Quadruples, IsQuadMachine}
 use Rattle.bn_quad.specs.Calls.{IsUniformMachine}
@@ -13,7 +13,7 @@ use Rattle.bn_control.specs.Named.{AreMoves}
 use Rattle.bn_control.specs.Ordered.{AreOrdered}
 use Rattle.bn_control.specs.Controlled.{IsAwaiting}
 
--- all is made of this machine, which is uniform
+-- the draft is that of this machine, which is uniform
 pub record IsDraft (m : Quadruples) (d : Draft) : Type 0 where
   pub uniform : IsUniformMachine m
   pub valid : IsQuadMachine m
@@ -25,12 +25,12 @@ pub record IsDraft (m : Quadruples) (d : Draft) : Type 0 where
   pub ordered : AreOrdered m d.states.items
   pub few_states : length d.states.items < 2 ^ 32
 
--- it is made of some machine
+-- the draft is that of some machine
 pub record IsSomeDraft (d : Draft) : Type 0 where
   pub machine : Quadruples
   pub is : IsDraft machine d
 
--- this is sent first in some state of that machine
+-- this is the first command in some state of that machine
 pub record IsSomeEntry (d : Draft) (s : Sending) : Type 0 where
   pub machine : Quadruples
   pub is : IsDraft machine d
@@ -44,16 +44,16 @@ pub record OccursInDraft (d : Draft) (q : StateName) : Type 0 where
   pub occurs : Occurs machine (state_of q)
   pub proper : IsProper q
 
--- what a control keeps of the first commands of the first n states of the machine
+-- the records of the first commands of the first n states of the machine
 pub record AreFirsts (m : Quadruples) (ss : List StateName) (n : ℕ) (fs : List (Option (ℕ × ℕ))) : Type 0 where
   pub counted : length fs ≡ n
   pub each : (a : ℕ) (f : Option (ℕ × ℕ)) → slice_get fs a ≡ Some f → IsFirstKept m (map state_of ss) a f
 
--- this tells whose first read a state of the control awaits, if it awaits one
+-- o is the state and the tape for whose first read a state of the control waits, or nothing if it waits for none
 pub record TellsAwaited (m : Quadruples) (q : ControlState) (o : Option (ℕ × ℕ)) : Type 0 where
   pub tells : (a t : ℕ) → (o ≡ Some (a, t)) ↔ IsAwaiting m q a t
 
--- so do these for as many states as there are of them
+-- each of these entries is that of the state with the same number, and there are as many as states
 pub record AreAwaited (m : Quadruples) (ss : List StateName) (os : List (Option (ℕ × ℕ))) : Type 0 where
   pub counted : length os ≡ length ss
   pub each : (n : ℕ) (x : StateName) (o : Option (ℕ × ℕ)) → slice_get ss n ≡ Some x → slice_get os n ≡ Some o

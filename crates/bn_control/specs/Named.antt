@@ -1,4 +1,4 @@
--- The moves of a control by names as the program keeps them.
+-- The moves of a control by names as the program stores them.
 use Rattle.std.specs.Prelude.{◌≡◌, List}
 use Rattle.bn_quad.specs.Quadruples.{Quadruples}
 use Rattle.bn_network.specs.Controls.{ControlState, ControlLine, ControlMove, ControlGoes}
@@ -21,7 +21,7 @@ pub record IsKeptAmong (xs : List NamedMove) (q : ControlState) (i : ControlLine
   pub line : line_of move.line ≡ i
   pub to : sending_of move.to ≡ k
 
--- all moves of the control, and none else
+-- all moves of the control, and no others
 pub record AreMoves (m : Quadruples) (xs : List NamedMove) : Type 0 where
   pub only : (x : NamedMove) → Has xs x → IsGoing m x
   pub each : (q : ControlState) (i : ControlLine) (k : ControlMove) → ControlGoes m q i k → IsKeptAmong xs q i k

@@ -1,4 +1,4 @@
--- The moves of a control in numbers as the program keeps them.
+-- The moves of a control in numbers as the program stores them.
 use Rattle.std.specs.Prelude.{◌≡◌, ℕ, ◌-◌, ◌≤◌, List, map, Some, slice_get, slice_index}
 use Rattle.bn_rsm.specs.declared.rsm_move.RsmMove.{RsmMove}
 use Rattle.bn_quad.specs.Quadruples.{Quadruples}
@@ -14,12 +14,12 @@ use Rattle.bn_control.specs.Names.{state_of}
 use Rattle.bn_control.specs.Commands.{line_of}
 use Rattle.bn_control.specs.Ordered.{HasNumber}
 
--- a line of one of three tapes with so many symbols, and a symbol of that tape
+-- the outside port, or a port of one of the three tapes, with a symbol of that tape
 abbrev pub IsWithin : List ℕ → Line → Type 0
 IsWithin zs Outside = Unit {0}
 IsWithin zs (Tape t l) = (1 ≤ t) × (t ≤ 3) × IsLineOf (slice_index zs (t - 1)) l
 
--- the states of a move have numbers, and its lines are in range
+-- the states of a move have numbers, and its ports are in range
 pub record HasNumbers (ss : List StateName) (zs : List ℕ) (x : NamedMove) : Type 0 where
   pub state : HasNumber ss x.state
   pub line : IsWithin zs x.line
@@ -38,6 +38,6 @@ pub record AreNumbered (m : Quadruples) (ss : List StateName) (xs : List NamedMo
   pub only : (v : Move) → Has vs v → (x : NamedMove) × Has xs x × IsNumbered m ss x v
   pub each : (x : NamedMove) → Has xs x → (v : Move) × Has vs v × IsNumbered m ss x v
 
--- a move as a sequential machine has it
+-- a move in the form of a sequential machine
 abbrev pub rsm_move : Move → RsmMove
 rsm_move v = record { state = v.state; line = v.line; next = v.next; out = v.out }

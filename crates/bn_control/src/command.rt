@@ -14,17 +14,17 @@ use bn_quad::{Act, Quad};
 use std::alloc::{AllocError, Global};
 use std::cmp::Reverse;
 
-/// A command of a quadruple: what is sent, and the input line of the answer.
+/// A command of a quadruple: what is sent, and the input port of the reply.
 #[derive(Clone, Copy, PartialEq, Eq, Debug)]
 pub(crate) struct Command {
     /// What is sent.
     pub(crate) sending: Sending,
-    /// The line by which the answer comes.
+    /// The input port at which the reply arrives.
     pub(crate) answer: Line,
 }
 
-/// The commands of a quadruple with this number, counted from 1: its reads by rising tape, its shifts by rising tape,
-/// its writes by falling tape.
+/// The commands of the quadruple with this number, counted from 1: its reads by rising tape, its shifts by rising
+/// tape, its writes by falling tape.
 pub(crate) fn commands_of(
     alloc: Global,
     number: u32,
@@ -123,7 +123,7 @@ fn push_shift(
     Ok(())
 }
 
-// The write on a tape, if it is written, with these symbols to come.
+// The write on a tape, if it is written, with these symbols still to be written.
 fn push_write(
     commands: &mut Vec<Command>,
     state: u32,

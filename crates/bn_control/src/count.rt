@@ -1,4 +1,4 @@
-//! The count: each state at the first quadruple that shows it.
+//! The number of a control's states: each state is counted at the first quadruple that shows it.
 ghost use Rattle.std.specs.Prelude.{◌≡◌, ◌<◌, ◌≤◌, ◌+◌, ◌*◌, ℕ, suc, length, List, Some, slice_get};
 ghost use Rattle.bn_network.specs.Controls.{ControlState, IsNumbering};
 ghost use Rattle.bn_control.specs.Controlled.{IsWithinLimits};
@@ -13,7 +13,7 @@ use crate::shown::{is_read_before, is_written_before, symbols, written};
 use bn_machine::Shift;
 use bn_quad::{Act, Quad, QuadMachine};
 
-/// How many states the control of a machine of quadruples has. It takes no memory.
+/// The number of states of the control of a machine of quadruples. It takes no memory.
 pub fn state_count(machine: &QuadMachine) -> u32
     requires { IsWithinLimits machine.now }
     ensures { (names : List ControlState) → IsNumbering machine.now names → result ≡ length names }
@@ -22,7 +22,7 @@ pub fn state_count(machine: &QuadMachine) -> u32
     2 + open_count(machine) + shown
 }
 
-// How many states aren't final and are left by no quadruple.
+// The number of states that are not final and that no quadruple leaves.
 fn open_count(machine: &QuadMachine) -> u32
     ensures open { IsCount (IsOpenBelow machine.now machine.now.states) result }
     ensures few { result ≤ machine.now.states }
@@ -36,7 +36,7 @@ fn open_count(machine: &QuadMachine) -> u32
     count
 }
 
-// How many states the quadruples show.
+// The number of the control's states that the quadruples show.
 fn shown_count(quads: &[Quad]) -> u32
     requires few { length quads.now ≤ MOST_QUADRUPLES }
     ensures shown { IsCount (IsShownBefore quads.now (length quads.now)) result }
@@ -49,7 +49,7 @@ fn shown_count(quads: &[Quad]) -> u32
     count
 }
 
-// How many states this quadruple shows that no earlier one shows.
+// The number of states that this quadruple shows and no earlier one shows.
 fn new_states(quads: &[Quad], index: usize) -> u32
     requires inside { index < length quads.now }
     ensures new { (quad : _) → slice_get quads.now index ≡ Some quad
@@ -60,7 +60,7 @@ fn new_states(quads: &[Quad], index: usize) -> u32
     new_reads(quads, index, &quad) + shift_count(&quad) + new_writes(quads, index, &quad)
 }
 
-// How many of the reads are new.
+// The number of the quadruple's reads that are new.
 fn new_reads(quads: &[Quad], index: usize, quad: &Quad) -> u32
     requires inside { index < length quads.now }
     ensures new { IsCount (IsNew quads.now index (ShowsRead quad.now)) result }
@@ -72,7 +72,7 @@ fn new_reads(quads: &[Quad], index: usize, quad: &Quad) -> u32
         + new_read(quads, index, quad.state, symbols(one, two), three)
 }
 
-// One for a read that is new.
+// 1 for a read that is new, otherwise 0.
 fn new_read(quads: &[Quad], index: usize, from: u32, before: Symbols, read: Option<u32>) -> u32
     requires inside { index < length quads.now }
     ensures new { IsCount (IsNew quads.now index (IsReadState from (listed before) read)) result }
@@ -85,7 +85,7 @@ fn new_read(quads: &[Quad], index: usize, from: u32, before: Symbols, read: Opti
     }
 }
 
-// How many of the tapes are shifted, other than by 0.
+// The number of tapes that are shifted, other than by 0.
 fn shift_count(quad: &Quad) -> u32
     ensures shifts { (n : ℕ) → IsCount (ShowsShift n quad.now) result }
     ensures few { result ≤ 3 }
@@ -94,7 +94,7 @@ fn shift_count(quad: &Quad) -> u32
     shifts_in(one) + shifts_in(two) + shifts_in(three)
 }
 
-// One for a shift other than by 0.
+// 1 for a shift other than by 0, otherwise 0.
 fn shifts_in(act: Act) -> u32
     ensures { result ≡ shifts_in act }
 {
@@ -104,7 +104,7 @@ fn shifts_in(act: Act) -> u32
     }
 }
 
-// How many of the writes are new.
+// The number of the quadruple's writes that are new.
 fn new_writes(quads: &[Quad], index: usize, quad: &Quad) -> u32
     requires inside { index < length quads.now }
     ensures new { IsCount (IsNew quads.now index (ShowsWrite quad.now)) result }
@@ -117,7 +117,7 @@ fn new_writes(quads: &[Quad], index: usize, quad: &Quad) -> u32
         + new_write(quads, index, quad.next, 3, symbols(two, one), three)
 }
 
-// One for a write that is new.
+// 1 for a write that is new, otherwise 0.
 fn new_write(
     quads: &[Quad],
     index: usize,

@@ -1,4 +1,4 @@
-//! What a control is made of, and its parts.
+//! The data from which a control is built, and the parts built from them.
 ghost use Rattle.std.specs.Prelude.{◌≡◌};
 
 use crate::finite::lines_before;
@@ -11,8 +11,9 @@ use crate::states::number_of;
 use bn_rsm::{NoMemory, Rsm};
 use std::alloc::{AllocError, Global};
 
-/// What a control is made of: the numbers of symbols of a machine of quadruples, what is sent first in each of its
-/// states, the control's moves by names, some maybe twice, and its states, each at its number.
+/// The data from which a control is built: the number of symbols of each tape of a machine of quadruples, the first
+/// command of each of its states, the control's moves by names, possibly with repetitions, and the control's states,
+/// each at its number.
 #[derive(Drop)]
 pub(crate) struct Draft {
     pub(crate) symbols: [u32; 3],
@@ -47,8 +48,8 @@ impl Draft {
         Rsm::new(alloc, states.len() as u32, lines, moves)
     }
 
-    /// For each state of the machine of quadruples the control's state that awaits the answer to its first command,
-    /// and the output line of that command.
+    /// For each state of the machine of quadruples, the control's state that waits for the reply to its first
+    /// command, and the output port of that command.
     pub(crate) fn firsts(&self, alloc: Global) -> Result<Vec<Option<(u32, u32)>>, AllocError>
         requires { IsSomeDraft self.now }
         ensures { (m : Quadruples) → IsDraft m self.now
@@ -61,7 +62,7 @@ impl Draft {
         Ok(firsts)
     }
 
-    // What is kept of a first command.
+    // The state and output port recorded for a first command.
     fn first(&self, entry: &Sending) -> Option<(u32, u32)>
         requires { IsSomeEntry self.now entry.now }
         ensures { (m : Quadruples) (a : ℕ) → IsDraft m self.now → IsFirstSent m a entry.now
@@ -76,7 +77,8 @@ impl Draft {
         }
     }
 
-    /// For each state of the control the state of the machine of quadruples and the tape whose first read it awaits.
+    /// For each state of the control, the state of the machine of quadruples and the tape for whose first read it
+    /// waits.
     pub(crate) fn awaited(&self, alloc: Global) -> Result<Vec<Option<(u32, u32)>>, AllocError>
         requires { IsSomeDraft self.now }
         ensures awaited { (m : Quadruples) → IsDraft m self.now
@@ -90,7 +92,7 @@ impl Draft {
         Ok(awaited)
     }
 
-    // The state of the machine and the tape whose first read this state awaits.
+    // The state of the machine and the tape for whose first read this state waits.
     fn awaited_by(&self, state: StateName) -> Option<(u32, u32)>
         requires { OccursInDraft self.now state }
         ensures tells { (m : Quadruples) → IsDraft m self.now → Occurs m (state_of state) → IsProper state

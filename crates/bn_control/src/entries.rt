@@ -12,7 +12,7 @@ use bn_network::CellLine;
 use bn_quad::QuadMachine;
 use std::alloc::{AllocError, Global};
 
-/// What a control sends first in each state of the machine.
+/// The first command in each state of the machine.
 pub(crate) fn entries_of(alloc: Global, machine: &QuadMachine) -> Result<Vec<Sending>, AllocError>
     requires { IsUniformMachine machine.now }
     ensures entries { IfOk result (λ v. AreEntries machine.now v.items) }
@@ -26,7 +26,7 @@ pub(crate) fn entries_of(alloc: Global, machine: &QuadMachine) -> Result<Vec<Sen
     Ok(entries)
 }
 
-// What would be sent first in each state if no quadruple left it.
+// The first command in each state if no quadruple left the state.
 fn waiting_entries(alloc: Global, states: u32, final_state: u32) -> Result<Vec<Sending>, AllocError>
     ensures { IfOk result (λ v. v.items ≡ map (waiting final_state) (range_with_len 0 states)) }
 {
@@ -35,7 +35,7 @@ fn waiting_entries(alloc: Global, states: u32, final_state: u32) -> Result<Vec<S
         .collect(alloc)
 }
 
-// In the final state the signal leaves; another state reads tape 1.
+// In the final state the signal leaves; in another state tape 1 is read.
 fn waiting(final_state: u32, state: u32) -> Sending
     ensures { result ≡ waiting final_state state }
 {

@@ -1,4 +1,4 @@
-//! A control: a sequential machine, with what its states stand for.
+//! A control: a sequential machine, and what its states mean.
 
 ghost use Rattle.std.specs.Prelude.{◌≡◌, ◌<◌, ◌≤◌, All};
 ghost use Rattle.bn_network.specs.Controls.{lines_before};
@@ -8,10 +8,10 @@ use bn_network::MOST_SYMBOLS;
 use bn_rsm::Rsm;
 use std::marker::Model;
 
-/// The finite control of a machine of quadruples (this project's own profile): the sequential machine, and beside it
-/// what its states say of the machine of quadruples. Callers see the sequential machine, the numbers of symbols, for
-/// each state of the machine of quadruples its first command, and for each state of the control the first read that
-/// it awaits. States, symbols and lines are counted from 0, tapes from 1.
+/// The finite control of a machine of quadruples (own to this project): the sequential machine, and what its states
+/// mean for the machine of quadruples. Contracts mention the sequential machine, the numbers of symbols, the first
+/// command of each state of the machine of quadruples, and for each state of the control the first read for whose
+/// reply it waits. States, symbols and ports are counted from 0, tapes from 1.
 #[derive(Drop)]
 pub struct Control {
     rsm: Rsm,
@@ -66,15 +66,15 @@ impl Control {
         &self.rsm
     }
 
-    /// How many states the machine of quadruples has. (The control itself has others, and more.)
+    /// The number of states of the machine of quadruples. (The control itself has other and more states.)
     pub fn quad_states(&self) -> u32
         ensures { result ≡ length self.now.firsts }
     {
         self.firsts.len() as u32
     }
 
-    /// The first command of a state of the machine of quadruples: the control's state that awaits its answer, and the
-    /// output line by which it is given. `None` comes exactly for the final state. It takes no memory.
+    /// The first command of a state of the machine of quadruples: the control's state that waits for its reply, and
+    /// the output port by which it is sent. `None` exactly for the final state. It takes no memory.
     pub fn first_command(&self, state: u32) -> Option<(u32, u32)>
         requires { state < length self.now.firsts }
         ensures { slice_get self.now.firsts state ≡ Some result }
@@ -82,8 +82,8 @@ impl Control {
         self.firsts[state as usize]
     }
 
-    /// The state of the machine of quadruples whose first read this state of the control awaits, and the tape that is
-    /// read. `None` comes exactly where it awaits no first read. It takes no memory.
+    /// The state of the machine of quadruples for whose first read this state of the control waits, and the tape that
+    /// is read. `None` exactly if it waits for no first read. It takes no memory.
     pub fn awaited(&self, state: u32) -> Option<(u32, u32)>
         requires { state < self.now.machine.states }
         ensures kept { slice_get self.now.awaited state ≡ Some result }
@@ -92,8 +92,9 @@ impl Control {
         self.awaited[state as usize]
     }
 
-    /// Where the machine of quadruples is stuck: its state and the symbol that is scanned, exactly where this state of
-    /// the control awaits a first read, this input line answers it, and the control has no move. It takes no memory.
+    /// The state and the scanned symbol at which the machine of quadruples is stuck: `Some` exactly if this state of
+    /// the control waits for a first read, this input port carries a reply to it, and the control has no move. It
+    /// takes no memory.
     pub fn stuck_of(&self, state: u32, line: u32) -> Option<(u32, u32)>
         requires state { state < self.now.machine.states }
         requires line { line < self.now.machine.lines }
@@ -111,7 +112,7 @@ impl Control {
         Some((from, symbol))
     }
 
-    // The symbol of which this input line tells that a tape has it, if it tells a symbol of that tape.
+    // The symbol of this tape that this input port reports, if it reports one.
     fn answered(&self, tape: u32, line: u32) -> Option<u32>
         requires first { 1 ≤ tape }
         requires last { tape ≤ 3 }
@@ -127,7 +128,7 @@ impl Control {
     }
 }
 
-// How many lines of a control come before those of the tape after this one; tape 0 is the outside.
+// The number of a control's ports before those of the tape after this one; tape 0 is the outside.
 pub(crate) fn lines_before(symbols: &[u32; 3], tape: u32) -> u32
     requires tape { tape ≤ 3 }
     requires few { All (λ z. z ≤ MOST_SYMBOLS) symbols.now }

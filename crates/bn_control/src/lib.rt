@@ -1,5 +1,5 @@
-//! The finite control of a uniform machine of quadruples, as a reversible sequential machine; and the names of its
-//! states, in their order: what each column of the control's bank on a board stands for.
+//! The finite control of a uniform machine of quadruples, as a reversible sequential machine, and the names of its
+//! states in order, one for each column of the control's bank in a circuit.
 #![tactic(auto)]
 
 mod command;

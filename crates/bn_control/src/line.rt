@@ -1,24 +1,24 @@
-//! The lines of a control, and what it sends by them.
+//! The ports of a control, and what it sends by them.
 
 use crate::finite::lines_before;
 use crate::name::StateName;
 use bn_network::{CellLine, MOST_SYMBOLS};
 
-/// A line of a control, in or out.
+/// A port of a control, in or out.
 #[derive(Clone, Copy, PartialEq, Eq, Debug)]
 pub(crate) enum Line {
-    /// From the outside, or to it.
+    /// From or to the outside.
     Outside,
-    /// From a tape, counted from 1, or to it: on this line of its cells.
+    /// From or to a tape, counted from 1: the port of its cells.
     Tape(u32, CellLine),
 }
 
-/// What a control sends: by which line, and the state in which it awaits the answer.
+/// What a control sends: the output port, and the state in which it waits for the reply.
 #[derive(Clone, Copy, PartialEq, Eq, Debug)]
 pub(crate) struct Sending {
-    /// The state in which the answer is awaited.
+    /// The state in which the control waits for the reply.
     pub(crate) state: StateName,
-    /// The output line.
+    /// The output port.
     pub(crate) line: Line,
 }
 
@@ -29,7 +29,7 @@ impl Line {
     ghost use Rattle.bn_control.specs.Commands.{line_of};
     ghost use Rattle.bn_control.specs.Numbered.{IsWithin};
 
-    /// Its number as an input line, where the tapes have so many symbols.
+    /// Its number as an input port, counted from 0, if the tapes have these numbers of symbols.
     pub(crate) fn in_number(self, symbols: &[u32; 3]) -> u32
         requires within { IsWithin symbols.now self }
         requires few { All (λ z. z ≤ MOST_SYMBOLS) symbols.now }
@@ -49,7 +49,7 @@ impl Line {
         lines_before(symbols, tape - 1) + offset
     }
 
-    /// Its number as an output line, where the tapes have so many symbols.
+    /// Its number as an output port, counted from 0, if the tapes have these numbers of symbols.
     pub(crate) fn out_number(self, symbols: &[u32; 3]) -> u32
         requires within { IsWithin symbols.now self }
         requires few { All (λ z. z ≤ MOST_SYMBOLS) symbols.now }

@@ -1,4 +1,4 @@
-//! Controls are made here.
+//! The control of a machine of quadruples.
 ghost use Rattle.std.specs.Prelude.{◌≡◌, ℕ, List, IfOk, OnOk};
 ghost use Rattle.bn_quad.specs.Quadruples.{IsQuadMachine};
 ghost use Rattle.bn_quad.specs.Calls.{IsUniformMachine};
@@ -15,7 +15,7 @@ use bn_quad::{QuadMachine, Uniform};
 use bn_rsm::NoMemory;
 use std::alloc::{AllocError, Global};
 
-/// The most quadruples that a machine may have of which a control is made.
+/// The most quadruples that a machine with a control may have.
 pub const MOST_QUADRUPLES: u32 = 20_000;
 
 /// The most states that such a machine may have.
@@ -27,8 +27,8 @@ pub fn most_quadruples_are_stated()
     ensures states { MOST_STATES ≡ 40000 }
 {}
 
-/// The finite control of a uniform machine of quadruples, with its states in their order and its lines tape by tape.
-/// `Err` comes only for want of memory. Its contract also tells what the machine keeps.
+/// The finite control of a uniform machine of quadruples, with its states in their order and its ports tape by tape.
+/// `Err`: out of memory. The contract also states what holds for the machine.
 pub fn control(alloc: Global, machine: &Uniform) -> Result<Control, NoMemory>
     requires { IsWithinLimits machine.now }
     ensures made { IfOk result (λ c. (names : List ControlState) × IsControlOf machine.now names c) }
@@ -42,7 +42,7 @@ pub fn control(alloc: Global, machine: &Uniform) -> Result<Control, NoMemory>
     Ok(Control::new(rsm, draft.symbols, firsts, awaited))
 }
 
-// What the control is made of.
+// The data from which the control is built.
 fn draft_of(alloc: Global, machine: &QuadMachine) -> Result<Draft, AllocError>
     requires limits { IsWithinLimits machine.now }
     requires uniform { IsUniformMachine machine.now }
@@ -59,7 +59,7 @@ fn draft_of(alloc: Global, machine: &QuadMachine) -> Result<Draft, AllocError>
     })
 }
 
-// How many symbols each tape has, tape 1 first.
+// The number of symbols of each tape, tape 1 first.
 fn symbols_of(machine: &QuadMachine) -> [u32; 3]
     requires { IsQuadMachine machine.now }
     ensures { result ≡ machine.now.symbols }

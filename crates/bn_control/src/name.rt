@@ -2,45 +2,46 @@
 
 use std::cmp::Reverse;
 
-/// At most two symbols, in a row, counted from 0; they are ordered as words are, an earlier end first.
+/// At most two symbols, in a row, counted from 0. The order is the lexicographic one; a word comes before its
+/// extensions.
 #[derive(Clone, Copy, PartialEq, Eq, PartialOrd, Ord, Debug)]
 pub enum Symbols {
     /// No symbol.
     Empty,
-    /// A first symbol, and maybe a second one.
+    /// A first symbol, and possibly a second one.
     Leading(u32, Option<u32>),
 }
 
-/// The name of a state of a control. Their order is that of the states' numbers.
+/// The name of a state of a control. The order of the names is that of the states' numbers.
 #[derive(Clone, Copy, PartialEq, Eq, PartialOrd, Ord, Debug)]
 pub enum StateName {
-    /// Before all.
+    /// Before the start.
     Begin,
     /// In the machine's final state.
     End,
-    /// Awaiting the answer to a read.
+    /// Waiting for the reply to a read.
     Reads {
-        /// The state of the machine of quadruples in which it reads, counted from 0.
+        /// The state of the machine of quadruples, counted from 0, in which the control reads.
         state: u32,
-        /// How many symbols were read before.
+        /// The number of symbols already read.
         count: u32,
-        /// These symbols, those of lower tapes first.
+        /// These symbols, lower tapes first.
         before: Symbols,
     },
-    /// Awaiting the answer to a shift.
+    /// Waiting for the reply to a shift.
     Shifts {
         /// The quadruple, counted from 1.
         quadruple: u32,
         /// The tape, counted from 1.
         tape: u32,
     },
-    /// Awaiting the answer to a write.
+    /// Waiting for the reply to a write.
     Writes {
-        /// The state of the machine of quadruples into which it leads, counted from 0.
+        /// The state of the machine of quadruples, counted from 0, to which the quadruple leads.
         state: u32,
         /// The tape, counted from 1.
         tape: Reverse<u32>,
-        /// The symbols that are still to be written, those of higher tapes first.
+        /// The symbols still to be written, higher tapes first.
         rest: Symbols,
     },
 }
@@ -49,7 +50,7 @@ impl Symbols {
     ghost use Rattle.std.specs.Prelude.{◌≡◌, length};
     ghost use Rattle.bn_control.specs.Names.{listed};
 
-    /// How many there are.
+    /// The number of symbols, 0 to 2.
     pub(crate) fn len(self) -> u32
         ensures { result ≡ length (listed self) }
     {

@@ -11,18 +11,18 @@ use crate::name::StateName;
 use bn_quad::QuadMachine;
 use std::alloc::{AllocError, Global};
 
-/// A move of a control: in this state, by this input line, what it sends.
+/// A move of a control: the state, the input port, and what is sent.
 #[derive(Clone, Copy, PartialEq, Eq, Debug)]
 pub(crate) struct NamedMove {
     /// The state in which the move is made.
     pub(crate) state: StateName,
-    /// The input line by which the signal comes.
+    /// The input port at which the signal arrives.
     pub(crate) line: Line,
     /// What is sent.
     pub(crate) to: Sending,
 }
 
-/// The moves of the control of a machine, where these are its first commands. Some may stand twice.
+/// The moves of the control of a machine with these first commands, possibly with repetitions.
 pub(crate) fn named_moves(
     alloc: Global,
     machine: &QuadMachine,
@@ -47,7 +47,7 @@ pub(crate) fn named_moves(
     Ok(moves)
 }
 
-// The moves from command to command of a quadruple, and at last to this.
+// The moves from each command of a quadruple to the next, and from the last one to `last`.
 fn push_moves(
     moves: &mut Vec<NamedMove>,
     commands: &[Command],

@@ -15,7 +15,7 @@ use bn_quad::{Quad, QuadMachine};
 use std::alloc::{AllocError, Global};
 
 /// The names of the states of the control of a machine of quadruples, each at its state's number, counted from 0.
-/// `Err` comes only for want of memory.
+/// `Err`: out of memory.
 pub fn state_names(alloc: Global, machine: &QuadMachine) -> Result<Vec<StateName>, NoMemory>
     ensures { IfOk result (λ v. IsNumbering machine.now (map state_of v.items)) }
 {
@@ -28,7 +28,8 @@ pub fn state_names(alloc: Global, machine: &QuadMachine) -> Result<Vec<StateName
     Ok(ordered)
 }
 
-// The names of the states that wait for ever: one for each state that isn't final and that no quadruple leaves.
+// The names of the open states, which wait for tape 1 and have no move: one for each state of the machine that is not
+// final and that no quadruple leaves.
 fn push_open(names: &mut Vec<StateName>, machine: &QuadMachine) -> Result<(), AllocError>
     ensures { OnOk result ((opened : List StateName) × AreOpen machine.now machine.now.states opened
         × (names.new.items ≡ names.old.items ++ opened)) }
@@ -71,7 +72,7 @@ fn push_quads(alloc: Global, names: &mut Vec<StateName>, quads: &[Quad]) -> Resu
     Ok(())
 }
 
-// The names of the states that await the answers to these commands.
+// The names of the states that wait for the replies to these commands.
 fn push_states(names: &mut Vec<StateName>, commands: &[Command]) -> Result<(), AllocError>
     ensures { OnOk result (names.new.items ≡ names.old.items ++ map (λ c. c.sending.state) commands.now) }
 {

@@ -17,15 +17,15 @@ use std::alloc::{AllocError, Global};
 pub(crate) struct Move {
     /// The state in which the move is made.
     pub(crate) state: u32,
-    /// The input line by which the signal comes in.
+    /// The input port at which the signal arrives.
     pub(crate) line: u32,
     /// The state after the move.
     pub(crate) next: u32,
-    /// The output line by which the signal goes out.
+    /// The output port by which the signal leaves.
     pub(crate) out: u32,
 }
 
-/// The moves in numbers, in the order in which they are given.
+/// The moves in numbers, in the given order.
 pub(crate) fn in_numbers(
     alloc: Global,
     states: &[StateName],
@@ -51,7 +51,7 @@ pub(crate) fn in_numbers(
     Ok(numbered)
 }
 
-/// The moves as a sequential machine has them.
+/// The moves in the form of a sequential machine.
 pub(crate) fn rsm_moves(alloc: Global, moves: &[Move]) -> Result<Vec<RsmMove>, AllocError>
     ensures { IfOk result (λ v. v.items ≡ map rsm_move moves.now) }
 {
@@ -59,7 +59,7 @@ pub(crate) fn rsm_moves(alloc: Global, moves: &[Move]) -> Result<Vec<RsmMove>, A
 }
 
 impl Move {
-    // The move as a sequential machine has it.
+    // The move in the form of a sequential machine.
     fn rsm_move(&self) -> RsmMove
         ensures { result ≡ rsm_move self.now }
     {

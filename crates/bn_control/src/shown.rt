@@ -8,7 +8,7 @@ ghost use Rattle.bn_control.specs.Shown.{IsShownBefore};
 use crate::name::Symbols;
 use bn_quad::{Act, Quad};
 
-/// Those of two symbols that are there, in a row.
+/// Those of the two symbols that exist, in a row.
 pub(crate) fn symbols(first: Option<u32>, second: Option<u32>) -> Symbols
     ensures { result ≡ symbols_of first second }
 {
@@ -19,7 +19,7 @@ pub(crate) fn symbols(first: Option<u32>, second: Option<u32>) -> Symbols
     }
 }
 
-/// The symbol that an act writes.
+/// The symbol that an act writes, if it writes.
 pub(crate) fn written(act: Act) -> Option<u32>
     ensures { result ≡ written act }
 {
@@ -29,7 +29,7 @@ pub(crate) fn written(act: Act) -> Option<u32>
     }
 }
 
-// Whether this is a read, after these symbols.
+// Whether this is a read after these symbols.
 fn is_read(lower: Symbols, read: Option<u32>, before: Symbols) -> bool
     ensures yes { (from : ℕ) → result ≡ true → IsReadState from (listed lower) read (Reads from (listed before)) }
     ensures no { (from : ℕ) → result ≡ false → IsReadState from (listed lower) read (Reads from (listed before)) → ⊥ }
@@ -37,7 +37,7 @@ fn is_read(lower: Symbols, read: Option<u32>, before: Symbols) -> bool
     read.is_some() && lower == before
 }
 
-// Whether a quadruple of this state has a read after these symbols.
+// Whether the quadruple leaves this state and has a read after these symbols.
 fn shows_read(quad: &Quad, from: u32, before: Symbols) -> bool
     ensures yes { result ≡ true → ShowsRead quad.now (Reads from (listed before)) }
     ensures no { result ≡ false → ShowsRead quad.now (Reads from (listed before)) → ⊥ }
@@ -49,7 +49,7 @@ fn shows_read(quad: &Quad, from: u32, before: Symbols) -> bool
             || is_read(symbols(one, two), three, before))
 }
 
-// Whether this is a write, on this tape and before these symbols.
+// Whether this is a write on this tape with these symbols still to be written.
 fn is_write(slot: u32, lower: Symbols, written: Option<u32>, tape: u32, rest: Symbols) -> bool
     ensures yes { (to : ℕ) → result ≡ true
         → IsWriteState to slot (listed lower) written (Writes to tape (listed rest)) }
@@ -59,7 +59,7 @@ fn is_write(slot: u32, lower: Symbols, written: Option<u32>, tape: u32, rest: Sy
     written.is_some() && slot == tape && lower == rest
 }
 
-// Whether a quadruple into this state has a write on this tape before these symbols.
+// Whether the quadruple leads to this state and has a write on this tape with these symbols still to be written.
 fn shows_write(quad: &Quad, to: u32, tape: u32, rest: Symbols) -> bool
     ensures yes { result ≡ true → ShowsWrite quad.now (Writes to tape (listed rest)) }
     ensures no { result ≡ false → ShowsWrite quad.now (Writes to tape (listed rest)) → ⊥ }
@@ -72,7 +72,7 @@ fn shows_write(quad: &Quad, to: u32, tape: u32, rest: Symbols) -> bool
             || is_write(3, symbols(two, one), three, tape, rest))
 }
 
-/// Whether one of the first quadruples, so many, has a read in this state after these symbols.
+/// Whether one of the first `count` quadruples has a read in this state after these symbols.
 pub(crate) fn is_read_before(quads: &[Quad], count: usize, from: u32, before: Symbols) -> bool
     requires { count ≤ length quads.now }
     ensures yes { result ≡ true → IsShownBefore quads.now count (Reads from (listed before)) }
@@ -86,8 +86,8 @@ pub(crate) fn is_read_before(quads: &[Quad], count: usize, from: u32, before: Sy
     false
 }
 
-/// Whether one of the first quadruples, so many, has a write on this tape before these symbols, on the way into this
-/// state.
+/// Whether one of the first `count` quadruples leads to this state and has a write on this tape with these symbols
+/// still to be written.
 pub(crate) fn is_written_before(
     quads: &[Quad],
     count: usize,

@@ -32,7 +32,7 @@ pub(crate) fn states_of(
     Ok(ordered)
 }
 
-// The states that await the answers to first commands.
+// The states that wait for the replies to first commands.
 fn push_awaiting(states: &mut Vec<StateName>, entries: &[Sending]) -> Result<(), AllocError>
     ensures { OnOk result (states.new.items ≡ states.old.items ++ map (λ s. s.state) entries.now) }
 {
@@ -42,7 +42,7 @@ fn push_awaiting(states: &mut Vec<StateName>, entries: &[Sending]) -> Result<(),
     Ok(())
 }
 
-// The states in which there are moves.
+// The states in which the control has moves.
 fn push_moving(states: &mut Vec<StateName>, moves: &[NamedMove]) -> Result<(), AllocError>
     ensures { OnOk result (states.new.items ≡ states.old.items ++ map (λ x. x.state) moves.now) }
 {

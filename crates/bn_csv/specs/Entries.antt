@@ -2,9 +2,8 @@
 use Rattle.std.specs.Prelude.{ℕ, List, [], slice_index_or}
 use Rattle.csv.specs.Reading.{default_config, records, strip_bom}
 
--- all entries of some bytes, each the list of its fields: a byte order mark at the start is taken off, commas
--- separate fields, a carriage return, a line feed or both end an entry, lines with nothing are no entries, and
--- quotes are read
+-- all entries of some bytes, each the list of its fields: a byte order mark at the start is dropped, commas separate
+-- fields, a carriage return, a line feed or both end an entry, empty lines are not entries, and quotes are read
 unfoldable pub entries_of : List ℕ → List (List (List ℕ))
 entries_of bytes = records default_config (strip_bom bytes)
 

@@ -1,4 +1,4 @@
--- What a csv reader over a slice has left, and what it keeps between two records.
+-- The records that a csv reader over a slice has left, and its invariant between two records.
 use Rattle.std.specs.Prelude.{◌≡◌, ◌+◌, ◌||◌, ◌&&◌, not, ℕ, true, List, [], length}
 use Rattle.std.specs.Prelude.{Option, Some, None, is_some, is_none}
 use Rattle.std.proofs.Common.{Bor}
@@ -21,7 +21,7 @@ records_left state (Some bytes) = records_from default_config (length bytes + 1)
 abbrev pub left_of : Reader (Bor (List ℕ)) → List (List (List ℕ))
 left_of reader = records_left (reader_state reader) (unread reader)
 
--- what a reader of entries keeps: how it reads, that its next record is an entry, and that its bytes are known
+-- the invariant of a reader of entries: its settings are these, its next record is an entry, and its bytes are known
 pub record IsReading (reader : Reader (Bor (List ℕ))) : Type 0 where
   pub untrimmed : reader_trim reader ≡ trim.None
   pub plain : reader_config reader ≡ default_config

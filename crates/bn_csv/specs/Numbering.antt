@@ -13,7 +13,7 @@ firsts_by same (x ∷ xs) = x ∷ filter (λ y. not (same x y)) (firsts_by same 
 abbrev pub firsts : List (List ℕ) → List (List ℕ)
 firsts names = firsts_by bytes_eq names
 
--- these names and, where it is new, one more at the end
+-- these names and, if the name is new, this name at the end
 abbrev pub with_name : List (List ℕ) → List ℕ → List (List ℕ)
 with_name names name = if list_any (bytes_eq name) names then names else names ++ name ∷ []
 
@@ -26,12 +26,13 @@ unfoldable pub numbers_from : ℕ → ℕ → List ℕ
 numbers_from first zero = []
 numbers_from first (suc count) = first ∷ numbers_from (suc first) count
 
--- numbers are given by first appearance: the first of all is 0, each new one is the next, and those below the
--- count, and no others, appear
+-- numbers are assigned by first appearance: the first is 0, each new one is the next, and exactly the numbers below the
+-- count appear
 abbrev pub AreNumberedByFirst : List ℕ → ℕ → Type 0
 AreNumberedByFirst numbers count = firsts_by nat_eq numbers ≡ numbers_from 0 count
 
--- what a numbering by first appearance keeps: each name of the list has a number, and no two numbers one name
+-- the properties of a numbering by first appearance: each name of the list has exactly one number, and a further name
+-- is added at the end if it is new
 pub record AreNumbered (names numbered : List (List ℕ)) : Type 0 where
   pub each : (name : List ℕ) → Contains names name → (number : ℕ) × HasNumber numbered name number
   pub apart : (name : List ℕ) (m n : ℕ) → HasNumber numbered name m → HasNumber numbered name n → m ≡ n

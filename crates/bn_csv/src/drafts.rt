@@ -9,7 +9,7 @@ use crate::entries::{Entries, Entry};
 use bn_lists::NoMemory;
 use std::alloc::Global;
 
-/// A table that is being read. It takes one entry after another, each by its number, counted from 1.
+/// A table that is being read. It receives one entry after another, each with its number, counted from 1.
 pub trait TableDraft: Drop {
     ghost use Rattle.bn_lists.specs.declared.memory.NoMemory.{NoMemory};
 
@@ -21,26 +21,26 @@ pub trait TableDraft: Drop {
 
     ghost MOST_ENTRIES: { ℕ };
 
-    /// Whether it holds just what its entries say.
+    /// The draft contains exactly what its entries define.
     ghost is_draft: { Self → Type 0 };
 
     /// The entries that it has taken.
     ghost taken: { Self → List (List (List ℕ)) };
 
-    /// The fault of an entry's fields, where they have one, by its number.
+    /// The fault of the fields of the entry with this number, if they have one.
     ghost form_fault: { ℕ → List (List ℕ) → Option Self.Refusal };
 
-    /// The refusal of the entry with a number that comes after the most.
+    /// The refusal of the entry with this number if it exceeds the most entries.
     ghost too_many: { ℕ → Self.Refusal };
 
-    /// The refusal where memory ran out.
+    /// The refusal if memory ran out.
     ghost no_memory: { Self.Refusal };
 
-    /// The refusal of an entry that comes after the most.
+    /// The refusal of the entry with this number, one more than the most entries.
     fn too_many(entry: u32) -> Self::Refusal
         ensures { result ≡ too_many entry };
 
-    /// Takes the next entry, or answers the first fault of its fields.
+    /// Adds the next entry, or returns the first fault of its fields.
     fn add_entry(&mut self, entry: &Entry, number: u32) -> Result<(), Self::Refusal>
         requires draft { is_draft self.old }
         requires number { number ≡ length (taken self.old) + 1 }
@@ -49,12 +49,12 @@ pub trait TableDraft: Drop {
         ensures passes { OnOk result (form_fault number entry.now ≡ None) }
         ensures fault { IfErr result (λ e. e ≢ no_memory → form_fault number entry.now ≡ Some e) };
 
-    /// Want of memory is told as such.
+    /// `NoMemory` is reported as the refusal `no_memory`.
     ghost wants: { (n : NoMemory) (e : Self.Refusal) → Self.Refusal.from_gives n e → e ≡ no_memory };
 }
 
-/// Reads the entries of some bytes into a draft that has none. It has taken all of them then, or one is refused: each
-/// refusal but that of want of memory is the first fault of the first faulty entry.
+/// Reads the entries of some bytes into an empty draft. On success the draft contains all of them. Each refusal, other
+/// than that memory ran out, is the first fault of the first faulty entry.
 pub fn read_entries<D: TableDraft>(
     alloc: Global,
     bytes: &[u8],

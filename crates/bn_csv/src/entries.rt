@@ -61,8 +61,8 @@ impl Entry {
     }
 }
 
-// Takes the next record, if there is one. A reader over a slice has no device that could fail, so the one
-// error that its contract leaves open is answered as want of memory.
+// Reads the next record, if there is one. A reader over a slice has no device that could fail. Therefore the one error
+// that its contract leaves open is returned as `NoMemory`.
 fn take_record(reader: &mut Reader<&[u8]>, row: &mut ByteRecord) -> Result<bool, NoMemory>
     requires { IsReading reader.old }
     ensures more { IfOk result (λ found.
@@ -98,7 +98,7 @@ impl<'a> Model for Entries<'a> {
 }
 
 impl<'a> Entries<'a> {
-    /// A reader of all entries of `bytes`. It takes no memory.
+    /// A reader of all entries of `bytes`. Allocates no memory.
     pub fn new(alloc: Global, bytes: &'a [u8]) -> Entries<'a>
         ensures { result ≡ entries_of bytes.now }
     {
@@ -112,7 +112,7 @@ impl<'a> Entries<'a> {
         }
     }
 
-    /// Reads the next entry into `entry`, and answers whether there was one. After `NoMemory` there is none left.
+    /// Reads the next entry into `entry`, and returns whether there was one. After `NoMemory` no entry is left.
     pub fn read_entry(&mut self, entry: &mut Entry) -> Result<bool, NoMemory>
         ensures ok { IfOk result (λ found.
             MatchBool found (self.old ≡ entry.new ∷ self.new) ((self.old ≡ []) × (self.new ≡ []))) }

@@ -1,5 +1,5 @@
-//! What this project's readers and writers of csv tables share: the entries of some bytes, the forms of
-//! names and symbols, numbering by first appearance, and one line of text for each entry.
+//! The shared parts of this project's readers and writers of csv tables: the entries of some bytes, the forms of names
+//! and symbols, numbering by first appearance, and one line of text for each entry.
 #![tactic(auto)]
 
 mod drafts;

@@ -42,7 +42,7 @@ fn put_entry(writer: &mut Writer<Vec<u8>>, fields: &[&[u8]]) -> Result<(), NoMem
 }
 
 impl EntryWriter {
-    /// A writer of a new text. It takes no memory.
+    /// A writer of a new text. Allocates no memory.
     pub fn new(alloc: Global) -> EntryWriter
         ensures { result ≡ [] }
     {

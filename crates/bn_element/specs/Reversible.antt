@@ -1,5 +1,5 @@
--- The proof of the law that the rotary element hands to the trait, which the toolchain wants beside the definitions: a
--- table by a list of moves is reversible where the moves are one to one and in range.
+-- The proof of the law that the trait requires of the rotary element; the toolchain requires it in `specs`. A table
+-- that a list of moves gives is reversible if the moves are one to one and in range.
 use Rattle.std.specs.Prelude.{◌≡◌, ℕ, ◌<◌, ◌==◌, ◌&&◌, true, false, List, [], ◌∷◌, Some, None, ◌⊎◌, refl}
 use Rattle.std.proofs.Common.{inl, inr, arith}
 use Rattle.std.proofs.lemmas.Bool.Decides.{eqb_tells}

@@ -1,6 +1,6 @@
 -- The rotary element. Its bar lies along west and east (state H) or along north and south (state V). A signal that
--- comes in along the bar goes straight on and changes nothing; one that comes in across the bar turns right and turns
--- the bar. The idea and the name are Morita's (2017); the names of lines and states are this project's own profile.
+-- enters along the bar goes straight on and changes nothing; one that enters across the bar turns right and turns the
+-- bar. The idea and the name are Morita's (2017); the names of ports and states are this project's own profile.
 use Rattle.std.specs.Prelude.{ℕ, List, [], ◌∷◌}
 use Rattle.bn_element.specs.Tables.{Table, Move, table_by}
 
@@ -11,7 +11,7 @@ horizontal = 0
 abbrev pub vertical : ℕ
 vertical = 1
 
--- the four lines, in and out
+-- the four ports, in and out
 abbrev pub north : ℕ
 north = 0
 
@@ -24,11 +24,11 @@ south = 2
 abbrev pub west : ℕ
 west = 3
 
--- a move: in this state, in by this line, to that state, out by that line
+-- a move: in this state, in by this port, to that state, out by that port
 abbrev pub moves : ℕ → ℕ → ℕ → ℕ → Move
 moves state input next output = record { state = state; input = input; next = next; output = output }
 
--- the eight rows
+-- the eight moves
 abbrev pub rotary_moves : List Move
 rotary_moves =
     moves horizontal north vertical west

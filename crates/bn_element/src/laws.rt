@@ -1,4 +1,4 @@
-//! Laws over the definitions alone. The function does nothing: what it ensures is a theorem on the rotary element.
+//! A law on the definitions alone. The function does nothing: its contract is a theorem on the rotary element.
 
 ghost use Rattle.bn_element.specs.Inverse.{RotaryIsItsInverse};
 

@@ -8,21 +8,21 @@ pub const HORIZONTAL: u32 = 0;
 /// The state of a rotary element whose bar lies along north and south.
 pub const VERTICAL: u32 = 1;
 
-/// The north line of a rotary element, in and out.
+/// The north port of a rotary element, in and out.
 pub const NORTH: u32 = 0;
 
-/// The east line of a rotary element, in and out.
+/// The east port of a rotary element, in and out.
 pub const EAST: u32 = 1;
 
-/// The south line of a rotary element, in and out.
+/// The south port of a rotary element, in and out.
 pub const SOUTH: u32 = 2;
 
-/// The west line of a rotary element, in and out.
+/// The west port of a rotary element, in and out.
 pub const WEST: u32 = 3;
 
-/// The rotary element: two states, four lines both ways. A signal along the bar goes straight on; a
-/// signal across the bar turns right and turns the bar. Every pair has a move. (The idea and the
-/// name are from Morita 2017; the names of lines and states are this project's own profile.)
+/// The rotary element: two states, four input ports and four output ports. A signal along the bar goes straight on; a
+/// signal across the bar turns right and turns the bar. Every pair has a move. (The idea and the name are from Morita
+/// 2017; the names of ports and states are this project's own profile.)
 #[derive(Clone, Copy, Debug)]
 pub struct Rotary;
 

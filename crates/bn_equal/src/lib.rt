@@ -1,5 +1,5 @@
-//! Equality of states of reversible sequential machines: whether two states answer every sequence of input lines alike,
-//! and the least sequence that tells them apart.
+//! Equality of states of reversible sequential machines: whether two states return the same outputs for every sequence
+//! of input ports, and the least sequence that distinguishes them.
 #![tactic(auto)]
 
 mod apart;

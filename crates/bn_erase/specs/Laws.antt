@@ -1,4 +1,4 @@
--- What the laws of this crate say, each a field of `Laws`.
+-- The statements of this crate's laws, each a field of `Laws`.
 use Rattle.std.specs.Prelude.{◌≡◌, ◌↔◌, ℕ, ◌+◌, ◌*◌, List, length}
 use Rattle.bn_lists.specs.Runs.{Reaches}
 use Rattle.bn_machine.specs.Machine.{Program}
@@ -24,29 +24,29 @@ use Rattle.bn_erase.specs.Existence.{ErasingsAreThere}
 
 -- ---- one alphabet
 
--- with other numbers for its symbols, that keep them apart and the blank the blank, a machine in standard form is one
--- in standard form
+-- if the symbols of a machine in standard form are renumbered, with distinct numbers and the blank unchanged, the
+-- result is a machine in standard form
 abbrev pub RecodedIsStandard : Type 0
 RecodedIsStandard =
     (p : Program) (code : ℕ → ℕ) (symbols : ℕ) → KeepsSymbols code p.symbols symbols → IsStandardMachine p
     → IsStandardMachine (recoded code symbols p)
 
--- the letters of two alphabets, joined, are an alphabet in which the first one's symbols keep their numbers and each
--- letter of the second stands
+-- the joined letters of two alphabets form an alphabet in which the first alphabet's symbols keep their numbers and
+-- each letter of the second appears
 abbrev pub JointAlphabet : Type 0
 JointAlphabet =
     (blank : ℕ) (first second : List ℕ) → IsAlphabet blank first → IsAlphabet blank second
     → IsAlphabet blank (joint_letters first second) × IsCode first (joint_letters first second) (λ symbol. symbol)
     × ((letter : ℕ) → IsIn second letter → IsIn (joint_letters first second) letter)
 
--- numbers by letter keep symbols apart and the blank the blank
+-- a renumbering by letters keeps symbols apart and the blank unchanged
 abbrev pub CodesKeepSymbols : Type 0
 CodesKeepSymbols =
     (blank : ℕ) (before after : List ℕ) (code : ℕ → ℕ) → IsAlphabet blank before → IsAlphabet blank after
     → IsCode before after code → KeepsSymbols code (length before) (length after)
 
--- the machines of two tables over one alphabet are as tables have them, and each is in standard form exactly where the
--- table's own is, and fails the same demand with the same quintuples where it isn't
+-- the machines of two tables over one alphabet have the form of tables; each is in standard form exactly if the
+-- table's own machine is, and otherwise fails the same requirement with the same quintuples
 abbrev pub JoinedAreJudgedAlike : Type 0
 JoinedAreJudgedAlike =
     (t u : Named) → IsTable t → IsTable u
@@ -58,8 +58,8 @@ JoinedAreJudgedAlike =
 
 -- ---- the erasing machine
 
--- it is deterministic, reversible and uniform; it begins and ends in the states of those names, and no two of its
--- states have one name
+-- the erasing machine is deterministic, reversible and uniform; it begins and ends in the states with the list's
+-- initial and final names, and no two of its states have the same name
 abbrev pub ErasingsAreUniform : Type 0
 ErasingsAreUniform =
     (p q : Program) (e : Erasure) → IsStandardMachine p → IsStandardMachine q → IsErasing p q e
@@ -84,9 +84,9 @@ end_of e y = record {
   three = word_tape y;
 }
 
--- From x it comes to its end with y alone after 4(v + w) + 4(|x| + |y|) + 10 steps, where the first machine halts on x
--- after v steps with the output y and the second on y after w steps with the output x; and where it comes to its final
--- state, it is that run.
+-- From x the erasing machine reaches its end with only y left after 4(v + w) + 4(|x| + |y|) + 10 steps, if the first
+-- machine halts on x after v steps with the output y and the second halts on y after w steps with the output x.
+-- Conversely, each run that reaches its final state is such a run.
 abbrev pub ErasingsErase : Type 0
 ErasingsErase =
     (p q : Program) (e : Erasure) (x : List ℕ) → IsStandardMachine p → IsStandardMachine q → p.symbols ≡ q.symbols
@@ -107,21 +107,21 @@ ErasingsHaveNames =
 -- ---- the laws
 
 pub record Laws : Type 0 where
-  -- The most quadruples are 20,000.
+  -- An erasing machine has at most 20,000 quadruples: the limit `MOST_QUADRUPLES` is 20,000.
   pub most_quadruples_are_stated : MOST_QUADRUPLES ≡ 20000
-  -- Two machines over one alphabet: the joint letters are an alphabet, numbers by letter keep symbols apart, and a
-  -- machine in standard form stays one where its symbols are numbered anew.
+  -- The joint letters form an alphabet, a renumbering by letters keeps symbols apart, and a machine in standard form
+  -- whose symbols are renumbered is in standard form.
   pub machines_share_letters : JointAlphabet × CodesKeepSymbols × RecodedIsStandard
-  -- The machines of two tables over one alphabet pass the test of standard form as the tables' own do, and fail it at
-  -- the same demand.
+  -- The machines of two tables over one alphabet pass the test of standard form as the tables' own machines do, or
+  -- fail the same requirement.
   pub joined_are_judged_alike : JoinedAreJudgedAlike
   -- The erasing machine (Bennett 1973) is deterministic, reversible and uniform.
   pub erasings_are_uniform : ErasingsAreUniform
-  -- From x the erasing machine comes to its final state exactly where the first machine halts on x with some output y,
-  -- and the second one halts on y with the output x; and then only y is left (Bennett 1973).
+  -- From x the erasing machine (Bennett 1973) halts exactly if the first machine computes some y from x and the
+  -- second computes x from y; then only y is left.
   pub erasings_erase : ErasingsErase
-  -- Every state and every symbol of the erasing machine has a printed name.
+  -- Every state and every symbol of the erasing machine has a printed name in the form of its kind.
   pub erasings_have_names : ErasingsHaveNames
-  -- Two machines in standard form as tables have them, over one alphabet, have an erasing machine whose states have
-  -- numbers.
+  -- Two machines in standard form that have the form of tables, over one alphabet, have an erasing machine with
+  -- numbered states.
   pub erasings_are_there : ErasingsAreThere

@@ -12,7 +12,7 @@ use Rattle.bn_erase.specs.declared.refusal.EraseRefusal.{EraseRefusal}
 use Rattle.bn_erase.specs.declared.refusal.EraseRefusal.TheVariants.{Many, NoMemory}
 use Rattle.bn_erase.specs.declared.erasing.TheConstants.{MOST_QUADRUPLES}
 
--- a quadruple machine, and the name of each of its states by the state's number
+-- a quadruple machine, and the name of each of its states at the state's number
 pub record Erasure : Type 0 where
   pub names : List ErasingName
   pub machine : Quadruples
@@ -33,7 +33,8 @@ pub record IsErasing (p q : Program) (e : Erasure) : Type 0 where
   pub states : e.machine.states ≡ length e.names
   pub symbols : e.machine.symbols ≡ erasing_symbols p q
 
--- why there is none: the list has more quadruples, and this is their number; want of memory is free
+-- the meaning of a refusal: the list has more than the most quadruples, and `count` is their number; or memory has
+-- run out, which states nothing more
 abbrev pub IsEraseRefusal : Program → Program → EraseRefusal → Type 0
 IsEraseRefusal p q (Many count) = (count ≡ length (erasing p q)) × (MOST_QUADRUPLES < count)
 IsEraseRefusal p q NoMemory = Unit {0}

@@ -1,4 +1,4 @@
--- The erasing machine's list over numbers, as it is made of the two machines' own reversible machines.
+-- The erasing machine's list over numbers, as it is composed from the two machines' own reversible machines.
 use Rattle.std.specs.Prelude.{◌≡◌, ℕ, ◌+◌, ◌-◌, ◌<◌, ◌^◌, ◌==◌, nat_lt, List, [], ◌∷◌, ◌++◌, length, map, take, drop}
 use Rattle.std.specs.Prelude.{All, if◌then◌else◌}
 use Rattle.bn_bennett.specs.Draft.{IsBelow}
@@ -17,8 +17,8 @@ use Rattle.bn_erase.specs.declared.erasing.Meeting.{Meeting}
 
 -- ---- numbers
 
--- where the second one's list, turned round, follows the first one's: the first one's number of states and its final
--- state, and the second one's final state
+-- the joint of the first machine's list and the second machine's inverted list: the first machine's number of states
+-- and its final state, and the second machine's final state
 abbrev pub meeting_of : Quadruples → Quadruples → Meeting
 meeting_of first second = record {
   states = first.states;
@@ -26,19 +26,19 @@ meeting_of first second = record {
   end = final_state_of second.rules;
 }
 
--- the number that a state of the second one gets: its final state is the first one's, and its others, in their order,
--- follow the first one's states
+-- the number of a state of the second machine in the erasing machine: its final state is the first machine's final
+-- state, and its other states, in their order, follow the first machine's states
 abbrev pub new_state : Meeting → ℕ → ℕ
 new_state m state =
     if state == m.end then m.middle else (if nat_lt state m.end then m.states + state else m.states + state - 1)
 
--- the names by number: those of the first one, and those of the second but that of its final state
+-- the names by number: those of the first machine, and those of the second except its final state's
 abbrev pub joint_names : List Name → List Name → ℕ → List ErasingName
 joint_names first second end = map First first ++ map Second (take end second ++ drop (end + 1) second)
 
 -- ---- quadruples
 
--- a quadruple of the second one's list turned round, its tapes 1 and 3 exchanged and its states numbered anew
+-- a quadruple of the second machine's inverted list, with its tapes 1 and 3 exchanged and its states renumbered
 abbrev pub backward_quad : Meeting → Quad → Quad
 backward_quad m q = record {
   state = new_state m q.state;
@@ -47,11 +47,11 @@ backward_quad m q = record {
   next = new_state m q.next;
 }
 
--- the first one's quadruples, and then the second one's
+-- the first machine's quadruples, followed by the second machine's
 abbrev pub joint_quads : Meeting → List (Rule ℕ) → List (Rule ℕ) → List Quad
 joint_quads m first second = map quad_of first ++ map (backward_quad m) (map quad_of (turned_list second))
 
--- the quadruples are the erasing machine's list over these names, of which each is that of one state
+-- the quadruples are the erasing machine's list over these names, each of which belongs to one state
 pub record AreErasing (p q : Program) (names : List ErasingName) (quads : List Quad) : Type 0 where
   pub list : rename (name_at (First GoRight) names) (rules_of quads) ≡ erasing p q
   pub kept : map quad_of (rules_of quads) ≡ quads

@@ -24,8 +24,8 @@ use std::marker::Model;
 /// The most quadruples of an erasing machine: as many as a table of quadruples may have.
 pub const MOST_QUADRUPLES: u32 = 20_000;
 
-/// The machine that leaves only its output (Bennett 1973), with the names of its states, each at its number. Callers
-/// see both.
+/// The machine that leaves only its output (Bennett 1973), with the name of each state at the state's number.
+/// Contracts see both.
 #[derive(Drop)]
 pub struct Erasing {
     names: Vec<ErasingName>,
@@ -54,7 +54,7 @@ impl Erasing {
         &self.machine
     }
 
-    /// The states' names, each at the number of its state, counted from 0.
+    /// The states' names, each at its state's number, counted from 0.
     pub fn names(&self) -> &[ErasingName]
         ensures { result.now ≡ self.now.names }
     {
@@ -62,10 +62,11 @@ impl Erasing {
     }
 }
 
-/// The erasing machine of two machines (Bennett 1973): the reversible machine of the first, which leaves x and y, and
-/// then the reversible machine of the second backward, with tapes 1 and 3 exchanged, which takes x away where the
-/// second machine makes x of y. Both machines are as tables have them, with the same number of symbols. For N and M
-/// quintuples and z symbols it has 4(N + M) + 4z + 6 quadruples; `Many` comes exactly where these are more than 20,000.
+/// The erasing machine of two machines (Bennett 1973): the reversible machine of the first, which leaves x and y,
+/// followed by the reversible machine of the second backward, with tapes 1 and 3 exchanged, which erases x if the
+/// second machine computes x from y. Both machines have the form of tables, with the same number of symbols. For N
+/// and M quintuples and z symbols the erasing machine has 4(N + M) + 4z + 6 quadruples. `Err` is `Many` exactly if
+/// these are more than 20,000, or `NoMemory`.
 pub fn erase(alloc: Global, first: &Standard, second: &Standard) -> Result<Erasing, EraseRefusal>
     requires first { FitsTable first.now }
     requires second { FitsTable second.now }
@@ -81,7 +82,7 @@ pub fn erase(alloc: Global, first: &Standard, second: &Standard) -> Result<Erasi
     Ok(join(alloc, first, second)?)
 }
 
-// How many quadruples the reversible machine of a machine has.
+// The number of quadruples of a machine's reversible machine.
 fn quadruples_of(standard: &Standard) -> u32
     requires { FitsTable standard.now }
     ensures counted { result ≡ 4 * length standard.now.quints + 2 * standard.now.symbols + 3 }
@@ -91,7 +92,7 @@ fn quadruples_of(standard: &Standard) -> u32
     4 * machine.quints().len() as u32 + 2 * machine.symbols() + 3
 }
 
-// The erasing machine, however many quadruples it has.
+// The erasing machine, with any number of quadruples.
 fn join(alloc: Global, first: &Standard, second: &Standard) -> Result<Erasing, NoMemory>
     requires first { FitsTable first.now }
     requires second { FitsTable second.now }
@@ -103,7 +104,7 @@ fn join(alloc: Global, first: &Standard, second: &Standard) -> Result<Erasing, N
     join_translated(alloc, first, second, &translated, &other)
 }
 
-// The erasing machine of two machines that have these reversible machines.
+// The erasing machine of two machines with these reversible machines.
 fn join_translated(
     alloc: Global,
     first: &Standard,
@@ -126,10 +127,10 @@ fn join_translated(
     Ok(Erasing { names, machine })
 }
 
-// ---- where the two meet
+// ---- the joint of the two machines
 
-// Where the second machine's list, turned round, follows the first one's: the first one's number of states and its
-// final state, and the second one's final state.
+// The joint of the first machine's list and the second machine's inverted list: the first machine's number of states
+// and its final state, and the second machine's final state.
 #[derive(Clone, Copy)]
 struct Meeting {
     states: u32,
@@ -137,7 +138,7 @@ struct Meeting {
     end: u32,
 }
 
-// Where the two reversible machines meet.
+// The joint of the two reversible machines.
 fn meeting_of(translated: &Translated, other: &Translated) -> Meeting
     ensures { result ≡ meeting_of translated.now.machine other.now.machine }
 {
@@ -150,7 +151,7 @@ fn meeting_of(translated: &Translated, other: &Translated) -> Meeting
     }
 }
 
-// The number that a state of the second machine gets.
+// The number of a state of the second machine in the erasing machine.
 fn new_state(meeting: Meeting, state: u32) -> u32
     requires { state < 2 ^ 32 - meeting.states }
     ensures { result ≡ new_state meeting state }
@@ -167,7 +168,7 @@ fn new_state(meeting: Meeting, state: u32) -> u32
 
 // ---- names
 
-// The names by number: those of the first machine, and those of the second but its final one.
+// The names by number: those of the first machine, followed by those of the second except its final one.
 fn joint_names(
     alloc: Global,
     first: &[Name],
@@ -207,7 +208,7 @@ fn add_second(names: &mut Vec<ErasingName>, states: &[Name]) -> Result<(), NoMem
 
 // ---- quadruples
 
-// The first machine's quadruples, and then the second one's, backward.
+// The first machine's quadruples, followed by the second machine's backward.
 fn joint_quads(
     alloc: Global,
     translated: &Translated,
@@ -226,14 +227,14 @@ fn joint_quads(
     Ok(quads)
 }
 
-// The reversible machine backward.
+// The inverse of the reversible machine.
 fn backward_of(alloc: Global, translated: &Translated) -> Result<QuadMachine, NoMemory>
     ensures { IfOk result (λ machine. machine ≡ inverse_of translated.now.machine) }
 {
     translated.machine().machine().inverse(alloc)
 }
 
-// Adds the quadruples of the second machine's list turned round.
+// Adds the quadruples of the second machine's inverted list.
 fn add_backward(quads: &mut Vec<Quad>, others: &[Quad], meeting: Meeting) -> Result<(), NoMemory>
     requires { All (IsBelow (2 ^ 32 - meeting.states)) others.now }
     ensures { OnOk result (quads.new.items ≡ quads.old.items ++ map (backward_quad meeting) others.now) }
@@ -244,7 +245,7 @@ fn add_backward(quads: &mut Vec<Quad>, others: &[Quad], meeting: Meeting) -> Res
     Ok(())
 }
 
-// A quadruple of that list with its tapes 1 and 3 exchanged and its states numbered anew.
+// A quadruple of that list with its tapes 1 and 3 exchanged and its states renumbered.
 fn backward_quad(quad: &Quad, meeting: Meeting) -> Quad
     requires { IsBelow (2 ^ 32 - meeting.states) quad.now }
     ensures { result ≡ backward_quad meeting quad.now }
@@ -259,8 +260,8 @@ fn backward_quad(quad: &Quad, meeting: Meeting) -> Quad
 
 // ---- the machine
 
-// How many symbols each tape has, tape 1 first: the history has the blank, and one for each quintuple of the longer
-// machine.
+// The number of symbols of each tape, tape 1 first: the history has the blank, and one for each quintuple of the
+// machine with more quintuples.
 fn symbols_of(first: &Standard, second: &Standard) -> [u32; 3]
     requires first { length first.now.quints ≤ MOST_ENTRIES }
     requires second { length second.now.quints ≤ MOST_ENTRIES }
@@ -275,7 +276,7 @@ fn symbols_of(first: &Standard, second: &Standard) -> [u32; 3]
     [letters, quints + 1, letters]
 }
 
-// The uniform machine of quadruples that are the list over these names.
+// The uniform machine of these quadruples, which are the list over these names.
 fn uniform_of(
     names: &[ErasingName],
     quads: Vec<Quad>,

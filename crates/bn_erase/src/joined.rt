@@ -14,8 +14,8 @@ use bn_table::{Table, place_of};
 use std::alloc::Global;
 use std::marker::Model;
 
-/// Two machines over one alphabet, and the letters of its symbols, `_` for symbol 0. Callers see the three. Both
-/// machines are as tables have them, and have as many symbols as there are letters.
+/// Two machines over one alphabet, and the letters of its symbols, `_` for symbol 0. Contracts see the three. Both
+/// machines have the form of tables, and as many symbols as there are letters.
 #[derive(Drop)]
 pub struct Joined {
     first: Machine,
@@ -68,8 +68,8 @@ impl Joined {
         self.letters[symbol as usize]
     }
 
-    /// The symbol of a letter, counted from 0. `None` comes exactly for a byte that is no letter of the two. Its
-    /// contract also tells what two machines over one alphabet keep.
+    /// The symbol of a letter, counted from 0. `None` exactly for a byte that is not a letter of the alphabet. The
+    /// contract also states what holds for two machines over one alphabet.
     pub fn symbol_of(&self, letter: u8) -> Option<u32>
         ensures found { IfSome result (λ symbol. slice_get self.now.letters symbol ≡ Some letter) }
         ensures none { IfNone result (¬ Contains self.now.letters letter) }
@@ -79,8 +79,9 @@ impl Joined {
     }
 }
 
-/// The machines of two tables over one alphabet: the letters of the first in their order, then the further letters of
-/// the second in theirs. The first machine's symbols keep their numbers. (This project's own profile.)
+/// The machines of two tables over one alphabet: the letters of the first in their order, followed by the further
+/// letters of the second in theirs. The first machine's symbols keep their numbers. (Own to this project.) `Err`: out
+/// of memory.
 pub fn join_letters(alloc: Global, first: &Table, second: &Table) -> Result<Joined, NoMemory>
     ensures { IfOk result (λ j. j ≡ joined first.now second.now) }
 {
@@ -105,7 +106,7 @@ fn joint_letters(alloc: Global, first: &Table, second: &Table) -> Result<Vec<u8>
     Ok(letters)
 }
 
-// Appends those of more letters that the first table hasn't.
+// Appends the letters of `more` that the first table does not have.
 fn add_further_letters(letters: &mut Vec<u8>, first: &Table, more: &[u8]) -> Result<(), NoMemory>
     ensures { OnOk result (letters.new.items ≡ letters.old.items
         ++ filter (λ letter. not (list_any (λ known. known == letter) first.now.letters)) more.now) }
@@ -118,7 +119,7 @@ fn add_further_letters(letters: &mut Vec<u8>, first: &Table, more: &[u8]) -> Res
     Ok(())
 }
 
-// The machine with so many symbols in all.
+// The machine with this number of symbols in all.
 fn with_symbols(alloc: Global, machine: &Machine, symbols: u32) -> Result<Machine, NoMemory>
     requires { machine.now.symbols ≤ symbols }
     ensures { IfOk result (λ m. m ≡ with_symbols symbols machine.now) }
@@ -130,7 +131,8 @@ fn with_symbols(alloc: Global, machine: &Machine, symbols: u32) -> Result<Machin
     }
 }
 
-// The table's machine, each symbol with the number of its letter among these, which have them all.
+// The table's machine, with each symbol replaced by the number of its letter among these letters, which include all
+// of the table's.
 fn recoded(alloc: Global, table: &Table, letters: &[u8]) -> Result<Machine, NoMemory>
     requires known { (letter : ℕ) → IsIn table.now.letters letter → IsIn letters.now letter }
     requires few { length letters.now < 2 ^ 32 }
@@ -145,7 +147,7 @@ fn recoded(alloc: Global, table: &Table, letters: &[u8]) -> Result<Machine, NoMe
     }
 }
 
-// The quintuples, each symbol with the number of its letter.
+// The quintuples, with each symbol replaced by the number of its letter.
 fn recoded_quints(
     alloc: Global,
     table: &Table,
@@ -164,7 +166,7 @@ fn recoded_quints(
     Ok(made)
 }
 
-// The quintuple, each symbol with the number of its letter.
+// The quintuple, with each symbol replaced by the number of its letter.
 fn recoded_quint(table: &Table, letters: &[u8], quint: &Quint) -> Quint
     requires in_range { IsInRange table.now.machine.states table.now.machine.symbols quint.now }
     requires few { length letters.now < 2 ^ 32 }
@@ -180,7 +182,7 @@ fn recoded_quint(table: &Table, letters: &[u8], quint: &Quint) -> Quint
     }
 }
 
-// The number of a letter among others: how many stand before it.
+// The number of a letter among others, counted from 0: the number of letters before it.
 fn number_in(letters: &[u8], letter: u8) -> u32
     requires { length letters.now < 2 ^ 32 }
     ensures { result ≡ number_in letters.now letter }

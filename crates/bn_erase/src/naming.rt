@@ -16,9 +16,10 @@ use bn_erase_laws::ErasingName;
 use bn_quad::{NoMemory, QuadNames};
 use std::alloc::Global;
 
-/// The names of an erasing machine's states and symbols: each state of the first machine has `F` and its name, each of
-/// the second `G` and its name. The symbols of tapes 1 and 3 are the joint letters, those of tape 2 are `_` and the
-/// numbers from 1 to the greater number of quintuples. With them the machine is written as a table of quadruples.
+/// The names of an erasing machine's states and symbols: each state of the first machine has `F` and its name, each
+/// of the second `G` and its name. The symbols of tapes 1 and 3 have the joint letters, those of tape 2 have `_` and
+/// the numbers from 1 to the greater number of quintuples. With these names the machine can be written as a table of
+/// quadruples. `Err`: out of memory.
 pub fn erasing_names(
     alloc: Global,
     joined: &Joined,
@@ -31,7 +32,7 @@ pub fn erasing_names(
     all_names(alloc, joined, erasing)
 }
 
-// All names. Its contract also tells what two machines over one alphabet keep.
+// All names of an erasing machine. The contract also states what holds for two machines over one alphabet.
 fn all_names(alloc: Global, joined: &Joined, erasing: &Erasing) -> Result<QuadNames, NoMemory>
     requires { IsErasing joined.now.first joined.now.second erasing.now }
     ensures names { IfOk result (λ names. names ≡ names_of joined.now erasing.now) }
@@ -60,7 +61,7 @@ fn add_states(alloc: Global, names: &mut QuadNames, states: &[ErasingName]) -> R
     Ok(())
 }
 
-// The text of a name.
+// The printed text of a state's name.
 fn text_of(alloc: Global, name: ErasingName) -> Result<Vec<u8>, NoMemory>
     ensures { IfOk result (λ text. text.items ≡ erasing_text name) }
 {
@@ -70,7 +71,7 @@ fn text_of(alloc: Global, name: ErasingName) -> Result<Vec<u8>, NoMemory>
     }
 }
 
-// The text of a name of one machine, with a letter before it.
+// The printed text of a name of one of the two machines, with a letter before it.
 fn marked_text(alloc: Global, letter: u8, name: Name) -> Result<Vec<u8>, NoMemory>
     ensures { IfOk result (λ text. text.items ≡ letter ∷ bennett_state_text name) }
 {

@@ -1,12 +1,12 @@
-//! Why there is no erasing machine.
+//! The reasons why `erase` refuses two machines.
 use bn_quad::NoMemory;
 
-/// Why two machines have no erasing machine here.
+/// The reasons why `erase` refuses two machines.
 #[derive(Clone, Copy, PartialEq, Eq, Debug)]
 pub enum EraseRefusal {
-    /// It has `count` quadruples, more than 20,000.
+    /// The erasing machine would have `count` quadruples, more than 20,000.
     Many { count: u32 },
-    /// There was no memory.
+    /// There is not enough memory.
     NoMemory,
 }
 

@@ -1,4 +1,5 @@
--- The machine that erases its input (Bennett 1973) in a window: where it halts, with what, and in which window.
+-- The machine that erases its input (Bennett 1973) in a window: when it halts, with which output, and in which
+-- window.
 use Rattle.std.specs.Prelude.{◌≡◌, ℕ, ◌+◌, ◌*◌, ◌≤◌, List, [], length}
 use Rattle.bn_machine.specs.Machine.{Program}
 use Rattle.bn_machine.specs.Outcome.{Limits, Halted, HasOutcome, Outside, Stuck}
@@ -14,8 +15,8 @@ use Rattle.bn_erase_laws.specs.EraseWindows.{BothHaltIn, EndsIn, HaltsRightOfSta
 use Rattle.bn_erase_laws.specs.EraseWindows.{second_window}
 use Rattle.bn_erase_laws.specs.EraseWindows.{right_window_for, window_for, window_of_both}
 
--- In a window the erasing machine comes from x to its end with y alone where both machines halt in it, each on the
--- other's word; and where it comes to its end, they do, and it is that run.
+-- In a window the erasing machine goes from x to its end with only y left if both machines halt in the window, each
+-- on the other's word. Conversely, if it reaches its end, both machines halt so, and the run is the one stated.
 abbrev pub ErasesInWindows : Type 0
 ErasesInWindows =
     (p q : Program) (x : List ℕ) (l : Limits) → IsStandardMachine p → IsStandardMachine q → p.symbols ≡ q.symbols
@@ -25,40 +26,42 @@ ErasesInWindows =
     × ((n : ℕ) (d : Configuration ErasingName) → EndsIn p q x l n d Finished → (v w : ℕ) × (y : List ℕ)
     × BothHaltIn p q x l v w y × (n ≡ erasing_steps x y v w) × (d ≡ erasing_end q y))
 
--- a machine that halts in a window halts so in each greater one
+-- a machine that halts in a window halts after as many steps and with the same output in each larger one
 abbrev pub HaltsInGreaterWindows : Type 0
 HaltsInGreaterWindows =
     (p : Program) (word : List ℕ) (a b : Limits) (v : ℕ) (y : List ℕ) → IsWindowIn a b
     → HasOutcome p word a v (Halted y) → HasOutcome p word b v (Halted y)
 
--- where each machine halts in a window of its own, and that of the second begins at 0, they halt in the window of both
+-- if each machine halts in a window of its own, and the second machine's window begins at 0, both halt in the window
+-- composed of the two
 abbrev pub WindowsOfBothSuffice : Type 0
 WindowsOfBothSuffice =
     (p q : Program) (x y : List ℕ) (a b : Limits) (v w : ℕ) → HasOutcome p x a v (Halted y)
     → HasOutcome q y b w (Halted x) → b.left ≡ 0 → BothHaltIn p q x (window_of_both a b) v w y
 
--- where both machines halt, each on the other's word, and the second one's head never is left of cell 0, they halt in
--- the window that their steps and words give
+-- if both machines halt, each on the other's word, and the second machine's head is never left of cell 0, they halt
+-- in the window computed from their steps and words
 abbrev pub StepsGiveWindow : Type 0
 StepsGiveWindow =
     (p q : Program) (x y : List ℕ) (v w : ℕ) → HaltsAfter p x v y → HaltsRightOfStart q y w x
     → BothHaltIn p q x (window_of_both (window_for v (length y)) (right_window_for w (length x))) v w y
 
--- in every window the run from a word ends, after at most so many steps
+-- in every window the run from a word ends, after at most a stated number of steps
 abbrev pub RunsEnd : Type 0
 RunsEnd =
     (p q : Program) (x : List ℕ) (l : Limits) → IsStandardMachine p → IsStandardMachine q → p.symbols ≡ q.symbols
     → IsSpelledBy p x → IsWord x → (n : ℕ) × (d : Configuration ErasingName) × (e : Exit) × EndsIn p q x l n d e
     × (n ≤ 8 * l.steps + 4 * (l.right + l.output) + 10)
 
--- and in one way
+-- in every window the run from a word ends in only one way, after one number of steps
 abbrev pub RunsEndOnce : Type 0
 RunsEndOnce =
     (p q : Program) → IsStandardMachine p → IsStandardMachine q → (x : List ℕ) (l : Limits) (m n : ℕ)
     (d b : Configuration ErasingName) (e f : Exit) → EndsIn p q x l m d e → EndsIn p q x l n b f
     → (m ≡ n) × (d ≡ b) × (e ≡ f)
 
--- where the first machine is stuck in the window, or has no room there, the run ends so
+-- if the first machine is stuck in the window, or its head would leave its tape there, the erasing machine's run ends
+-- in the same way
 abbrev pub FirstNamesEnd : Type 0
 FirstNamesEnd =
     (p q : Program) (x : List ℕ) (l : Limits) → IsStandardMachine p → IsStandardMachine q → IsSpelledBy p x
@@ -67,8 +70,8 @@ FirstNamesEnd =
     × ((i tape : ℕ) (side : Side) → HasOutcome p x l i (Outside tape side)
     → (n : ℕ) × (d : Configuration ErasingName) × EndsIn p q x l n d (Leaving tape side))
 
--- where the first halts on x after v steps with the output y, and the second is stuck on y after w steps, in the
--- window, the run is stuck after 4v + 4|y| + 5 + 2w
+-- if the first machine halts on x after v steps with the output y, and the second is stuck on y after w steps, both
+-- in the window, the run is stuck after 4v + 4|y| + 5 + 2w steps
 abbrev pub SecondNamesEnd : Type 0
 SecondNamesEnd =
     (p q : Program) (x : List ℕ) (l : Limits) → IsStandardMachine p → IsStandardMachine q → p.symbols ≡ q.symbols
@@ -76,8 +79,8 @@ SecondNamesEnd =
     → HasOutcome q y (second_window l) w (Stuck state symbol)
     → (d : Configuration ErasingName) × EndsIn p q x l (4 * v + 4 * length y + 5 + 2 * w) d Stopped
 
--- where both halt in the window, and the second one's output parts from x after k letters, it is stuck after
--- 4v + 4|y| + 2w + 2k + 7
+-- if both machines halt in the window, and the second machine's output agrees with x in exactly its first k letters,
+-- the run is stuck after 4v + 4|y| + 2w + 2k + 7 steps
 abbrev pub UnequalOutputsEnd : Type 0
 UnequalOutputsEnd =
     (p q : Program) (x : List ℕ) (l : Limits) → IsStandardMachine p → IsStandardMachine q → p.symbols ≡ q.symbols
@@ -85,8 +88,8 @@ UnequalOutputsEnd =
     → HasOutcome q y (second_window l) w (Halted z) → PartAt x z k
     → (d : Configuration ErasingName) × EndsIn p q x l (4 * v + 4 * length y + 2 * w + 2 * k + 7) d Stopped
 
--- the two least machines, on the empty word, in the window that their steps give: the premises can be met, and 26 steps
--- lead to the end
+-- the two least machines, on the empty word, in the window computed from their steps: the premises can be satisfied,
+-- and 26 steps lead to the end
 abbrev pub LeastErasesIn : Type 0
 LeastErasesIn = BothHaltIn least least [] (record { left = 2; right = 3; steps = 2; output = 3 }) 2 2 []
     × EndsIn least least [] (record { left = 2; right = 3; steps = 2; output = 3 }) 26 (erasing_end least []) Finished

@@ -1,5 +1,5 @@
 -- The machine that erases its input (Bennett 1973), over the names of its states: the reversible machine for x to y,
--- and then the reversible machine for y to x, turned round, with its first and third tape exchanged.
+-- followed by the inverse of the reversible machine for y to x, with tapes 1 and 3 exchanged.
 use Rattle.std.specs.Prelude.{◌≢◌, ℕ, ◌+◌, List, [], ◌∷◌, ◌++◌, length, max, cond, nat_eq, All}
 use Rattle.bn_machine.specs.Tape.{word_tape, blank_tape}
 use Rattle.bn_machine.specs.Machine.{Program, start_of}
@@ -17,7 +17,8 @@ use Rattle.bn_erase_laws.specs.declared.name.ErasingName.TheVariants.{First, Sec
 
 -- ---- the erasing machine
 
--- a name of the second machine, of the two: its final state is the first machine's final state
+-- the erasing machine's name for a state of the second machine: the second machine's final state is the first
+-- machine's final state
 abbrev pub second_name : Program → Program → Name → ErasingName
 second_name p q (Compute j) = Second (Compute j)
 second_name p q (ComputeWithin m) = Second (ComputeWithin m)
@@ -28,22 +29,22 @@ second_name p q PassLetter = Second PassLetter
 second_name p q (Retrace j) = cond (nat_eq j (start_of q.quints)) (First (final_name p)) (Second (Retrace j))
 second_name p q (RetraceWithin m) = Second (RetraceWithin m)
 
--- the reversible machine of the first
+-- the quadruples of the first machine's reversible machine
 unfoldable pub first_half : Program → List (Rule ErasingName)
 first_half p = rename First (bennett p)
 
--- the reversible machine of the second, backward, its output tape being the first one's work tape
+-- the second machine's reversible machine, inverted; its output tape is the first machine's work tape
 abbrev pub backward : Program → List (Rule Name)
 backward q = exchanged_list (turned_list (bennett q))
 
 unfoldable pub second_half : Program → Program → List (Rule ErasingName)
 second_half p q = rename (second_name p q) (backward q)
 
--- the list of the erasing machine
+-- the erasing machine's list of quadruples
 abbrev pub erasing : Program → Program → List (Rule ErasingName)
 erasing p q = first_half p ++ second_half p q
 
--- its initial state, the state where its halves meet, and its final state
+-- its initial state, the state in which its halves are joined, and its final state
 abbrev pub erasing_initial : Program → ErasingName
 erasing_initial p = First (initial_name p)
 
@@ -53,12 +54,12 @@ erasing_middle p = First (final_name p)
 abbrev pub erasing_final : Program → ErasingName
 erasing_final q = Second (initial_name q)
 
--- how many symbols each tape has, where both machines have so many: the history tape has one more than the greater
--- number of quintuples
+-- the number of symbols of each tape, if both machines have the same number of symbols: the history tape has one more
+-- than the greater number of quintuples
 abbrev pub erasing_symbols : Program → Program → List ℕ
 erasing_symbols p q = p.symbols ∷ (max (length p.quints) (length q.quints) + 1) ∷ p.symbols ∷ []
 
--- a word: no letter is the blank
+-- a word in which no letter is the blank
 abbrev pub IsWord : List ℕ → Type 0
 IsWord word = All (λ s. s ≢ 0) word
 
@@ -66,19 +67,19 @@ IsWord word = All (λ s. s ≢ 0) word
 abbrev pub erasing_start : Program → List ℕ → Configuration ErasingName
 erasing_start p x = record { state = erasing_initial p; one = word_tape x; two = blank_tape; three = blank_tape }
 
--- the end: y alone, on tape 3, all heads at 0
+-- the end: only y, on tape 3, all heads at 0
 abbrev pub erasing_end : Program → List ℕ → Configuration ErasingName
 erasing_end q y = record { state = erasing_final q; one = blank_tape; two = blank_tape; three = word_tape y }
 
--- one step of the erasing machine, on tapes without ends
+-- a step of the erasing machine, on infinite tapes
 abbrev pub ErasingSteps : Program → Program → Configuration ErasingName → Configuration ErasingName → Type 0
 ErasingSteps p q c d = Steps everywhere (erasing p q) (erasing_final q) c d
 
--- one step of the second machine's reversible machine backward, before its tapes are exchanged
+-- a step of the second machine's reversible machine backward, before its tapes are exchanged
 abbrev pub StepsBackOf : Program → Rooms → Configuration Name → Configuration Name → Type 0
 StepsBackOf q rooms c d = Steps rooms (turned_list (bennett q)) (initial_name q) c d
 
--- the names that stand in the list
+-- the names of the states in the list
 abbrev pub IsErasingName : Program → Program → ErasingName → Type 0
 IsErasingName p q (First name) = IsNameOf p name
 IsErasingName p q (Second name) = IsNameOf q name × (name ≢ final_name q)

@@ -1,5 +1,5 @@
--- The inverse of a machine of quadruples (Bennett 1973: its list turned round), and what its runs are. `Laws` at the
--- end is the contract of this crate's one function.
+-- The inverse of a machine of quadruples (Bennett 1973: its inverted list), and its runs. `Laws` at the end is the
+-- contract of `inverse_laws`.
 use Rattle.std.specs.Prelude.{◌≡◌, ◌↔◌, ℕ, List, ◌⊎◌}
 use Rattle.bn_lists.specs.Runs.{Reaches}
 use Rattle.bn_quad.specs.Quadruples.{Rule, Configuration, Follows, Quadruples, IsQuadMachine, QuadruplesRunTo}
@@ -27,14 +27,14 @@ InversesPassTests = (m : Quadruples) → (IsDeterministic m.rules ↔ IsReversib
 abbrev pub InversesAreUniform : Type 0
 InversesAreUniform = (m : Quadruples) → IsUniformMachine m ↔ IsUniformMachine (inverse_of m)
 
--- ---- its runs
+-- ---- the runs of the inverse
 
--- the steps to which quadruples lead, in any state, on tapes without ends
+-- the steps by any quadruples, in any state, on infinite tapes
 abbrev pub InversesFollowBack : Type 0
 InversesFollowBack = (m : Quadruples) (n : ℕ) (c d : Configuration ℕ)
     → Reaches (Follows m.rules) n c d ↔ Reaches (Follows (inverse_of m).rules) n d c
 
--- the machine's own steps, which go on from no final state, in rooms that allow both ends of the run
+-- the machine's own steps, none of which leaves the final state, within rooms that allow both ends of the run
 abbrev pub InversesRunBack : Type 0
 InversesRunBack =
     (m : Quadruples) → IsUniformMachine m → (rooms : Rooms) (n : ℕ) (c d : Configuration ℕ) → AreAllowed rooms c
@@ -49,7 +49,7 @@ InversesEndAtTheStart =
     → (d.state ≡ initial_of (inverse_of m).rules) × Reaches (QuadruplesRunTo rooms (inverse_of m)) n d c
     × EndsAt rooms (inverse_of m).rules (final_state_of (inverse_of m).rules) c Finished
 
--- ---- any run of a list of rules
+-- ---- any run of a list of quadruples (`Rule`)
 
 abbrev pub RunsGoOnOrEnd : Type 0
 RunsGoOnOrEnd = (rooms : Rooms) (rs : List (Rule ℕ)) (final : ℕ) (c : Configuration ℕ)
@@ -64,17 +64,18 @@ pub record Laws : Type 0 where
   pub inverses_of_inverses : InversesOfInverses
   -- The inverse begins in the machine's final state and ends in its initial one.
   pub inverses_exchange_ends : InversesExchangeEnds
-  -- The inverse is reversible exactly where the machine is deterministic, and deterministic exactly where the machine
-  -- is reversible: where one passes both tests, so does the other.
+  -- The inverse is reversible exactly if the machine is deterministic, and deterministic exactly if the machine is
+  -- reversible; therefore both pass the two tests or neither does.
   pub inverses_pass_tests : InversesPassTests
-  -- The inverse is deterministic, reversible and uniform exactly where the machine is.
+  -- The inverse is deterministic, reversible and uniform exactly if the machine is.
   pub inverses_are_uniform : InversesAreUniform
-  -- Of any machine n quadruples lead from c to d exactly where n quadruples of the inverse lead from d to c.
+  -- For any machine, n quadruples lead from c to d exactly if n quadruples of the inverse lead from d to c.
   pub inverses_follow_back : InversesFollowBack
-  -- Of a uniform machine n steps lead from c to d exactly where n steps of the inverse lead from d to c.
+  -- For a uniform machine, n steps lead from c to d exactly if n steps of the inverse lead from d to c, within rooms
+  -- that allow c and d.
   pub inverses_run_back : InversesRunBack
   -- A run of a uniform machine from its initial state to its end is, backward, a run of the inverse from its initial
   -- state to its end.
   pub inverses_end_at_the_start : InversesEndAtTheStart
-  -- From any configuration a run goes on by a step, or it ends in one of the three ways.
+  -- From any configuration a run makes another step, or it ends in one of the three ways.
   pub runs_go_on_or_end : RunsGoOnOrEnd

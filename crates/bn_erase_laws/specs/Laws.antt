@@ -15,49 +15,53 @@ use Rattle.bn_erase_laws.specs.EraseWindowLaws.{StepsGiveWindow, LeastErasesIn}
 pub record Laws : Type 0 where
   -- The erasing machine is deterministic, reversible and uniform.
   pub erasing_passes_tests : ErasingJoins × ErasingPassesTests
-  -- How many quadruples the erasing machine has, and that their symbols are in range.
+  -- The erasing machine has the quadruples of both reversible machines, and their symbols are in range.
   pub erasing_counts : ErasingHasLength × ErasingIsInRange
-  -- Three of the 26 quadruples of the erasing machine of two least machines, and its run from the
-  -- empty word.
+  -- The erasing machine of two least machines has 26 quadruples, three of which are given, and goes from the empty
+  -- word to its end in 26 steps.
   pub least_is_listed : LeastErasingIsListed × LeastErases
-  -- From x the erasing machine halts exactly where the first machine halts on x with some output y,
-  -- and the second one halts on y with the output x; and then only y is left.
+  -- From x the erasing machine halts exactly if the first machine halts on x with some output y, and the second halts
+  -- on y with the output x; then only y is left.
   pub erasing_erases : ComparesOutput × ErasesInput
-  -- A run of at most n steps comes out in exactly one way; and it halts exactly where both machines
-  -- do, each with the other's word, and the steps are at most n.
+  -- A run of at most n steps has exactly one outcome; it halts exactly if both machines do, each on the other's word,
+  -- and the steps are at most n.
   pub bounded_runs_come_out : OutcomeIsOne × OutcomeExists × HaltsExactly
   -- The quadruple machine with numbers in place of names passes the tests, and makes the same runs.
   pub erasing_numbers : ErasingNumbersPassTests × ErasingNumbersRunAlike
-  -- No head leaves a window that is as wide as the run is long.
+  -- No head leaves a window that extends to each side as far as the run is long.
   pub runs_stay_near : RunsStayNear × NoHeadLeaves
-  -- Which names stand in the erasing machine's list, and how many states it has.
+  -- The states of the list are the names of both machines' lists except the second's final one; their number is
+  -- stated.
   pub erasing_names : ErasingHasNames × ErasingCountsNames
-  -- Where a run is stuck because one of the machines is.
+  -- If one of the machines is stuck, the run is stuck after a stated number of steps, in the state of that machine.
   pub runs_stick : FirstSticks × SecondSticks
-  -- Where a run is stuck because the second machine makes another word of y than x.
+  -- If the second machine computes another word than x from y, the run is stuck after a number of steps given by the
+  -- first difference.
   pub unequal_outputs_stop : UnequalWordsPart × UnequalOutputsStop
-  -- A list turned round (Bennett 1973) is deterministic where the list is reversible, and the other way round; it is
-  -- uniform from b to a where the list is uniform from a to b; and then its runs between configurations that the rooms
-  -- allow are those of the list, backward.
+  -- The inverted list is deterministic exactly if the list is reversible, and vice versa. If the list is uniform, so
+  -- is its inverse, with the same runs backward between allowed configurations.
   pub turned_lists : TurnedListsPassTests × TurnedListsRunBack
-  -- Tapes 1 and 3 may be exchanged: the tests and the runs stay.
+  -- Exchanging tapes 1 and 3 preserves the tests and the runs.
   pub exchanged_lists : ExchangedListsPassTests × ExchangedListsRun
-  -- Two lists that join at a state make one: it passes the tests where both do, and its runs from the first one's
-  -- initial to the second one's final state are those of the two in a row.
+  -- Two lists joined in a state pass the tests if both do; the joint runs from the first initial to the second final
+  -- state are runs of the first, then the second.
   pub joined_lists : JoinedListsPassTests × JoinedListsRun × JoinedListsHaveRun
-  -- In a window the erasing machine (Bennett 1973) comes from x to its end exactly where both machines halt in it, each
-  -- on the other's word; then y alone is left.
+  -- In a window the erasing machine (Bennett 1973) goes from x to its end exactly if both machines halt in it, each
+  -- on the other's word; then only y is left.
   pub erases_in_windows : ErasesInWindows
-  -- In every window the run from a word ends, after at most 8 r2 + 4 (r1 + r3) + 10 steps, and in one way.
+  -- In every window the run from a word ends in exactly one way, after at most 8 r2 + 4 (r1 + r3) + 10 steps.
   pub runs_end : RunsEnd × RunsEndOnce
-  -- Which end it has, where a machine is stuck in the window, the first has no room there, or the second makes another
-  -- word of y than x.
+  -- If a machine is stuck in the window, the first's head would leave its tape, or the second computes another word
+  -- than x, the run ends as stated.
   pub machines_name_ends : FirstNamesEnd × SecondNamesEnd × UnequalOutputsEnd
-  -- A greater window changes no halting run.
+  -- A machine that halts in a window halts after as many steps and with the same output in each larger window.
   pub halts_in_greater_windows : HaltsInGreaterWindows
-  -- Which window has room for both machines, by a window of each.
+  -- If each machine halts in a window of its own, and the second's begins at 0, both halt in the window composed of
+  -- the two.
   pub windows_of_both_suffice : WindowsOfBothSuffice
-  -- And by the steps and the words alone, where the second machine's head never is left of cell 0.
+  -- If both machines halt, and the second's head is never left of cell 0, both halt in the window computed from their
+  -- steps and words.
   pub steps_give_window : StepsGiveWindow
-  -- The two least machines in a window.
+  -- In a stated window, both least machines halt on the empty word after two steps, and the erasing machine ends
+  -- after 26 steps.
   pub least_erases_in : LeastErasesIn

@@ -1,5 +1,5 @@
--- What the laws of this crate say, each a field of `Laws`. The states are names; the lemmas below them are for states
--- of any kind.
+-- The statements of this crate's laws, each a field of `Laws`. The states are names here; the lemmas hold for states
+-- of any type.
 use Rattle.std.specs.Prelude.{◌≡◌, ◌↔◌, ℕ, ◌+◌, List, ◌++◌}
 use Rattle.bn_lists.specs.Runs.{Reaches}
 use Rattle.bn_quad.specs.Quadruples.{Rule, Configuration, turned_list, Rooms, AreAllowed}
@@ -10,10 +10,10 @@ use Rattle.bn_bennett_laws.specs.Steps.{Steps}
 use Rattle.bn_bennett_laws.specs.declared.name.Name.{Name}
 use Rattle.bn_erase_laws.specs.Lists.{exchanged_list, exchanged_tapes, exchanged_rooms, JoinsAt}
 
--- ---- lists turned round
+-- ---- inverted lists
 
--- turned round, a list is deterministic where it was reversible, reversible where it was deterministic, and uniform
--- from b to a where it was uniform from a to b
+-- the inverted list is deterministic if the list is reversible, reversible if the list is deterministic, and uniform
+-- from b to a if the list is uniform from a to b
 abbrev pub TurnedListsPassTests : Type 0
 TurnedListsPassTests =
     (rs : List (Rule Name))
@@ -21,7 +21,7 @@ TurnedListsPassTests =
     × (IsReversible (turned_list rs) ↔ IsDeterministic rs)
     × ((initial final : Name) → IsUniformFrom final initial (turned_list rs) ↔ IsUniformFrom initial final rs)
 
--- a run of a uniform list, from its initial to its final state or between others, is a run of the list turned round,
+-- a run of a uniform list, from its initial to its final state or between others, is a run of the inverted list,
 -- backward
 abbrev pub TurnedListsRunBack : Type 0
 TurnedListsRunBack =
@@ -31,7 +31,7 @@ TurnedListsRunBack =
 
 -- ---- tapes exchanged
 
--- the tests don't see which tape is which
+-- the tests do not depend on the order of the tapes
 abbrev pub ExchangedListsPassTests : Type 0
 ExchangedListsPassTests =
     (rs : List (Rule Name))
@@ -48,7 +48,7 @@ ExchangedListsRun =
 
 -- ---- two lists joined
 
--- two lists that join pass the tests as one, where each passes them
+-- two lists that are joined pass the tests as one list, if each of the two passes them
 abbrev pub JoinedListsPassTests : Type 0
 JoinedListsPassTests =
     (middle initial final : Name) (rs ss : List (Rule Name)) → JoinsAt middle initial final rs ss
@@ -56,7 +56,7 @@ JoinedListsPassTests =
     × (IsReversible rs → IsReversible ss → IsReversible (rs ++ ss))
     × (IsUniformFrom initial middle rs → IsUniformFrom middle final ss → IsUniformFrom initial final (rs ++ ss))
 
--- a run of the first list and a run of the second in a row are a run of both
+-- a run of the first list followed by a run of the second is a run of the joint list
 abbrev pub JoinedListsRun : Type 0
 JoinedListsRun =
     (middle initial final : Name) (rs ss : List (Rule Name)) → JoinsAt middle initial final rs ss
@@ -64,7 +64,7 @@ JoinedListsRun =
     → Reaches (Steps rooms rs middle) m c d → Reaches (Steps rooms ss final) n d e
     → Reaches (Steps rooms (rs ++ ss) final) (m + n) c e
 
--- i steps of the first list lead to the middle, and j steps of the second on to e; n is their sum
+-- i steps of the first list lead to the middle, and j further steps of the second lead to e; n is i + j
 pub record HasHalves {Q : Type 0} (middle final : Q) (rs ss : List (Rule Q)) (rooms : Rooms) (n : ℕ)
     (c e : Configuration Q) : Type 0 where
   pub i : ℕ
@@ -75,8 +75,8 @@ pub record HasHalves {Q : Type 0} (middle final : Q) (rs ss : List (Rule Q)) (ro
   pub first : Reaches (Steps rooms rs middle) i c meeting
   pub second : Reaches (Steps rooms ss final) j meeting e
 
--- a run of both from the initial to the final state, where the first has a rule that leaves it, is a run of the first
--- to the middle and then one of the second
+-- a run of the joint list from the initial to the final state, if some quadruple of the first list leaves the initial
+-- state, is a run of the first list to the middle followed by a run of the second
 abbrev pub JoinedListsHaveRun : Type 0
 JoinedListsHaveRun =
     (middle initial final : Name) (rs ss : List (Rule Name)) → JoinsAt middle initial final rs ss

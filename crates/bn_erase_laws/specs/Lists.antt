@@ -1,32 +1,33 @@
--- Lists of quadruples with two tapes exchanged, and two lists that are joined (Bennett 1973). A list that is turned
--- round is defined beside the quadruples.
+-- Lists of quadruples with two tapes exchanged, and two lists that are joined (Bennett 1973). The inverted list is
+-- defined in `bn_quad`.
 use Rattle.std.specs.Prelude.{◌≡◌, ◌≢◌, List, map}
 use Rattle.bn_quad.specs.Quadruples.{Rule, Configuration, Rooms}
 use Rattle.bn_lists.specs.Lists.{IsIn}
 
 -- ---- tapes 1 and 3 exchanged
 
--- a quadruple that does on tape 3 what the other does on tape 1, and on tape 1 what it does on tape 3
+-- the quadruple with its deeds on tapes 1 and 3 exchanged
 abbrev pub exchanged_rule : {Q : Type 0} → Rule Q → Rule Q
 exchanged_rule r = record { from = r.from; one = r.three; two = r.two; three = r.one; to = r.to }
 
 abbrev pub exchanged_list : {Q : Type 0} → List (Rule Q) → List (Rule Q)
 exchanged_list rs = map exchanged_rule rs
 
--- a configuration with the two tapes exchanged
+-- the configuration with the two tapes exchanged
 abbrev pub exchanged_tapes : {Q : Type 0} → Configuration Q → Configuration Q
 exchanged_tapes c = record { state = c.state; one = c.three; two = c.two; three = c.one }
 
--- where the heads may be, exchanged
+-- the rooms of the two tapes, exchanged
 abbrev pub exchanged_rooms : Rooms → Rooms
 exchanged_rooms rooms = record { one = rooms.three; two = rooms.two; three = rooms.one }
 
 -- ---- two lists joined
 
--- The first list ends where the second begins, in the state `middle`, and they share no other state that matters: the
--- first doesn't leave the middle, the second doesn't enter it, no state is left, or entered, by both, the second
--- doesn't lead into the first, the first leads into the second only through the middle, it neither leaves nor enters
--- the second's final state, and the second doesn't enter the first's initial state.
+-- The first list ends where the second begins, in the state `middle`, and they share no other state that matters. The
+-- first list does not leave the middle, and the second does not enter it. No state is left by both lists, and none is
+-- entered by both. The second list does not lead into the first; the first leads into the second only through the
+-- middle. The first list neither leaves nor enters the second list's final state, and the second list does not enter
+-- the first list's initial state.
 pub record JoinsAt {Q : Type 0} (middle initial final : Q) (rs ss : List (Rule Q)) : Type 0 where
   pub not_left : (r : Rule Q) → IsIn rs r → r.from ≢ middle
   pub not_entered : (s : Rule Q) → IsIn ss s → s.to ≢ middle

@@ -1,7 +1,7 @@
 //! The laws of this crate. The function does nothing: its contract is the laws.
 ghost use Rattle.bn_erase_laws.specs.Laws.{Laws};
 
-/// The laws of this crate, a named field each.
+/// The laws of this crate, each a named field of `Laws`.
 pub fn erase_laws()
     ensures { Laws }
 {}

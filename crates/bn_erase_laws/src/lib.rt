@@ -1,6 +1,6 @@
-//! The machine that leaves only its output (Bennett 1973), over the definitions alone: the reversible machine for x
-//! to y, and then the reversible machine for y to x, backward; laws on lists of quadruples, turned round, with
-//! tapes 1 and 3 exchanged, or met in one state; and laws on the inverse of any machine of quadruples.
+//! The machine that leaves only its output (Bennett 1973), as definitions: the reversible machine for x to y,
+//! followed by the reversible machine for y to x, backward. Laws on lists of quadruples that are inverted, have tapes
+//! 1 and 3 exchanged, or are joined in one state. Laws on the inverse of any machine of quadruples.
 #![tactic(auto)]
 
 mod inverses;

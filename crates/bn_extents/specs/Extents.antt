@@ -13,8 +13,9 @@ abbrev pub cells_right : ℤ → ℕ
 cells_right (pos n) = n
 cells_right (negsuc n) = 0
 
--- The run of n steps from c to d stays between -left and right behind its start, and in no window with an end nearer to
--- 0: these are the least and the greatest position to which a step takes the head, and at least 0.
+-- After each of its steps, the run of n steps from c to d has its head between -left and right, and no window with an
+-- end nearer to 0 does. Therefore -left is the least position that a step reaches, or 0 if that is not negative;
+-- right is the greatest one, or 0 if that is negative.
 pub record HasExtent (p : Program) (n : ℕ) (c d : Moment) (left right : ℕ) : Type 0 where
   pub run : Reaches (MachineRunsTo (within left right) p) n c d
   pub left_is_least : (l r : ℕ) → Reaches (MachineRunsTo (within l r) p) n c d → left ≤ l

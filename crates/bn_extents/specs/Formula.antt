@@ -1,10 +1,10 @@
--- The least window by the extent of the head (this project's own definition). Lemmas say that it is the least.
+-- The least window by the extent of the head (this project's own definition). Lemmas prove that it is the least.
 use Rattle.std.specs.Prelude.{ℕ, suc, ◌+◌, max, ℤ, pos, ◌+ℤ◌}
 use Rattle.bn_machine.specs.Outcome.{Limits}
 use Rattle.bn_extents.specs.Extents.{cells_right}
 
--- From a word with so many letters, of a run of these steps that halts with its head at this position and so many
--- letters in its output: the output and the blank behind it are copied.
+-- The window of a run that halts: from a word of `word` letters, with the extent `left` and `right`, after `steps`
+-- steps, with its head at `head` and an output of `letters` letters. The output and the blank after it are copied.
 abbrev pub halted_limits : ℕ → ℕ → ℕ → ℕ → ℤ → ℕ → Limits
 halted_limits word left right steps head letters = record {
   left = left;
@@ -13,6 +13,6 @@ halted_limits word left right steps head letters = record {
   output = letters + 1;
 }
 
--- the same of a run that is stuck: nothing is copied
+-- likewise for a run that is stuck: nothing is copied
 abbrev pub stuck_limits : ℕ → ℕ → ℕ → ℕ → Limits
 stuck_limits word left right steps = record { left = left; right = max right word; steps = steps; output = 0 }

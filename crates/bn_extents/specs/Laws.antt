@@ -5,11 +5,11 @@ use Rattle.bn_machine.specs.Outcome.{HasOutcome, Limits, Outcome, Outside}
 use Rattle.bn_machine.specs.declared.quint.Side.{Side}
 use Rattle.bn_extents.specs.LeastWindow.{AreAtMost, EndsWithin, IsLeastWindow, IsOwnEnd}
 
--- a machine that ends has a least window
+-- a machine that halts or is stuck has a least window
 abbrev pub HasLeastWindow : Type 0
 HasLeastWindow = (p : Program) (word : List ℕ) (n : ℕ) → EndsWithin p word n → (l : Limits) × IsLeastWindow p word l
 
--- a machine has one least window at most
+-- a machine has at most one least window for a word
 abbrev pub LeastWindowIsOne : Type 0
 LeastWindowIsOne = (p : Program) (word : List ℕ) (k l : Limits) → IsLeastWindow p word k → IsLeastWindow p word l
     → k ≡ l
@@ -24,7 +24,7 @@ abbrev pub IsTooSmall : Program → List ℕ → Limits → Type 0
 IsTooSmall p word l = (l.right < length word)
     ⊎ ((i tape : ℕ) × (side : Side) × HasOutcome p word l i (Outside tape side))
 
--- a window with a number that is smaller than that of the least window is too small
+-- a window with any number smaller than that of the least window is too small
 abbrev pub SmallerWindowsAreTooSmall : Type 0
 SmallerWindowsAreTooSmall = (p : Program) (word : List ℕ) (k l : Limits) → IsLeastWindow p word l
     → (AreAtMost l k → ⊥) → IsTooSmall p word k

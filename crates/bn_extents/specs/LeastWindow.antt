@@ -20,7 +20,7 @@ pub record FitsRun (p : Program) (word : List ℕ) (l : Limits) : Type 0 where
   pub comes_out : HasOutcome p word l steps outcome
   pub own : IsOwnEnd outcome
 
--- each of the four numbers is at most that of the second limits
+-- each of the four numbers of l is at most that of k
 pub record AreAtMost (l k : Limits) : Type 0 where
   pub left : l.left ≤ k.left
   pub right : l.right ≤ k.right
@@ -32,7 +32,7 @@ pub record IsLeastWindow (p : Program) (word : List ℕ) (l : Limits) : Type 0 w
   pub fits : FitsRun p word l
   pub least : (k : Limits) → FitsRun p word k → AreAtMost l k
 
--- the machine's own run from the word halts or is stuck within n steps
+-- the machine's run from the word, on an infinite tape, halts or is stuck within n steps
 pub record EndsWithin (p : Program) (word : List ℕ) (n : ℕ) : Type 0 where
   pub steps : ℕ
   pub ending : Ending

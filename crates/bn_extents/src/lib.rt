@@ -1,4 +1,4 @@
-//! How far the heads of a machine go, and the least window in which its bounded run ends as the machine itself does.
+//! How far the head of a machine goes, and the least window in which its bounded run ends as the machine itself does.
 #![tactic(auto)]
 
 mod laws;

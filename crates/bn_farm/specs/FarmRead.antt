@@ -14,26 +14,26 @@ use Rattle.bn_farm.specs.declared.farm_refusal.FarmRefusal.TheVariants.{NoSchedu
 use Rattle.bn_farm.specs.declared.farm_refusal.FarmRefusal.TheVariants.{NoMemory}
 use Rattle.bn_farm.specs.FarmTexts.{AreParts, FailsAfter, IsSchedule, SpellBoards, malformed, no_board}
 
--- the part is the text of no circuit
+-- the part is not the text of a circuit
 abbrev pub IsUnspelled : List ℕ → Type 0
 IsUnspelled part = (b : FarmBoard) → IsSpelled b part → ⊥
 
--- ---- behind the boards
+-- ---- the rest after the boards
 
--- the rest is the schedule of these circuits, which together do not have too many elements
+-- the rest is the schedule of these circuits, which together do not have more than `MOST_ELEMENTS` elements
 pub record IsRestRead (boards : List FarmBoard) (left : List ℕ) (bs : List FarmBoard) (es : List Event) : Type 0 where
   pub same : bs ≡ boards
   pub schedule : IsSchedule (length boards) left es
   pub few : elements_together boards ≤ MOST_ELEMENTS
 
--- the rest is a schedule, and the circuits together have this number of elements, which is too large
+-- the rest is a schedule, and the circuits together have this number of elements, which is above `MOST_ELEMENTS`
 pub record AreTooMany (boards : List FarmBoard) (left : List ℕ) (count : ℕ) : Type 0 where
   pub schedule : List Event
   pub is_schedule : IsSchedule (length boards) left schedule
   pub is : count ≡ elements_together boards
   pub great : MOST_ELEMENTS < count
 
--- the rest is no schedule of these circuits, or they have too many elements together; `NoMemory` says nothing
+-- the rest is not a schedule of these circuits, or they have too many elements together; `NoMemory` asserts nothing
 abbrev pub IsRestRefusal : List FarmBoard → List ℕ → FarmRefusal → Type 0
 IsRestRefusal boards left NoSchedule = ⊥
 IsRestRefusal boards left (Board board fault) = ⊥
@@ -50,7 +50,7 @@ pub record HasPushed (boards : List NetConfig) (part : List ℕ) (now : List Net
   pub spelled : IsSpelled (board_of board) part
   pub pushed : now ≡ boards ++ board ∷ []
 
--- the part has an error; `NoMemory` says nothing
+-- the part has an error; `NoMemory` asserts nothing
 abbrev pub IsPartRefusal : List ℕ → ℕ → FarmRefusal → Type 0
 IsPartRefusal part number (Board board fault) =
     (board ≡ number) × (fault ≢ netlist.NoMemory) × IsTextRefusal part fault × IsUnspelled part
@@ -93,8 +93,8 @@ pub record IsRefusedBehind (bytes : List ℕ) (refusal : FarmRefusal) : Type 0 w
   pub spell : SpellBoards parts boards
   pub refused : IsRestRefusal boards last refusal
 
--- The meaning of a refusal for the bytes: no line is `%`; the first circuit with an error; the error after the
--- circuits, none of which has one. `NoMemory` says nothing.
+-- The meaning of a refusal for the bytes: no line is `%`; the first faulty circuit; or, if no circuit is faulty, the
+-- error in the rest after the circuits. `NoMemory` asserts nothing.
 abbrev pub IsFarmRefusal : List ℕ → FarmRefusal → Type 0
 IsFarmRefusal bytes NoSchedule = IsUncut bytes
 IsFarmRefusal bytes (Board board fault) = IsFirstMisspelled bytes board fault

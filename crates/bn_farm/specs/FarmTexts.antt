@@ -18,7 +18,7 @@ sign_text false = codes "- "
 abbrev pub order_text : Order → List ℕ
 order_text o = sign_text o.forward ++ (decimal o.number ++ (codes " " ++ decimal o.count))
 
--- its numbers can be read, and it has at least one step
+-- the numbers of a line can be read, and the line has at least one step
 pub record IsSayableOrder (o : Order) : Type 0 where
   pub number : o.number ≤ greatest
   pub some : 1 ≤ o.count
@@ -46,17 +46,17 @@ pub record IsSchedule (boards : ℕ) (bytes : List ℕ) (es : List Event) : Type
   pub spelled : bytes ≡ schedule_text es
   pub lawful : AreEventsOf boards es
 
--- The errors of a line: it has no form; the farm has no circuit of this number.
+-- The errors of a line: it is malformed; the farm has no circuit of this number.
 pub data ScheduleFault : Type 0 where
   malformed : ScheduleFault
   no_board : ScheduleFault
 
--- something is left, and it does not begin with a whole line that has a form
+-- the rest is not empty, and it does not begin with a whole well-formed line
 pub record LacksForm (left : List ℕ) : Type 0 where
   pub some : left ≢ []
   pub unsaid : (o : Order) (behind : List ℕ) → IsSayableOrder o → left ≢ order_text o ++ 10 ∷ behind
 
--- the rest begins with a whole line that has a form, and its number is 0 or above the number of circuits
+-- the rest begins with a whole well-formed line, and its number is 0 or above the number of circuits
 pub record LacksBoard (boards : ℕ) (left : List ℕ) : Type 0 where
   pub says : Order
   pub behind : List ℕ

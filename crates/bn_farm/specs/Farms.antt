@@ -24,11 +24,11 @@ board_of c = record { version = c.version; spelling = spelling_of c }
 abbrev pub circuit_in : FarmBoard → Circuit
 circuit_in b = circuit_of b.spelling
 
--- its version allows it
+-- the version of a board admits its configuration
 abbrev pub IsAdmitted : FarmBoard → Type 0
 IsAdmitted b = Admits b.version b.spelling
 
--- it has this text, in its version
+-- a board has this text, in its version
 abbrev pub IsSpelled : FarmBoard → List ℕ → Type 0
 IsSpelled b text = Spelled b.version b.spelling text
 

@@ -16,7 +16,7 @@ abbrev pub LinesAreRuns : Type 0
 LinesAreRuns =
     (farm : List FarmBoard) (e : Event) → play farm (ticks_of e) ≡ at_board (after_steps e.forward e.count) e.board farm
 
--- each circuit ends where its own ticks alone leave it, for all ticks of other circuits between them
+-- each circuit ends where its own ticks alone leave it, whatever ticks of other circuits come between them
 abbrev pub BoardsAreApart : Type 0
 BoardsAreApart =
     (farm : List FarmBoard) (es : List Tick) (i : ℕ)
@@ -29,11 +29,11 @@ OrderIsFree =
     → ((i : ℕ) (b : FarmBoard) → slice_get farm i ≡ Some b → own i (ticks first) ≡ own i (ticks second))
     → farm_after farm first ≡ farm_after farm second
 
--- circuits stay circuits
+-- if each circuit of a farm can be written, this holds after all ticks
 abbrev pub FarmsStay : Type 0
 FarmsStay = (farm : List FarmBoard) (es : List Tick) → IsFarm farm → IsFarm (play farm es)
 
--- the number that is counted is the number of steps made, forward and backward
+-- the change of the step count in a run, forward or backward, is the number of steps made
 abbrev pub CountsAreSteps : Type 0
 CountsAreSteps =
     ((b : FarmBoard) (n : ℕ) → IsAdmitted b
@@ -43,7 +43,7 @@ CountsAreSteps =
     → Reaches (Goes (circuit_in b)) (steps_between false b.spelling.config (back (circuit_in b) b.spelling.config n))
     (back (circuit_in b) b.spelling.config n) b.spelling.config)
 
--- playing the undoing schedule restores every circuit
+-- running the undoing schedule restores every circuit
 abbrev pub UndoingRestores : Type 0
 UndoingRestores =
     (farm : List FarmBoard) (schedule : List Event) → IsFarm farm
@@ -55,12 +55,12 @@ UndoingTwice =
     (farm : List FarmBoard) (schedule : List Event) → IsFarm farm
     → undoing (farm_after farm schedule) (undoing farm schedule) ≡ moving farm schedule
 
--- the undoing schedule is a schedule of the same farm, for all circuits in the first schedule
+-- the undoing schedule of any schedule is a schedule of the same farm
 abbrev pub UndoingIsLawful : Type 0
 UndoingIsLawful =
     (farm : List FarmBoard) (schedule : List Event) → IsFarm farm → AllLawful (length farm) (undoing farm schedule)
 
--- a farm keeps its circuits: as many, and each with its wires
+-- ticks keep the number of circuits, and change only the configuration of each
 abbrev pub BoardsKeepCircuits : Type 0
 BoardsKeepCircuits =
     ((farm : List FarmBoard) (es : List Tick) → length (play farm es) ≡ length farm)
@@ -70,27 +70,27 @@ BoardsKeepCircuits =
 -- ---- the laws
 
 pub record Laws : Type 0 where
-  -- The most bytes of a farm with a schedule are 2^28.
+  -- The limit `MOST_FARM_BYTES` of a farm with a schedule is 2^28 bytes.
   pub most_farm_bytes_are_stated : MOST_FARM_BYTES ≡ 2 ^ 28
-  -- A line of n ticks is a run of n steps of its circuit.
+  -- A line of n ticks is a run of n steps of its circuit, forward or backward, and changes no other circuit.
   pub lines_are_runs : LinesAreRuns
-  -- Each circuit ends where its own ticks alone leave it.
+  -- Each circuit ends where its own ticks alone leave it, whatever ticks of other circuits come between them.
   pub boards_are_apart : BoardsAreApart
   -- Schedules with the same ticks for each board end in the same farm.
   pub order_is_free : OrderIsFree
-  -- Each circuit stays a circuit.
+  -- If each circuit of a farm can be written, this holds after all ticks.
   pub farms_stay : FarmsStay
-  -- The count of a line is the number of steps that it made.
+  -- The change of the step count in a run, forward or backward, is the number of steps made.
   pub counts_are_steps : CountsAreSteps
   -- The undoing schedule restores every circuit.
   pub undoing_restores : UndoingRestores
-  -- Undone twice, a schedule has the lines that made steps.
+  -- The undoing schedule of an undoing schedule is the list of the lines that made steps, each with the number made.
   pub undoing_twice : UndoingTwice
-  -- A farm keeps its circuits and their wires.
+  -- Ticks keep the number of circuits, and change only the configuration of each.
   pub boards_keep_circuits : BoardsKeepCircuits
-  -- The undoing schedule is a schedule of the same farm.
+  -- The undoing schedule of any schedule is a schedule of the same farm.
   pub undoing_is_lawful : UndoingIsLawful
-  -- The undoing schedule of a schedule of a farm is one of the farm that it leaves.
+  -- The undoing schedule of a schedule of a farm is a schedule of the resulting farm.
   pub undoing_is_a_schedule : UndoingIsASchedule
   -- The text of a farm and a schedule of it can be read back.
   pub farms_are_read_back : FarmsAreReadBack

@@ -27,7 +27,7 @@ FarmsAreReadBack =
     (bs : List FarmBoard) (es : List Event) (text : List ℕ) → AreEventsOf (length bs) es → IsFarmText bs es text
     → IsReadBack bs es text
 
--- the undoing schedule of a schedule of a farm is one of the farm that it leaves
+-- the undoing schedule of a schedule of a farm is a schedule of the resulting farm
 abbrev pub UndoingIsASchedule : Type 0
 UndoingIsASchedule =
     (bs : List FarmBoard) (es : List Event) → IsFarm bs → AreEventsOf (length bs) es

@@ -11,7 +11,7 @@ abbrev pub other : Bool → Bool
 other true = false
 other false = true
 
--- how many steps led from c to d, forward or backward: the configuration counts each one
+-- the number of steps that led from c to d, forward or backward, computed from the step counts of the configurations
 abbrev pub steps_between : Bool → Config → Config → ℕ
 steps_between true c d = d.steps - c.steps
 steps_between false c d = c.steps - d.steps
@@ -23,12 +23,12 @@ made_on e b = steps_between e.forward b.spelling.config (stepped e.forward (circ
 abbrev pub made : List FarmBoard → Event → ℕ
 made farm e = option_map_or (made_on e) (slice_get farm e.board) 0
 
--- a line of this many ticks, and none for no ticks
+-- a line of this many ticks, and no line for no ticks
 abbrev pub event_of : Bool → ℕ → ℕ → List Event
 event_of forward board zero = []
 event_of forward board (suc n) = record { forward = forward; board = board; count = suc n } ∷ []
 
--- For each line that made steps, the line of the other sign, with the number made; the last line first.
+-- For each line that made steps, the line with the other sign and the number made, in reverse order.
 abbrev pub undoing : List FarmBoard → List Event → List Event
 undoing farm [] = []
 undoing farm (e ∷ es) = undoing (play farm (ticks_of e)) es ++ event_of (other e.forward) e.board (made farm e)
@@ -38,7 +38,7 @@ abbrev pub moving : List FarmBoard → List Event → List Event
 moving farm [] = []
 moving farm (e ∷ es) = event_of e.forward e.board (made farm e) ++ moving (play farm (ticks_of e)) es
 
--- a line that is allowed in a schedule of a farm of this many circuits, and whose number a u64 holds
+-- a line that is allowed in a schedule of a farm of this many circuits, with a count from 1 to `CLOCK`
 pub record IsLawful (boards : ℕ) (e : Event) : Type 0 where
   pub some_events : 0 < e.count
   pub few_events : e.count ≤ clock

@@ -12,7 +12,8 @@ use bn_netlist::NetConfig;
 use std::alloc::Global;
 use std::marker::Model;
 
-/// Several circuits. Clauses see the list of the configurations that can be written.
+/// A farm: several independent circuits, each called a board. Contracts see the list of the boards, each a
+/// configuration that can be written.
 #[derive(Debug, Drop)]
 pub struct Farm {
     boards: Vec<NetConfig>,
@@ -46,8 +47,8 @@ impl Farm {
         self.boards.as_slice()
     }
 
-    /// Plays the schedule, and returns the schedule that undoes it. It allocates its memory first: after `NoMemory` the
-    /// farm is unchanged. (This project's own definition.)
+    /// Runs the schedule, whose circuits the farm must have, and returns the schedule that undoes it. The call
+    /// allocates its memory first: after `NoMemory` the farm is unchanged. (This project's own definition.)
     pub fn play(&mut self, alloc: Global, schedule: &Schedule) -> Result<Schedule, NoMemory>
         requires { AreOnBoards (length self.old) schedule.now }
         ensures played { IfOk result (λ undo. self.new ≡ farm_after self.old schedule.now) }

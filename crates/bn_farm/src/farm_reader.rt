@@ -16,13 +16,13 @@ use bn_circuits::MOST_ELEMENTS;
 use bn_netlist::{NetConfig, NetlistRefusal, read_config};
 use std::alloc::Global;
 
-/// The most bytes of a farm with a schedule that are read: 256 MiB (this project's own definition).
+/// The greatest number of bytes of a farm with a schedule that is read: 256 MiB (this project's own definition).
 pub const MOST_FARM_BYTES: u64 = 268_435_456;
 
 /// Reads a farm with a schedule: the part before each line that is exactly `%` with its byte 10 is a circuit, and the
-/// part after the last one is the schedule. A refusal names the first of these: no line is `%`; the first faulty
-/// circuit, with its first error; the first faulty line of the schedule, with its first error; the number of all
-/// elements. (This project's own definition.)
+/// part after the last one is the schedule. A refusal names the first of these faults: no line is `%`; a faulty
+/// circuit, with its first error; a faulty line of the schedule, with its first error; too many elements of all
+/// circuits together. (This project's own definition.)
 pub fn read_farm(alloc: Global, bytes: &[u8]) -> Result<(Farm, Schedule), FarmRefusal>
     requires { length bytes.now ≤ MOST_FARM_BYTES }
     ensures read { IfOk result (λ r. IsFarmRead bytes.now r.0 r.1) }

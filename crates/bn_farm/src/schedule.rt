@@ -5,7 +5,7 @@ ghost use Rattle.std.specs.Prelude.{◌≡◌};
 use crate::event::Event;
 use std::marker::Model;
 
-/// A schedule: events on the circuits of a farm, the first event first. Clauses see the list of its events.
+/// A schedule: events on the circuits of a farm, in their order. Contracts see the list of the events.
 #[derive(Debug, Drop)]
 pub struct Schedule {
     events: Vec<Event>,
@@ -28,7 +28,7 @@ impl Schedule {
         Schedule { events }
     }
 
-    /// The events, the first event first. Allocates no memory.
+    /// The events, in their order. Allocates no memory.
     pub fn events(&self) -> &[Event]
         ensures { result.now ≡ self.now }
     {

@@ -11,8 +11,8 @@ use crate::take_order::take_order;
 use bn_netlist::Cursor;
 use std::alloc::Global;
 
-/// Reads the schedule of a farm of this many circuits. A refusal names the first line with an error, counted from 1,
-/// and its first error. (This project's own definition.)
+/// Reads the schedule of a farm of this many circuits. A refusal names the first faulty line, counted from 1, and its
+/// first error. (This project's own definition.)
 pub(crate) fn read_schedule(
     alloc: Global,
     bytes: &[u8],

@@ -1,4 +1,4 @@
-//! The contents of a schedule, from left to right.
+//! Parsing a schedule, from left to right.
 
 ghost use Rattle.bn_netlist_laws.specs.Reading.{Takes};
 ghost use Rattle.bn_farm.specs.Reading.{order_taken, sign_taken};
@@ -6,7 +6,7 @@ ghost use Rattle.bn_farm.specs.Reading.{order_taken, sign_taken};
 use crate::order::Order;
 use bn_netlist::Cursor;
 
-// A sign.
+// Reads a sign.
 #[tactic(auto, unfolding(crate::specs::Reading::sign_taken))]
 fn take_sign(cursor: &mut Cursor<'_>) -> Option<bool>
     ensures { Takes result cursor.new (sign_taken cursor.old) }
@@ -18,7 +18,7 @@ fn take_sign(cursor: &mut Cursor<'_>) -> Option<bool>
     Some(false)
 }
 
-/// A whole line: its sign, a circuit's number and a number of steps.
+/// Reads a whole line: its sign, the number of a circuit and a number of steps.
 #[tactic(auto, unfolding(crate::specs::Reading::order_taken))]
 pub(crate) fn take_order(cursor: &mut Cursor<'_>) -> Option<Order>
     ensures { Takes result cursor.new (order_taken cursor.old) }

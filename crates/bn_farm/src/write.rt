@@ -24,7 +24,7 @@ pub fn write_farm(alloc: Global, farm: &Farm, schedule: &Schedule) -> Result<Vec
     Ok(text)
 }
 
-// The text of each circuit with a line `%` after it.
+// Appends the text of each circuit with a line `%` after it.
 fn push_boards(alloc: Global, text: &mut Vec<u8>, boards: &[NetConfig]) -> Result<(), NoMemory>
     requires { IsFarm (map board_of boards.now) }
     ensures { OnOk result (HasWritten text.old.items text.new.items (map board_of boards.now)) }
@@ -35,7 +35,7 @@ fn push_boards(alloc: Global, text: &mut Vec<u8>, boards: &[NetConfig]) -> Resul
     Ok(())
 }
 
-// The text of one circuit, and a line `%`.
+// Appends the text of one circuit, and a line `%`.
 fn push_board(alloc: Global, text: &mut Vec<u8>, board: &NetConfig) -> Result<(), NoMemory>
     requires { IsAdmitted (board_of board.now) }
     ensures { OnOk result (HasWritten text.old.items text.new.items (board_of board.now ∷ [])) }
@@ -46,7 +46,7 @@ fn push_board(alloc: Global, text: &mut Vec<u8>, board: &NetConfig) -> Result<()
     Ok(())
 }
 
-// The line of each event, in their order.
+// Appends the line of each event, in their order.
 fn push_events(text: &mut Vec<u8>, events: &[Event]) -> Result<(), NoMemory>
     ensures { OnOk result (text.new.items ≡ text.old.items ++ schedule_text events.now) }
 {
@@ -56,7 +56,7 @@ fn push_events(text: &mut Vec<u8>, events: &[Event]) -> Result<(), NoMemory>
     Ok(())
 }
 
-// The line of one event, in which circuits are counted from 1.
+// Appends the line of one event, in which circuits are counted from 1.
 fn push_event(text: &mut Vec<u8>, event: Event) -> Result<(), NoMemory>
     ensures { OnOk result (text.new.items ≡ text.old.items ++ (sign_text event.forward
         ++ (decimal (event.board + 1) ++ (codes " " ++ (decimal event.count ++ 10 ∷ []))))) }
@@ -69,7 +69,7 @@ fn push_event(text: &mut Vec<u8>, event: Event) -> Result<(), NoMemory>
     Ok(())
 }
 
-// A number.
+// Appends a number.
 fn push_number(text: &mut Vec<u8>, number: u64) -> Result<(), NoMemory>
     ensures { OnOk result (text.new.items ≡ text.old.items ++ decimal number) }
 {

@@ -7,7 +7,7 @@ use Rattle.bn_machine.specs.declared.quint.Quint.{Quint}
 use Rattle.bn_machine.specs.declared.quint.Shift.{Shift}
 use Rattle.bn_machine.specs.declared.quint.Shift.TheVariants.{Left, Stay, Right}
 
--- there is a round, and there are not too many
+-- there is at least one round, and there are at most `MOST_INCREMENTS`
 pub record IsRoundCount (k : ℕ) : Type 0 where
   pub some : 1 ≤ k
   pub few : k ≤ MOST_INCREMENTS
@@ -44,7 +44,7 @@ abbrev pub increment_rule : ℕ → ℕ → ℕ → Shift → ℕ → Quint
 increment_rule state read write shift next =
     record { state = state; read = read; write = write; shift = shift; next = next }
 
--- the nine quintuples of a round; the last, at the blank before the number, shifts and leads on as said
+-- the nine quintuples of a round; the last, at the blank before the number, shifts by `shift` and leads to `next`
 abbrev pub round : ℕ → Shift → ℕ → List Quint
 round i shift next =
     increment_rule (right_going i) digit_0 digit_0 Right (right_going i)
@@ -58,12 +58,13 @@ round i shift next =
     ∷ increment_rule (left_going i) blank_digit blank_digit shift next
     ∷ []
 
--- the first n rounds, each of which steps onto the number again for the next round
+-- the first n rounds, each of which ends with a step onto the number for the next round
 abbrev pub rounds : ℕ → List Quint
 rounds zero = []
 rounds (suc n) = rounds n ++ round (suc n) Right (right_going (suc n + 1))
 
--- the whole list: a step onto the number, k - 1 rounds that lead on, and the last round, which stays where it ends
+-- the whole list: a step onto the number, k - 1 rounds that lead to the next, and the last round, whose last
+-- quintuple does not shift
 abbrev pub quints_of : ℕ → List Quint
 quints_of k = increment_rule increment_start blank_digit blank_digit Right (right_going 1) ∷ (rounds (k - 1)
     ++ round k Stay (final k))

@@ -1,4 +1,4 @@
--- What the laws of this crate say, each a field of `Laws`.
+-- The laws of this crate, each a field of `Laws`.
 use Rattle.std.specs.Prelude.{◌≡◌, ℕ, ◌+◌, ◌*◌, length}
 use Rattle.bn_machine.specs.Standard.{IsStandard}
 use Rattle.bn_table.specs.Rows.{FitsTable}
@@ -15,7 +15,7 @@ AreCounted =
 abbrev pub AreStandard : Type 0
 AreStandard = (k : ℕ) → IsRoundCount k → IsStandard (incrementer k).quints
 
--- it is a machine as tables have it: its states are numbered by first appearance and each of them appears
+-- the machine fits a table: its states are numbered by first appearance and each of them appears
 abbrev pub FitTables : Type 0
 FitTables = (k : ℕ) → IsRoundCount k → FitsTable (incrementer k)
 
@@ -26,7 +26,7 @@ pub record Laws : Type 0 where
   pub increments_are_counted : AreCounted
   -- The machine of k increments is in standard form.
   pub increments_are_standard : AreStandard
-  -- The machine of k increments is one as tables have it: its states are numbered by first appearance and each appears.
+  -- The machine of k increments fits a table: its states are numbered by first appearance and each appears.
   pub increments_fit_tables : FitTables
   -- The most increments are 4.
   pub most_increments_are_stated : MOST_INCREMENTS ≡ 4

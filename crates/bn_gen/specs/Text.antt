@@ -5,8 +5,8 @@ use Rattle.bn_csv.specs.Lines.{lines_of}
 use Rattle.bn_table.specs.Rows.{Named, named_program, rows_of}
 use Rattle.bn_gen.specs.Increments.{incrementer}
 
--- the names of the start and of the states of four rounds, by number: R goes right to the end of the number, P adds
--- one and carries, L goes left over the rest
+-- the names of the start state and of the states of four rounds, by number: R goes right to the end of the number, P
+-- adds one and carries, L goes left over the rest
 abbrev pub round_names : List (List ℕ)
 round_names =
     codes "S"

@@ -10,9 +10,9 @@ use std::alloc::Global;
 /// The most increments.
 pub const MOST_INCREMENTS: u32 = 4;
 
-/// The machine, in standard form, that adds one to a binary number k times, one round after another; k is from 1 to
-/// 4. Its symbols are the blank, the digit 0 and the digit 1, in this order, and its states are numbered by first
-/// appearance, from 0. `Err` comes only for want of memory. The machine is this project's own.
+/// The machine, in standard form, that adds one to a binary number k times, one round after another; k is from 1 to 4.
+/// Its symbols are the blank, the digit 0 and the digit 1, in this order, and its states are numbered by first
+/// appearance, from 0. Fails only if memory runs out. The machine is this project's own.
 pub fn increments(alloc: Global, k: u32) -> Result<Machine, NoMemory>
     requires { IsRoundCount k }
     ensures { IfOk result (λ machine. machine ≡ incrementer k) }

@@ -28,7 +28,7 @@ fn rule(state: u32, read: u32, write: u32, shift: Shift, next: u32) -> Quint
     }
 }
 
-// The nine quintuples of a round, counted from 1, whose last one shifts and leads on as said.
+// The nine quintuples of a round, counted from 1. The last one shifts by `shift` and leads to `next`.
 fn round_of(round: u32, shift: Shift, next: u32) -> [Quint; 9]
     requires some { 1 ≤ round }
     requires few { round ≤ MOST_INCREMENTS }
@@ -48,7 +48,7 @@ fn round_of(round: u32, shift: Shift, next: u32) -> [Quint; 9]
     ]
 }
 
-// Adds all rounds but the last, each of which leads on to the next.
+// Adds all rounds but the last. Each of them leads to the next round.
 fn add_rounds(quints: &mut Vec<Quint>, k: u32) -> Result<(), NoMemory>
     requires { IsRoundCount k }
     ensures { OnOk result (quints.new.items ≡ quints.old.items ++ list.rounds (k - 1)) }

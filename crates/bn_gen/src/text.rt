@@ -21,7 +21,7 @@ const FINAL: &[u8] = b"F";
 /// The letters of the blank, the digit 0 and the digit 1.
 const LETTERS: [u8; 3] = *b"_01";
 
-// The name of the start, or of a state of a round.
+// The name of the start state, or of a state of a round.
 fn round_name(state: u32) -> &'static [u8]
     requires { state < 13 }
     ensures { result.now ≡ slice_index_or text.round_names state [] }
@@ -73,9 +73,9 @@ fn write_quint(writer: &mut EntryWriter, k: u32, quint: &Quint) -> Result<(), No
     )
 }
 
-/// The text of the table of the machine of k increments; k is from 1 to 4. State S is the start and F the final state;
-/// in round i, counted from 1, Ri goes right, Pi adds one and Li goes left. Reading the text gives the table. `Err`
-/// comes only for want of memory.
+/// The text of the table of the machine of k increments; k is from 1 to 4. S is the start state and F the final
+/// state. In round i, counted from 1, Ri goes right, Pi adds one and Li goes left. Reading the text gives the table.
+/// Fails only if memory runs out.
 pub fn increments_text(alloc: Global, k: u32) -> Result<Vec<u8>, NoMemory>
     requires { IsRoundCount k }
     ensures text { IfOk result (λ written. written.items ≡ text.increments_text k) }

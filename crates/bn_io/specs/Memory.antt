@@ -1,4 +1,4 @@
--- What callers see of the source and the sink in memory, which fail in the calls that they were told to.
+-- The source and the sink in memory, as contracts see them. Their maker sets the calls that fail.
 use Rattle.std.specs.Prelude.{◌≡◌, ℕ, ◌-◌, List, length, drop, ◌++◌, min, Contains, ◌⊎◌}
 use Rattle.bn_io.specs.Faults.{counted}
 
@@ -20,7 +20,7 @@ pub record MemoryOutput : Type 0 where
   pub calls : ℕ
   pub faults : ℕ
 
--- the call that comes next is one of those that fail
+-- the next call is one of those that fail
 abbrev pub InputFails : MemoryInput → Type 0
 InputFails s = Contains s.failing (counted s.calls)
 
@@ -36,7 +36,7 @@ input_failed s = record s { calls = counted s.calls; faults = counted s.faults }
 abbrev pub input_less : MemoryInput → ℕ → MemoryInput
 input_less s count = record s { left = drop count s.left; calls = counted s.calls }
 
--- the call that comes next is one of those that fail, or it finds no room
+-- the next call is one of those that fail, or no room is left
 abbrev pub OutputFails : MemoryOutput → Type 0
 OutputFails s = Contains s.failing (counted s.calls) ⊎ (s.room ≡ length s.taken)
 

@@ -6,12 +6,12 @@ ghost use Rattle.bn_io.specs.Told.{Grows, GrowsByFront};
 use crate::sinks::Sink;
 use crate::writing::{WriteFault, write_all};
 
-/// How many bytes are handed to a sink at once where a text is given in pieces, but for the last ones.
+/// The number of bytes in each piece, except the last, when a text is given to a sink in pieces.
 pub const PIECE: usize = 4096;
 
-/// Gives all whole pieces of `text` to the sink, and keeps what is behind them, which is shorter than a piece.
-/// `WriteFault` comes only where the sink's count of faults rose in this call or stands at its last value, and the sink
-/// has then taken a front of `text`; otherwise the count is what it was. It takes no memory.
+/// Gives all whole pieces of `text` to the sink, and leaves the bytes after them in `text`, fewer than a piece. The
+/// error is `WriteFault` only if the sink's count of faults rose in this call or is at its last value, and the sink has
+/// then taken a prefix of `text`; otherwise the count is unchanged. Allocates no memory.
 pub fn give_pieces<K: Sink>(sink: &mut K, text: &mut Vec<u8>) -> Result<(), WriteFault>
     ensures given { OnOk result ((pieces : List ℕ) × (text.old.items ≡ pieces ++ text.new.items)
         × Grows (K.taken sink.old) (K.taken sink.new) pieces) }
@@ -27,7 +27,7 @@ pub fn give_pieces<K: Sink>(sink: &mut K, text: &mut Vec<u8>) -> Result<(), Writ
     Ok(())
 }
 
-// Gives the first piece of `text`, and keeps what is behind it.
+// Gives the first piece of `text`, and leaves the bytes after it in `text`.
 fn give_piece<K: Sink>(sink: &mut K, text: &mut Vec<u8>) -> Result<(), WriteFault>
     requires { PIECE ≤ vec_len text.old }
     ensures given { OnOk result ((piece : List ℕ) × (text.old.items ≡ piece ++ text.new.items)
@@ -44,7 +44,7 @@ fn give_piece<K: Sink>(sink: &mut K, text: &mut Vec<u8>) -> Result<(), WriteFaul
     Ok(())
 }
 
-// Keeps what is behind the first piece.
+// Removes the first piece.
 fn drop_piece(text: &mut Vec<u8>)
     requires { PIECE ≤ vec_len text.old }
     ensures { text.new.items ≡ drop PIECE text.old.items }

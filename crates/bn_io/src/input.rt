@@ -1,4 +1,4 @@
-//! What a command reads its input from.
+//! Where a command reads its input.
 ghost use Rattle.std.specs.Prelude.{◌≡◌, ◌↔◌, ℕ, ◌<◌, ◌≤◌, List, [], drop, length, take, Option, Some, option_map};
 ghost use Rattle.std.specs.Prelude.{OnErr, IfOk, IfSome, IsTrue, is_some};
 ghost use Rattle.bn_io.specs.Faults.{HasCause};
@@ -7,25 +7,25 @@ ghost use Rattle.bn_io.specs.Told.{Loses};
 use crate::slice_input::SliceInput;
 use crate::sources::{Source, SourceFailed};
 
-/// What a command reads its input from: any source, or bytes that stand in memory, which are lent whole, so that
-/// nothing of them is copied. (This project's own profile.)
+/// Where a command reads its input: any source, or bytes in memory, which are lent whole, so that none of them is
+/// copied. (This project's own profile.)
 pub trait Input {
-    /// The bytes that are left, where it tells them.
+    /// The bytes that are left, if it makes them known.
     ghost left: { Self → Option (List ℕ) };
 
     /// How often it has failed, up to the last value of its counter.
     ghost faults: { Self → ℕ };
 
-    /// It has neither failed nor said that it has ended, as far as it tells.
+    /// It has neither failed nor reported its end, as far as it makes this known.
     ghost open: { Self → Type 0 };
 
-    /// It has been asked for bytes after it had failed or had said that it has ended.
+    /// It was called for bytes after it had failed or had reported its end.
     ghost overrun: { Self → Type 0 };
 
-    /// It lends all that is left.
+    /// It lends all bytes that are left.
     ghost lends: { Self → Type 0 };
 
-    /// Gives the next bytes into the front of `into`, as `Source::take` does.
+    /// Writes the next bytes to the front of `into`, as `Source::take` does.
     fn take(&mut self, into: &mut [u8]) -> Result<usize, SourceFailed>
         requires { 0 < length into.old }
         ensures bound { IfOk result (λ c. c ≤ length into.old) }
@@ -38,11 +38,11 @@ pub trait Input {
         ensures goes_on { IfOk result (λ c. 0 < c → «open» self.old → «open» self.new) }
         ensures in_time { «open» self.old → overrun self.new → overrun self.old };
 
-    /// All that is left, where it stands in memory.
+    /// All bytes that are left, if they are in memory.
     fn rest(&self) -> Option<&[u8]>
         ensures { IfSome result (λ bytes. lends self.now × (left self.now ≡ Some bytes.now)) };
 
-    /// Takes the first `count` bytes of those that it lends, where it lends some.
+    /// Takes the first `count` of the bytes that it lends, if it lends any.
     fn take_lent(&mut self, count: usize)
         ensures less { lends self.old → left self.new ≡ option_map (drop count) (left self.old) }
         ensures faultless { faults self.new ≡ faults self.old }

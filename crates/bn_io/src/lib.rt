@@ -1,8 +1,7 @@
 //! Byte sources and byte sinks, and counts of their faults.
 //!
-//! Every byte that comes in or goes out passes through `Source` or `Sink`. Each counts its
-//! failures, and `read_all` and `write_all` blame the outside only where that count rose or stands
-//! at its last value.
+//! Bytes are read through `Source` or `Input` and written through `Sink`. Each counts its failures. `read_all` and
+//! `write_all` report a fault only if that count rose or is at its last value.
 #![tactic(auto)]
 
 mod giving;

@@ -10,8 +10,8 @@ use bn_lists::NoMemory;
 use std::alloc::Global;
 use std::marker::Model;
 
-/// A sink into memory, for tests and for output that is kept. It has room for so many bytes, takes
-/// at most so many a call, and fails in the calls that it was told to.
+/// A sink into memory, for tests and for stored output. Its maker sets its room, the most bytes that one call takes,
+/// and the calls that fail.
 #[derive(Drop)]
 pub struct MemSink {
     bytes: Vec<u8>,
@@ -39,10 +39,10 @@ impl Model for MemSink {
 }
 
 impl MemSink {
-    /// An empty sink with room for `room` bytes, which takes at most `piece` of them a call, where
-    /// `piece` is at least 1. It fails in the calls whose numbers, counted from 1, are in
-    /// `failing`, and in those that find no room. Its count of faults begins at 0, each failure
-    /// adds one, and at its last value it stays. It takes all its memory here.
+    /// An empty sink with room for `room` bytes, which takes at most `piece` of them per call, where `piece` is at
+    /// least 1. It fails in the calls whose numbers, counted from 1, are in `failing`, and when it has no room left.
+    /// Its count of faults begins at 0, each failure adds one, and at its last value it stays. It allocates all its
+    /// memory here.
     pub fn try_new(
         alloc: Global,
         room: usize,

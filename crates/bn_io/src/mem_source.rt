@@ -8,8 +8,8 @@ ghost use Rattle.bn_io.specs.Memory.{MemoryInput, InputFails, given, input_faile
 use crate::sources::{Source, SourceFailed};
 use std::marker::Model;
 
-/// A source over bytes in memory, for tests and for input that is already read. It gives at most so
-/// many bytes a call, and fails in the calls that it was told to.
+/// A source over bytes in memory, for tests and for input that is already read. Its maker sets the most bytes that one
+/// call gives, and the calls that fail.
 #[derive(Drop)]
 pub struct MemSource {
     bytes: Vec<u8>,
@@ -35,7 +35,7 @@ impl Model for MemSource {
 }
 
 impl MemSource {
-    /// A source of `bytes` that gives at most `piece` of them a call, where `piece` is at least 1.
+    /// A source of `bytes` that gives at most `piece` of them per call, where `piece` is at least 1.
     /// It fails in the calls whose numbers, counted from 1, are in `failing`. Its count of faults
     /// begins at 0, each failure adds one, and at its last value it stays. It takes no memory.
     pub fn new(bytes: Vec<u8>, piece: usize, failing: Vec<u64>) -> MemSource

@@ -8,7 +8,7 @@ use crate::input::Input;
 use crate::sources::{Source, SourceFailed};
 use std::alloc::{AllocError, Global};
 
-/// How many bytes one call asks of a source, at most.
+/// The greatest number of bytes that one call requests from a source.
 pub const CHUNK: usize = 65536;
 
 /// Why an input was not read whole.
@@ -33,10 +33,10 @@ impl From<AllocError> for ReadRefusal {
     }
 }
 
-/// Reads to the end of input, and answers all the bytes, which are at most `limit`. `TooLong` comes exactly where the
-/// source gave more than `limit` bytes; the read ends at the first byte above it. `ReadFault` comes only where the
-/// source's count of faults rose in this call or stands at its last value; after any other answer the count is what it
-/// was. After each answer a source that told its bytes still does, and has lost just those that were read.
+/// Reads to the end of input, and returns all the bytes, which are at most `limit`. The error is `TooLong` exactly if
+/// the source gave more than `limit` bytes; the read ends at the first byte above the limit. It is `ReadFault` only if
+/// the source's count of faults rose in this call or is at its last value; after any other result the count is
+/// unchanged. After each result, a source that made its bytes known still does, and has lost just those that were read.
 pub fn read_all<S: Source>(
     alloc: Global,
     source: &mut S,
@@ -59,7 +59,7 @@ pub fn read_all<S: Source>(
     read_whole(alloc, source, limit)
 }
 
-/// Reads any input to its end, as `read_all` does a source.
+/// Reads any input to its end, as `read_all` does for a source.
 pub fn read_whole<I: Input>(
     alloc: Global,
     input: &mut I,
@@ -94,7 +94,7 @@ fn chunk(alloc: Global) -> Result<Vec<u8>, ReadRefusal>
     Ok(buffer)
 }
 
-// Reads to the end of input, by way of `buffer`, into `bytes`, which begins empty.
+// Reads to the end of input, through `buffer`, into `bytes`, which is empty at first.
 fn read_onto<I: Input>(
     input: &mut I,
     buffer: &mut [u8],
@@ -119,7 +119,7 @@ fn read_onto<I: Input>(
     Ok(())
 }
 
-// Reads the next bytes behind `bytes`, by way of `buffer`, and answers whether the input has ended.
+// Appends the next bytes to `bytes`, through `buffer`, and returns whether the input has ended.
 fn read_piece<I: Input>(
     input: &mut I,
     buffer: &mut [u8],
@@ -157,8 +157,8 @@ fn read_piece<I: Input>(
     Ok(count == 0)
 }
 
-/// How many bytes to ask a source for: as many as there is space for, and at most one more than may
-/// still come.
+/// The number of bytes to request from a source: the space, but at most one more than the number `room` of bytes that
+/// may still come.
 pub fn piece_size(room: u64, space: usize) -> usize
     ensures { result ≡ min space (room + 1) }
 {

@@ -7,17 +7,17 @@ ghost use Rattle.bn_io.specs.Told.{Grows};
 #[derive(Clone, Copy, Debug, PartialEq, Eq)]
 pub struct SinkFailed;
 
-/// A sink of bytes. It may tell which bytes it has taken, and it counts its failures, up to the
-/// last value of a counter.
+/// A sink of bytes. It may make known which bytes it has taken, and it counts its failures, up to the last value of a
+/// counter.
 pub trait Sink {
-    /// The bytes that it has taken, where it tells them.
+    /// The bytes that it has taken, if it makes them known.
     ghost taken: { Self → Option (List ℕ) };
 
     /// How often it has failed, up to the last value of its counter.
     ghost faults: { Self → ℕ };
 
-    /// Takes at least one of the first of `bytes`, which is not empty, and answers how many. After
-    /// `SinkFailed` nothing was taken.
+    /// Takes a nonempty prefix of `bytes`, which is not empty, and returns its length. On `SinkFailed` no byte was
+    /// taken.
     fn give(&mut self, bytes: &[u8]) -> Result<usize, SinkFailed>
         requires { 0 < length bytes.now }
         ensures bound { IfOk result (λ c. (0 < c) × (c ≤ length bytes.now)) }

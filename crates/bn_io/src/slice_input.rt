@@ -1,7 +1,7 @@
-//! An input that stands in memory.
+//! An input in memory.
 ghost use Rattle.std.specs.Prelude.{◌≡◌};
 
-/// An input that stands in memory, which its caller keeps. It never fails.
+/// An input in memory that belongs to the caller. It never fails.
 #[derive(Clone, Copy, Debug)]
 pub struct SliceInput<'a> {
     /// The bytes that are left.

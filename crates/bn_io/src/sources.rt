@@ -7,24 +7,23 @@ ghost use Rattle.bn_io.specs.Told.{Loses};
 #[derive(Clone, Copy, Debug, PartialEq, Eq)]
 pub struct SourceFailed;
 
-/// A source of bytes. It may tell which bytes it has left, and it counts its failures, up to the
-/// last value of a counter.
+/// A source of bytes. It may make known which bytes it has left, and it counts its failures, up to the last value of a
+/// counter.
 pub trait Source {
-    /// The bytes that are left, where it tells them.
+    /// The bytes that are left, if it makes them known.
     ghost left: { Self → Option (List ℕ) };
 
     /// How often it has failed, up to the last value of its counter.
     ghost faults: { Self → ℕ };
 
-    /// It has neither failed nor said that it has ended, as far as it tells.
+    /// It has neither failed nor reported its end, as far as it makes this known.
     ghost open: { Self → Type 0 };
 
-    /// It has been asked for bytes after it had failed or had said that it has ended.
+    /// It was called for bytes after it had failed or had reported its end.
     ghost overrun: { Self → Type 0 };
 
-    /// Gives the next bytes into the front of `into`, which is not empty, and answers how many: 0
-    /// only at the end of input. After `SourceFailed` nothing was taken, and what stands in `into`
-    /// is open.
+    /// Writes the next bytes to the front of `into`, which is not empty, and returns how many: 0 only at the end of
+    /// input. On `SourceFailed` no byte was taken from the source, and the contents of `into` are unspecified.
     fn take(&mut self, into: &mut [u8]) -> Result<usize, SourceFailed>
         requires { 0 < length into.old }
         ensures bound { IfOk result (λ c. c ≤ length into.old) }

@@ -7,9 +7,9 @@ use crate::sinks::{Sink, SinkFailed};
 use std::io::Write;
 use std::marker::Model;
 
-/// A sink over a writer. It tells nothing of what the writer has taken, and callers see it as the
-/// count of its failures. A writer that takes nothing of a piece counts as failing. It never
-/// flushes, so `W` is to be a writer that holds nothing back, or one that its owner flushes.
+/// A sink over a writer. It makes nothing known of the bytes that the writer has taken. Contracts see the writer and
+/// the count of failures. A writer that takes no byte of a piece counts as failing. The sink never flushes: `W` must
+/// be a writer without a buffer, or one that its owner flushes.
 #[derive(Drop)]
 pub struct StdSink<W> {
     inner: W,

@@ -7,8 +7,8 @@ use crate::sources::{Source, SourceFailed};
 use std::io::Read;
 use std::marker::Model;
 
-/// A source over a reader. It tells nothing of what the reader will give, and callers see it as the
-/// count of its failures.
+/// A source over a reader. It makes nothing known of the bytes that the reader will give. Contracts see the reader and
+/// the count of failures.
 #[derive(Drop)]
 pub struct StdSource<R> {
     inner: R,

@@ -7,8 +7,8 @@ use crate::sinks::{Sink, SinkFailed};
 use std::alloc::Global;
 use std::marker::Model;
 
-/// A sink into memory that grows with what it takes, and takes all that it is given. It fails only for want of memory,
-/// and callers see it as the bytes taken and the count of its failures.
+/// A sink into memory that grows with its content, and takes all bytes that it is given. It fails only if memory runs
+/// out. Contracts see the bytes taken and the count of failures.
 #[derive(Drop)]
 pub struct VecSink {
     bytes: Vec<u8>,

@@ -9,9 +9,9 @@ use crate::sinks::{Sink, SinkFailed};
 #[derive(Clone, Copy, Debug, PartialEq, Eq)]
 pub struct WriteFault;
 
-/// Gives all of `bytes` to the sink, in as many calls as it takes, and at least one byte a call.
-/// `WriteFault` comes only where the sink's count of faults rose in this call or stands at its last
-/// value, and the sink has then taken a front of `bytes`. It takes no memory.
+/// Gives all of `bytes` to the sink, in as many calls as needed, with at least one byte per call. The error is
+/// `WriteFault` only if the sink's count of faults rose in this call or is at its last value, and the sink has then
+/// taken a prefix of `bytes`. Allocates no memory.
 pub fn write_all<K: Sink>(sink: &mut K, bytes: &[u8]) -> Result<(), WriteFault>
     ensures whole { OnOk result (Grows (K.taken sink.old) (K.taken sink.new) bytes.now) }
     ensures front { OnErr result (GrowsByFront (K.taken sink.old) (K.taken sink.new) bytes.now) }

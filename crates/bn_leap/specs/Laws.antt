@@ -1,4 +1,4 @@
--- What the laws of this crate say, each a field of `Laws`.
+-- The statements of the laws of this crate, each a field of `Laws`.
 use Rattle.std.specs.Prelude.{◌≡◌, ℕ, ◌+◌, ◌<◌, ◌≤◌, Bool, true, Some, slice_get}
 use Rattle.std.specs.Option.{option_map}
 use Rattle.bn_lists.specs.Runs.{Reaches, Passes}
@@ -13,20 +13,20 @@ use Rattle.bn_realise.specs.Banks.{HasMark, IsWithinBank, bottom_at, column_at, 
 use Rattle.bn_boards.specs.Boards.{AreModules, IsBoard, StandsFor, base}
 use Rattle.bn_leap.specs.Leaps.{IsUnderWay, IsEntered}
 
--- Where the signal of a board that is under way enters an input line of a bank, the board stands for a situation in
--- which the network's signal enters that line of that module.
+-- If the signal of a board that is under way enters an input port of a bank, the board represents a situation in which
+-- the signal of the network enters that port of that module.
 abbrev pub BoundariesStand : Type 0
 BoundariesStand = (n k : Circuit) (m i : ℕ) (t : Table) (c : Config) → IsUnderWay n k c → IsEntered n m t i c
     → (s : Situation) × StandsFor n s c × (s.place ≡ Enter m i)
 
--- There the bank is at rest in some state.
+-- If the signal of a board that is under way enters an input port of a bank, the bank is at rest in some state.
 abbrev pub BoundariesRest : Type 0
 BoundariesRest = (n k : Circuit) (m i : ℕ) (t : Table) (c : Config) → IsUnderWay n k c → IsEntered n m t i c
     → HasMark c.states (base n.tables m) t.states t.inputs
 
--- From there, where column q is marked, exactly the cost of the move from state q lead to where the move ends: the mark
--- is where the table leads, and the signal where the output line leads. Each test that holds of what is within the move
--- holds strictly between.
+-- From such a configuration, if column q is marked and the clock admits the cost, exactly the cost of the move from
+-- state q leads to the end of the move: the mark is where the table leads, and the signal is where the output port
+-- leads. Each test that holds of what is within the move holds strictly between.
 abbrev pub BoardsLeap : Type 0
 BoardsLeap =
     (n k : Circuit) (m i q : ℕ) (t : Table) (c : Config) (test : Config → Bool) → IsUnderWay n k c
@@ -41,8 +41,8 @@ abbrev pub BoardsStayUnderWay : Type 0
 BoardsStayUnderWay = (n k : Circuit) (e : ℕ) (c d : Config) → IsUnderWay n k c → Reaches (Goes k) e c d
     → IsUnderWay n k d
 
--- In each bank of a board the wire of the line that turns the signal back in state q and row i leads to the row of the
--- column to which the table leads; there is none where the pair has no move.
+-- In each bank of a board, the wire of the port that turns the signal back in state q and row i leads to the row of
+-- the column to which the table leads. The port has no wire if the pair has no move.
 abbrev pub MovesAreRead : Type 0
 MovesAreRead =
     (n k : Circuit) (m q i : ℕ) (t : Table) → AreModules n → IsBoard n k → slice_get n.tables m ≡ Some t
@@ -53,14 +53,15 @@ MovesAreRead =
 -- ---- the laws
 
 pub record Laws : Type 0 where
-  -- Where the signal of a board that is under way enters an input line of a bank, the board stands for a situation.
+  -- If the signal of a board that is under way enters an input port of a bank, the board represents a situation of its
+  -- network.
   pub boundaries_stand : BoundariesStand
-  -- Where the signal of a board that is under way enters an input line of a bank, this bank rests in some state.
+  -- If the signal of a board that is under way enters an input port of a bank, this bank is at rest in some state.
   pub boundaries_rest : BoundariesRest
-  -- From such an entry exactly the cost of the move leads to where the move ends, and each test that holds of what is
-  -- within the move holds strictly between.
+  -- From such an entry, exactly the cost of the move leads to its end, and each test that holds within the move holds
+  -- strictly between.
   pub boards_leap : BoardsLeap
   -- Steps keep a board under way.
   pub boards_stay_under_way : BoardsStayUnderWay
-  -- The moves of a bank are read off the wires of its board.
+  -- The moves of a bank are determined by the wires of its board, which lead where the table leads.
   pub moves_are_read : MovesAreRead

@@ -1,4 +1,4 @@
--- Boards under way, and where their signal enters a bank.
+-- Boards that are under way, and configurations in which their signal enters a bank.
 use Rattle.std.specs.Prelude.{◌≡◌, ℕ, ◌+◌, ◌<◌, ◌≤◌, Some, slice_get}
 use Rattle.bn_lists.specs.Runs.{Reaches}
 use Rattle.bn_element.specs.Tables.{Table}
@@ -10,7 +10,8 @@ use Rattle.bn_circuits.specs.declared.config.Config.{Config}
 use Rattle.bn_circuits.specs.declared.net.TheConstants.{MOST_ELEMENTS}
 use Rattle.bn_boards.specs.Boards.{AreModules, IsBoard, StandsFor, base, size}
 
--- k is the board of the network n, and c is reached on it from where it stood for one of the network's situations
+-- k is the board of the network n, and c is reached on the board from a configuration that represents a situation of
+-- the network
 pub record IsUnderWay (n k : Circuit) (c : Config) : Type 0 where
   pub modules : AreModules n
   pub board : IsBoard n k
@@ -21,7 +22,7 @@ pub record IsUnderWay (n k : Circuit) (c : Config) : Type 0 where
   pub steps : ℕ
   pub reached : Reaches (Goes k) steps origin c
 
--- the signal is about to enter input line i of the bank of module m, whose table this is
+-- the signal is about to enter input port i of the bank of module m, whose table this is
 pub record IsEntered (n : Circuit) (m : ℕ) (t : Table) (i : ℕ) (c : Config) : Type 0 where
   pub has_table : slice_get n.tables m ≡ Some t
   pub row : i < t.inputs

@@ -1,26 +1,26 @@
-//! Where the banks of a board lie, and which runs pass through them.
+//! The input ports of the banks of a board, which is the circuit of a network with a bank for each module.
 
 ghost use Rattle.std.specs.Prelude.{◌≡◌, IfSome};
 ghost use Rattle.bn_realise.specs.Banks.{bank_input_line, column_at};
 
 use bn_circuits::Line;
 
-/// An input line of a bank (this project's own profile): the bank's first element, its states and its lines, and the
-/// number of the line. Elements and lines are counted from 0.
+/// An input port of a bank (this project's own profile): the bank's first element, the numbers of its states and its
+/// ports, and the number of the port. Elements and ports are counted from 0.
 #[derive(Clone, Copy, Debug)]
 pub struct Entry {
     /// The bank's first element.
     pub first: u32,
-    /// The bank's columns, one a state.
+    /// The number of columns of the bank, one per state.
     pub states: u32,
-    /// The rows of a column that are lines.
+    /// The number of rows of a column, one per port.
     pub lines: u32,
-    /// The input line.
+    /// The number of the input port, which is its row.
     pub row: u32,
 }
 
 impl Entry {
-    /// The element behind the bank's last one.
+    /// The number of the element after the last one of the bank.
     pub fn end(&self) -> u64
         ensures { result ≡ column_at self.now.first self.now.lines self.now.states }
     {
@@ -28,14 +28,14 @@ impl Entry {
     }
 }
 
-/// Banks, by the lines at which a signal enters them.
+/// Banks, by the ports at which a signal enters them.
 pub trait Banks {
     ghost use Rattle.bn_leap.specs.declared.entry.Entry.{Entry};
 
-    /// Whether this is an input line of one of them.
+    /// Whether this is an input port of one of the banks.
     ghost has: { Self → Entry → Type 0 };
 
-    /// The bank of which this is an input line, if it is found.
+    /// The entry of this input port of a bank; `None` if no bank is found. A bank may be missed.
     fn entry(&self, at: Line) -> Option<Entry>
         ensures { IfSome result (λ v. (has self.now v) × (at ≡ bank_input_line v.first v.row)) };
 }

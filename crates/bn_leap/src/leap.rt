@@ -1,4 +1,4 @@
-//! One leap: what a move of a bank comes to, found without its steps.
+//! One leap: the result of a move of a bank, computed without its steps.
 
 ghost use Rattle.std.specs.Prelude.{◌≡◌, ℕ, ◌+◌, ◌*◌, ◌<◌, ◌≤◌, ◌^◌, length, Some, IfSome, slice_get, true};
 ghost use Rattle.bn_element.specs.Rotary.{horizontal};
@@ -14,7 +14,8 @@ use bn_circuits::{Line, Place};
 use bn_element::{EAST, HORIZONTAL, WEST};
 use bn_packed::Packed;
 
-// What a move of a bank comes to: which bottoms turn, by which line the signal comes out, and after how many steps.
+// The result of a move of a bank: the bottoms whose bars turn, the port by which the signal leaves, and the number of
+// steps.
 #[derive(Clone, Copy, Debug)]
 pub(crate) struct Leap {
     pub(crate) unmarked: u32,
@@ -23,7 +24,7 @@ pub(crate) struct Leap {
     pub(crate) steps: u64,
 }
 
-// The move of the bank that the signal is about to enter, if it is found, and if the run doesn't stop within it.
+// The move of the bank that the signal is about to enter; `None` if no move is found or if the run may stop within it.
 pub(crate) fn leap_at<B: Banks, S: Passing>(packed: &Packed, banks: &B, stop: &S) -> Option<Leap>
     requires { IsLeapable packed.now.net packed.now.config (B.has banks.now) }
     ensures { IfSome result (IsLeap (rotary_circuit packed.now.net) (S.stops stop.now) packed.now.config) }
@@ -39,7 +40,7 @@ pub(crate) fn leap_at<B: Banks, S: Passing>(packed: &Packed, banks: &B, stop: &S
     }
 }
 
-// The move of this bank, from where the signal is about to enter it.
+// The move of this bank, from the configuration in which the signal is about to enter it; `None` if no move is found.
 fn leap_from(packed: &Packed, entry: &Entry) -> Option<Leap>
     requires { IsAt packed.now.net packed.now.config entry.now }
     ensures { IfSome result (IsCrossing (rotary_circuit packed.now.net) packed.now.config entry.now) }
@@ -48,7 +49,7 @@ fn leap_from(packed: &Packed, entry: &Entry) -> Option<Leap>
     leap_by(packed, entry, state)
 }
 
-// The marked column of a bank.
+// The marked column of a bank; `None` if no column is marked.
 fn marked_column(packed: &Packed, entry: &Entry) -> Option<u32>
     requires { Fits entry.now (length packed.now.config.states) }
     ensures { IfSome result (λ q. (q < entry.now.states)
@@ -71,7 +72,7 @@ fn element_at(entry: &Entry, column: u32, row: u32) -> u32
     (u64::from(entry.first) + before + u64::from(row)) as u32
 }
 
-// The move of this bank from this state.
+// The move of this bank from this state; `None` if none is found.
 fn leap_by(packed: &Packed, entry: &Entry, state: u32) -> Option<Leap>
     requires at { IsAt packed.now.net packed.now.config entry.now }
     requires state { state < entry.now.states }
@@ -93,7 +94,7 @@ fn leap_by(packed: &Packed, entry: &Entry, state: u32) -> Option<Leap>
     }
 }
 
-// In which column and row an element of a bank lies.
+// The column and the row of an element of a bank.
 fn place_of(element: u32, size: u32) -> (u32, u32)
     requires { 0 < size }
     ensures whole { element ≡ result.0 * size + result.1 }
@@ -102,7 +103,7 @@ fn place_of(element: u32, size: u32) -> (u32, u32)
     (element / size, element % size)
 }
 
-// What the move to this state and line comes to.
+// The result of the move to this state and output port.
 fn leap_to(entry: &Entry, state: u32, to: (u32, u32)) -> Leap
     requires { IsMoveOf entry.now state to }
     ensures { result ≡ leap_of entry.now state to }

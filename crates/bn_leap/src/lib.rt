@@ -1,4 +1,5 @@
-//! Leaps over the banks of a board: where the signal is about to enter a bank, the whole move is made at once.
+//! Leaps over the banks of a board: if the signal is about to enter a bank, the whole move of the bank is made at
+//! once.
 #![tactic(auto)]
 
 mod cost;

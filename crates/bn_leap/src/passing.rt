@@ -1,15 +1,16 @@
-//! Runs that stop at lines, and the banks that they pass through without a stop.
+//! Ports at which runs stop, and the banks that runs pass through without a stop.
 
 ghost use Rattle.std.specs.Bool.{OnTrue};
 
 use crate::entry::Entry;
 use bn_packed::{Nowhere, Stop};
 
-/// Input lines at which a run stops, and the banks within which none of them is met.
+/// Input ports at which a run stops, and the banks that contain none of these ports inside.
 pub trait Passing: Stop {
     ghost use Rattle.bn_leap.specs.Inside.{PassesThrough};
 
-    /// Whether a move of this bank meets none of the lines strictly between its ends, as far as is known.
+    /// Whether a move of this bank meets none of these ports strictly between its ends. `true` is returned only if
+    /// this is so; `false` may be returned in any case.
     fn passes_through(&self, bank: &Entry) -> bool
         ensures { OnTrue result (PassesThrough (Self.stops self.now) bank.now) };
 }

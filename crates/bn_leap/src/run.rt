@@ -1,4 +1,4 @@
-//! Runs that leap.
+//! Runs that make whole moves of banks at once.
 
 ghost use Rattle.std.specs.Prelude.{◌≡◌, ◌<◌, ◌≤◌, ◌+◌, length};
 ghost use Rattle.bn_circuits.specs.RotaryNets.{rotary_circuit};
@@ -16,8 +16,8 @@ use bn_circuits::{CLOCK, Line, Place, Quiet, Watch};
 use bn_element::{HORIZONTAL, VERTICAL};
 use bn_packed::{Direction, Nowhere, Packed, Stop};
 
-/// Makes at most `e` element steps and answers how many, as `Packed::run` does, but makes each move of a bank that
-/// fits at once. Takes no memory.
+/// Makes at most `e` element steps and returns how many, as `Packed::run` does, but makes each move of a bank at once
+/// if the remaining steps and the clock admit it. Takes no memory.
 pub fn run_leaping<B: Banks>(packed: &mut Packed, banks: &B, e: u64) -> u64
     requires { IsLeapable packed.old.net packed.old.config (B.has banks.now) }
     ensures net { packed.new.net ≡ packed.old.net }
@@ -27,10 +27,10 @@ pub fn run_leaping<B: Banks>(packed: &mut Packed, banks: &B, e: u64) -> u64
     leap_until(packed, banks, e, &Nowhere)
 }
 
-/// Makes at most `e` element steps, as `Packed::run_until` does: it stops after a step where the signal is about to
-/// enter a line of `stop`, tells the watch the place after each step, and answers how many it made. Where the watch
-/// doesn't listen, each move of a bank that fits, and within which the run doesn't stop, is made at once. Takes no
-/// memory.
+/// Makes at most `e` element steps, as `Packed::run_until` does: the run stops after a step if the signal is about to
+/// enter a port of `stop`. Reports the place after each step to the watch, and returns the number of steps made. If
+/// the watch does not listen, each move of a bank is made at once if the remaining steps and the clock admit it and
+/// the run does not stop within it. Takes no memory.
 pub fn run_leaping_until<B: Banks, S: Passing, W: Watch>(
     packed: &mut Packed,
     banks: &B,
@@ -52,7 +52,7 @@ pub fn run_leaping_until<B: Banks, S: Passing, W: Watch>(
     }
 }
 
-// The same with no watch.
+// The same without a watch.
 fn leap_until<B: Banks, S: Passing>(packed: &mut Packed, banks: &B, e: u64, stop: &S) -> u64
     requires { IsLeapable packed.old.net packed.old.config (B.has banks.now) }
     ensures net { packed.new.net ≡ packed.old.net }
@@ -73,7 +73,8 @@ fn leap_until<B: Banks, S: Passing>(packed: &mut Packed, banks: &B, e: u64, stop
     made
 }
 
-// Makes one leap, if it fits; else steps, at least one if one can be made.
+// Makes one leap, if it fits; otherwise makes single steps, at least one if one can be made. Returns the number of
+// steps.
 fn advance<B: Banks, S: Passing>(packed: &mut Packed, banks: &B, most: u64, stop: &S) -> u64
     requires some { 0 < most }
     requires banks { IsLeapable packed.old.net packed.old.config (B.has banks.now) }
@@ -108,7 +109,7 @@ fn make(packed: &mut Packed, leap: &Leap)
     packed.send(leap.exit, leap.steps);
 }
 
-// Whether the signal is where no run stops: about to enter a line, and none of `stop`.
+// Whether the run can go on: the signal is about to enter a port that is not one of `stop`.
 fn goes_on<S: Stop>(packed: &Packed, stop: &S) -> bool
     ensures { result ≡ passes_by (S.stops stop.now) packed.now.config.place }
 {

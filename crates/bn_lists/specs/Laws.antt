@@ -2,6 +2,6 @@
 use Rattle.bn_lists.specs.Finite.{OneToOneStepsEnd}
 
 pub record Laws : Type 0 where
-  -- A partial step on the numbers below a bound that is one to one ends: from a number that no step leads to, it makes
+  -- If a partial step on the numbers below a bound is one to one, a run from a number without a predecessor ends after
   -- fewer steps than the bound.
   pub one_to_one_steps_end : OneToOneStepsEnd

@@ -1,4 +1,4 @@
--- Words on lists, whose entries are counted from 1, and on numbers.
+-- Terms for lists, whose entries are counted from 1, and for numbers.
 use Rattle.std.specs.Prelude.{◌≡◌, ℕ, zero, suc, ◌<◌, List, [], ◌∷◌, Option, Some, None, slice_get, ◌⊎◌}
 
 -- the n-th entry of a list, counted from 1
@@ -6,17 +6,17 @@ abbrev pub nth : {X : Type 0} → List X → ℕ → Option X
 nth xs zero = None
 nth xs (suc i) = slice_get xs i
 
--- x stands in the list
+-- x is in the list
 pub record IsIn {X : Type 0} (xs : List X) (x : X) : Type 0 where
   pub place : ℕ
   pub stands : nth xs place ≡ Some x
 
--- The list has the element: the same by recursion, as the first entry or among the rest.
+-- The list contains the element, by recursion: as its first entry or among the rest.
 abbrev pub Has : {X : Type 0} → List X → X → Type 0
 Has [] x = ⊥
 Has (y ∷ ys) x = (x ≡ y) ⊎ Has ys x
 
--- each entry that stands before the n-th has the property
+-- each entry before the n-th has the property
 pub record AllBefore {X : Type 0} (P : X → Type 0) (xs : List X) (n : ℕ) : Type 0 where
   pub each : (m : ℕ) (x : X) → m < n → nth xs m ≡ Some x → P x
 

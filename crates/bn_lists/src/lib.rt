@@ -1,5 +1,5 @@
-//! What the other crates share: words on lists and on runs of any step, for the clauses, and the refusal of a
-//! call that found no memory.
+//! Shared by all other crates: terms for lists and for runs of any step, which contracts use, and the refusal of a
+//! call that runs out of memory.
 #![tactic(auto)]
 
 mod laws;

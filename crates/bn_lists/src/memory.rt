@@ -1,4 +1,4 @@
-//! Want of memory.
+//! The refusal of a call that runs out of memory.
 
 use std::alloc::{AllocError, AllocFailed};
 

@@ -21,18 +21,18 @@ abbrev pub HasOneOutput : Type 0
 HasOneOutput =
     ((t : Tape) → (y : List ℕ) × IsOutput t y) × ((t : Tape) (y z : List ℕ) → IsOutput t y → IsOutput t z → y ≡ z)
 
--- one moment follows another at most
+-- a configuration has at most one successor
 abbrev pub StepsAreFunctions : Type 0
 StepsAreFunctions = (room : Room) (p : Program) → IsFunction (MachineRunsTo room p)
 
--- a step in a window answers one turn and leaves one state and one tape
+-- a step in a window has one result, one next state and one next tape
 abbrev pub TurnsAreOne : Type 0
 TurnsAreOne =
     (p : Program) (a b : Turn) (s : ℕ) (w : Windowed) (t u : ℕ) (v x : Windowed) → IsTurn p a s w t v
     → IsTurn p b s w u x → (a ≡ b) × (t ≡ u) × (v ≡ x)
 
--- a run in a room is a run without ends; and one without ends that starts at 0 and makes no more steps than the room
--- has cells on each side is a run in the room
+-- a run within a window is a run on the infinite tape; a run from a word on the infinite tape that makes no more steps
+-- than a window has cells on each side is a run within the window
 abbrev pub RoomsChangeNothing : Type 0
 RoomsChangeNothing =
     ((room : Room) (p : Program) (i : ℕ) (c d : Moment) → Reaches (MachineRunsTo room p) i c d
@@ -46,7 +46,7 @@ HeadsStayNear =
     (room : Room) (p : Program) (word : List ℕ) (i : ℕ) (c : Moment) → AfterWithin room p word i c
     → IsBetween i i c.tape.head
 
--- after i steps the word still stands at i and beyond
+-- after i steps the word is unchanged at position i and beyond
 abbrev pub WordsStandFar : Type 0
 WordsStandFar =
     (room : Room) (p : Program) (word : List ℕ) (i : ℕ) (c : Moment) (q : ℤ) → pos i ≤ℤ q → AfterWithin room p word i c
@@ -58,13 +58,13 @@ CutWordsRunAlike =
     (p : Program) (word : List ℕ) (k i : ℕ) (c : Moment) → i ≤ k → After p (take k word) i c
     → (d : Moment) × After p word i d × AgreesUpTo (pos k) d c
 
--- what agrees up to the head is final, or stuck, together
+-- configurations that agree up to the head are final together and stuck together
 abbrev pub AlikeMomentsEndAlike : Type 0
 AlikeMomentsEndAlike =
     (b : ℤ) (p : Program) (c d : Moment) → AgreesUpTo b c d → c.tape.head ≤ℤ b
     → (IsFinal p c → IsFinal p d) × (IsMachineStuck p c → IsMachineStuck p d)
 
--- a run of i steps has a history of i numbers, and a history of i numbers is one of a run of i steps
+-- a run of i steps has a history of i numbers, and a history of i numbers is that of a run of i steps
 abbrev pub RunsHaveHistories : Type 0
 RunsHaveHistories =
     ((room : Room) (p : Program) (i : ℕ) (c d : Moment) → Reaches (MachineRunsTo room p) i c d
@@ -72,14 +72,14 @@ RunsHaveHistories =
     × ((room : Room) (p : Program) (ns : List ℕ) (c d : Moment) → Follows room p ns c d
     → Reaches (MachineRunsTo room p) (length ns) c d)
 
--- a run of at most n steps on a tape without ends comes out in one way, and only in one
+-- a run of at most n steps on an infinite tape has exactly one ending
 abbrev pub HasOneEnding : Type 0
 HasOneEnding =
     ((p : Program) (word : List ℕ) (n : ℕ) → (i : ℕ) × (e : Ending) × HasEnding p word n i e)
     × ((p : Program) (word : List ℕ) (n i j : ℕ) (e f : Ending) → HasEnding p word n i e → HasEnding p word n j f
     → (i ≡ j) × (e ≡ f))
 
--- a bounded run comes out in one way, and only in one
+-- a bounded run has exactly one outcome
 abbrev pub HasOneOutcome : Type 0
 HasOneOutcome =
     ((p : Program) (word : List ℕ) (l : Limits) → (i : ℕ) × (o : Outcome) × HasOutcome p word l i o)
@@ -103,32 +103,32 @@ pub record Laws : Type 0 where
   pub tapes_are_their_symbols : TapesAreTheirSymbols
   -- A tape has one output, and only one: the longest word without blanks right of its head.
   pub output_is_one : HasOneOutput
-  -- One moment follows another at most (Bennett 1973).
+  -- A configuration has at most one successor (Bennett 1973).
   pub steps_are_functions : StepsAreFunctions
-  -- The contract of `Machine::step` allows one answer, one state and one tape.
+  -- The contract of `Machine::step` allows one result, one state and one tape.
   pub turns_are_one : TurnsAreOne
-  -- A window changes no run that stays inside it, and a run of no more steps than the window has
-  -- cells on each side stays inside it.
+  -- A window changes no run that stays within it, and a run of no more steps than the window has cells on each side
+  -- stays within it.
   pub rooms_change_nothing : RoomsChangeNothing
   -- After i steps the head is from -i to i.
   pub heads_stay_near : HeadsStayNear
-  -- After i steps the word still stands at position i and beyond.
+  -- After i steps the word is unchanged at position i and beyond.
   pub words_stand_far : WordsStandFar
   -- At most k steps on the first k letters of a word are the steps on the whole word.
   pub cut_words_run_alike : CutWordsRunAlike
-  -- Moments that agree up to the head are final together and stuck together.
+  -- Configurations that agree up to the head are final together and stuck together.
   pub alike_moments_end_alike : AlikeMomentsEndAlike
   -- A run of i steps is a list of i numbers of quintuples.
   pub runs_have_histories : RunsHaveHistories
-  -- A run of at most n steps on a tape without ends comes out in one way, and only in one.
+  -- A run of at most n steps on an infinite tape has exactly one ending.
   pub ending_is_one : HasOneEnding
-  -- A bounded run within limits comes out in one way, and only in one.
+  -- A run within limits has exactly one outcome.
   pub outcome_is_one : HasOneOutcome
   -- A window of cells shows a tape in one way.
   pub windows_have_one_list : WindowsHaveOneList
   -- The greatest number of cells on either side of a tape is 2^21.
   pub greatest_side_is_stated : GreatestSideIsStated
-  -- The contract of `check` allows one refusal beside want of memory.
+  -- The contract of `check` allows at most one refusal other than `NoMemory`.
   pub verdicts_are_one : VerdictsAreOne
-  -- Quintuples in standard form are refused for want of memory alone.
+  -- The only refusal for quintuples in standard form is `NoMemory`.
   pub standard_is_accepted : StandardIsAccepted

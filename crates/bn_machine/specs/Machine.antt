@@ -44,7 +44,7 @@ pub record IsFirstFault (states symbols : ℕ) (qs : List Quint) (i : ℕ) : Typ
   pub faulty : (q : Quint) × (nth qs i ≡ Some q) × (IsInRange states symbols q → ⊥)
   pub first : (m : ℕ) (q : Quint) → m < i → nth qs m ≡ Some q → IsInRange states symbols q
 
--- what the machine is at between two steps
+-- a configuration of the machine, between two steps: its state and its tape
 pub record Moment : Type 0 where
   pub state : ℕ
   pub tape : Tape
@@ -74,8 +74,8 @@ pub record Applies (q : Quint) (c d : Moment) : Type 0 where
 abbrev pub IsFinal : Program → Moment → Type 0
 IsFinal p c = c.state ≡ final_of p.quints
 
--- One step of the machine, by quintuple n: the state isn't the final one, the first quintuple that matches is applied,
--- and the head comes to a position that the room allows.
+-- One step of the machine, by quintuple n: the state is not the final one, the first quintuple that matches is applied,
+-- and the head's new position is within the window, if there is one.
 pub record GoesBy (room : Room) (p : Program) (n : ℕ) (c d : Moment) : Type 0 where
   pub going : c.state ≢ final_of p.quints
   pub quint : Quint
@@ -87,7 +87,7 @@ pub record GoesBy (room : Room) (p : Program) (n : ℕ) (c d : Moment) : Type 0 
 abbrev pub MachineRunsTo : Room → Program → Moment → Moment → Type 0
 MachineRunsTo room p c d = (n : ℕ) × GoesBy room p n c d
 
--- the machine can't go on: no quintuple matches, and the state isn't the final one
+-- the machine is stuck: no quintuple matches, and the state is not the final one
 pub record IsMachineStuck (p : Program) (c : Moment) : Type 0 where
   pub going : c.state ≢ final_of p.quints
   pub none : HasNoMatch p.quints c.state (scanned c.tape)
@@ -96,7 +96,7 @@ pub record IsMachineStuck (p : Program) (c : Moment) : Type 0 where
 abbrev pub start : Program → List ℕ → Moment
 start p word = record { state = start_of p.quints; tape = word_tape word }
 
--- the moment of a state and a tape in a window
+-- the configuration of a state and a tape in a window
 abbrev pub moment : ℕ → Windowed → Moment
 moment state w = record { state = state; tape = w.tape }
 

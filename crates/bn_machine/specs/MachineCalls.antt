@@ -1,4 +1,4 @@
--- What the calls of a machine answer.
+-- The results of the calls of a machine.
 use Rattle.std.specs.Prelude.{◌≡◌, ℕ, List, []}
 use Rattle.bn_machine.specs.Tape.{scanned}
 use Rattle.bn_machine.specs.Window.{Windowed, within, with_tape}
@@ -14,8 +14,8 @@ abbrev pub IsMachineRefusal : List Quint → ℕ → ℕ → MachineRefusal → 
 IsMachineRefusal qs states symbols Empty = qs ≡ []
 IsMachineRefusal qs states symbols (Range i) = IsFirstFault states symbols qs i
 
--- What a step in a window answers, and what it leaves of the state and the tape. Where it answers anything but `Moved`
--- nothing has changed.
+-- The result of a step in a window, with the state and the tape after it. On any result but `Moved` nothing has
+-- changed.
 abbrev pub IsTurn : Program → Turn → ℕ → Windowed → ℕ → Windowed → Type 0
 IsTurn p turn.Final state w after v = (state ≡ final_of p.quints) × (after ≡ state) × (v ≡ w)
 IsTurn p (turn.Stuck at symbol) state w after v =

@@ -1,4 +1,4 @@
--- The bounded run of a machine in a window, and how it comes out: found by the machine alone (this project's own
+-- The bounded run of a machine in a window, and its outcome, both defined by the machine alone (this project's own
 -- profile of Bennett 1973).
 use Rattle.std.specs.Prelude.{◌≡◌, ℕ, ◌+◌, ◌<◌, ◌≤◌, ℤ, pos, ◌+ℤ◌, ◌≤ℤ◌, ◌<ℤ◌, List, length}
 use Rattle.bn_machine.specs.Tape.{scanned}
@@ -16,8 +16,8 @@ pub record Limits : Type 0 where
   pub steps : ℕ
   pub output : ℕ
 
--- How a bounded run comes out: halted with an output; stuck in a state at a symbol; or without room at this end of the
--- tape with this number, where 1 is the work tape, 2 the history and 3 the output.
+-- The outcome of a bounded run: halted with an output; stuck in a state at a symbol; or without room at this end of
+-- the tape with this number, where 1 is the work tape, 2 the history and 3 the output.
 pub data Outcome : Type 0 where
   Halted : List ℕ → Outcome
   Stuck : ℕ → ℕ → Outcome
@@ -28,15 +28,15 @@ pub record HasRoom (l : Limits) (head : ℤ) (j : ℕ) : Type 0 where
   pub work : (head +ℤ pos j) ≤ℤ pos l.right
   pub output : j ≤ l.output
 
--- Going right from the halted head over an output of this length to the blank behind it, j is a cell on the way, and
--- each one before it has room. That j itself has none is said where this is used.
+-- From the halted head rightward over an output of this length to the blank after it, j is a cell on the way, and each
+-- cell before it has room. `Copies` states that j itself has no room.
 pub record IsFirstShort (l : Limits) (head : ℤ) (length_of_output j : ℕ) : Type 0 where
   pub starts : 0 < j
   pub reached : j ≤ length_of_output + 1
   pub before : (k : ℕ) → 0 < k → k < j → HasRoom l head k
 
--- How the copying of an output y from the halted head comes out: there is room up to the blank behind it, or the first
--- cell without room is missing on the work tape, or else on the output tape.
+-- The outcome of copying an output y from the halted head: there is room up to the blank after it, or the first cell
+-- without room is missing on the work tape, or else on the output tape.
 pub data Copies (l : Limits) (head : ℤ) (y : List ℕ) (o : Outcome) : Type 0 where
   copied : ((j : ℕ) → 0 < j → j ≤ length y + 1 → HasRoom l head j) → o ≡ Halted y → Copies l head y o
   work_short : (j : ℕ) → IsFirstShort l head (length y) j → pos l.right <ℤ (head +ℤ pos j) → o ≡ Outside 1 Right
@@ -44,9 +44,9 @@ pub data Copies (l : Limits) (head : ℤ) (y : List ℕ) (o : Outcome) : Type 0 
   output_short : (j : ℕ) → IsFirstShort l head (length y) j → (head +ℤ pos j) ≤ℤ pos l.right → l.output < j
       → o ≡ Outside 3 Right → Copies l head y o
 
--- After i steps the bounded run ends at c: in the final state, where copying decides; where no quintuple matches; where
--- the history is full and a step would follow; or where it has room and the next step's shift would leave the work
--- tape.
+-- After i steps the bounded run ends at c with the outcome o. Either the state is final, and copying decides; or no
+-- quintuple matches; or the history is full and a step would follow; or the history has room and the shift of the next
+-- step would leave the work tape.
 pub data ComesOut (p : Program) (l : Limits) (i : ℕ) (c : Moment) (o : Outcome) : Type 0 where
   halts : (y : List ℕ) → IsFinal p c → IsOutput c.tape y → Copies l c.tape.head y o → ComesOut p l i c o
   sticks : IsMachineStuck p c → o ≡ Stuck c.state (scanned c.tape) → ComesOut p l i c o
@@ -55,8 +55,8 @@ pub data ComesOut (p : Program) (l : Limits) (i : ℕ) (c : Moment) (o : Outcome
       → IsBeyond l.left l.right side d.tape.head
       → o ≡ Outside 1 side → ComesOut p l i c o
 
--- The bounded run from the word makes i steps, all inside the work tape and no more than the history holds, and then
--- comes out so.
+-- The bounded run from the word makes i steps, all within the work tape and no more than the history holds, and ends
+-- with this outcome.
 pub record HasOutcome (p : Program) (word : List ℕ) (l : Limits) (i : ℕ) (o : Outcome) : Type 0 where
   pub moment : Moment
   pub run : AfterWithin (within l.left l.right) p word i moment

@@ -1,16 +1,16 @@
--- Runs of a machine from a word (Bennett 1973), and what they leave, by this project's own profile.
+-- Runs of a machine from a word (Bennett 1973), and their outputs and endings (this project's own profile).
 use Rattle.std.specs.Prelude.{◌≡◌, ◌≢◌, ℕ, suc, ◌<◌, ◌≤◌, pos, ◌+ℤ◌, List, [], ◌∷◌, length, slice_index}
 use Rattle.bn_lists.specs.Runs.{Reaches}
 use Rattle.bn_machine.specs.Tape.{Tape, cell, scanned}
 use Rattle.bn_machine.specs.Window.{Room, anywhere}
 use Rattle.bn_machine.specs.Machine.{Program, Moment, MachineRunsTo, GoesBy, IsFinal, IsMachineStuck, start}
 
--- c is what the machine is at after exactly i steps from the word, on a tape without ends
+-- c is the configuration after exactly i steps from the word, on an infinite tape
 abbrev pub After : Program → List ℕ → ℕ → Moment → Type 0
 After p word i c = Reaches (MachineRunsTo anywhere p) i (start p word) c
 
--- the machine is at c after exactly i steps from the word, in each of which the head comes to a position that the room
--- allows
+-- c is the configuration after exactly i steps from the word, each of which ends with the head within the window, if
+-- there is one
 abbrev pub AfterWithin : Room → Program → List ℕ → ℕ → Moment → Type 0
 AfterWithin room p word i c = Reaches (MachineRunsTo room p) i (start p word) c
 
@@ -25,7 +25,7 @@ pub record IsOutput (t : Tape) (y : List ℕ) : Type 0 where
   pub spelled : (k : ℕ) → k < length y → cell t (t.head +ℤ pos (suc k)) ≡ slice_index y k
   pub ended : cell t (t.head +ℤ pos (suc (length y))) ≡ 0
 
--- How a run of at most n steps on a tape without ends comes out.
+-- The ending of a run of at most n steps on an infinite tape.
 pub data Ending : Type 0 where
   Halted : List ℕ → Ending
   Stuck : ℕ → ℕ → Ending
@@ -38,7 +38,7 @@ pub data EndsAt (p : Program) (n i : ℕ) (c : Moment) (e : Ending) : Type 0 whe
   sticks : IsMachineStuck p c → e ≡ Stuck c.state (scanned c.tape) → EndsAt p n i c e
   runs : (d : Moment) → MachineRunsTo anywhere p c d → i ≡ n → e ≡ Running → EndsAt p n i c e
 
--- the machine's own run from the word, of at most n steps, comes out so after i steps
+-- the machine's run from the word, of at most n steps, has this ending after i steps
 pub record HasEnding (p : Program) (word : List ℕ) (n i : ℕ) (e : Ending) : Type 0 where
   pub moment : Moment
   pub run : After p word i moment

@@ -1,12 +1,12 @@
--- Standard form of a machine, after Bennett 1973; the exact test is this project's own profile. All of it speaks of the
--- list of quintuples, counted from 1, with symbol 0 as the blank.
+-- Standard form of a machine, after Bennett 1973; the exact test is this project's own profile. All definitions are on
+-- the list of quintuples, counted from 1, with symbol 0 as the blank.
 use Rattle.std.specs.Prelude.{◌≡◌, ◌≢◌, ℕ, ◌<◌, List, length, Some, ◌⊎◌}
 use Rattle.bn_machine.specs.Machine.{start_of, final_of}
 use Rattle.bn_lists.specs.Lists.{nth}
 use Rattle.bn_machine.specs.declared.quint.Quint.{Quint}
 use Rattle.bn_machine.specs.declared.quint.Shift.TheVariants.{Stay, Right}
 
--- two quintuples with these numbers, the first before the second, share state and scanned symbol
+-- the quintuples with the numbers i and j, i less than j, share state and scanned symbol
 pub record Clashes (i : ℕ) (first : Quint) (j : ℕ) (second : Quint) : Type 0 where
   pub before : i < j
   pub state : first.state ≡ second.state
@@ -32,34 +32,34 @@ pub record BeginsWell (qs : List Quint) : Type 0 where
   pub stands : nth qs 1 ≡ Some quint
   pub begins : IsBeginning quint
 
--- a quintuple with this number has the state in it, but not as the first one's state
+-- quintuple i contains the state elsewhere than as the state of the first quintuple
 abbrev pub NamesStart : ℕ → ℕ → Quint → Type 0
 NamesStart start i q = (q.next ≡ start) ⊎ ((1 < i) × (q.state ≡ start))
 
--- quintuple i has the start state in it otherwise than as the first one's state
+-- quintuple i contains the start state elsewhere than as the state of the first quintuple
 pub record UsesStart (qs : List Quint) (i : ℕ) : Type 0 where
   pub quint : Quint
   pub stands : nth qs i ≡ Some quint
   pub names : NamesStart (start_of qs) i quint
 
--- a quintuple that reads a blank, writes a blank, doesn't shift, and isn't one of the start state
+-- a quintuple that reads a blank, writes a blank, does not shift, and has a state other than the start state
 pub record IsEnding (start : ℕ) (q : Quint) : Type 0 where
   pub reads : q.read ≡ 0
   pub writes : q.write ≡ 0
   pub shifts : q.shift ≡ Stay
   pub apart : q.state ≢ start
 
--- the last quintuple reads a blank, writes a blank, doesn't shift, and isn't one of the start state
+-- the last quintuple reads a blank, writes a blank, does not shift, and has a state other than the start state
 pub record EndsWell (qs : List Quint) : Type 0 where
   pub quint : Quint
   pub stands : nth qs (length qs) ≡ Some quint
   pub ends : IsEnding (start_of qs) quint
 
--- a quintuple with this number, of n, has the state in it, but not as the last one's next
+-- quintuple i of n contains the state elsewhere than as the next state of the last quintuple
 abbrev pub NamesFinal : ℕ → ℕ → ℕ → Quint → Type 0
 NamesFinal final n i q = (q.state ≡ final) ⊎ ((i < n) × (q.next ≡ final))
 
--- quintuple i has the final state in it otherwise than as the last one's next
+-- quintuple i contains the final state elsewhere than as the next state of the last quintuple
 pub record UsesFinal (qs : List Quint) (i : ℕ) : Type 0 where
   pub quint : Quint
   pub stands : nth qs i ≡ Some quint
@@ -69,11 +69,11 @@ pub record UsesFinal (qs : List Quint) (i : ℕ) : Type 0 where
 pub record IsUnambiguous (qs : List Quint) : Type 0 where
   pub none : (i j : ℕ) → Repeats qs i j → ⊥
 
--- the start state occurs nowhere but as the first quintuple's state
+-- the start state occurs only as the state of the first quintuple
 pub record HasLoneStart (qs : List Quint) : Type 0 where
   pub none : (i : ℕ) → UsesStart qs i → ⊥
 
--- the final state occurs nowhere but as the last quintuple's next
+-- the final state occurs only as the next state of the last quintuple
 pub record HasLoneFinal (qs : List Quint) : Type 0 where
   pub none : (i : ℕ) → UsesFinal qs i → ⊥
 

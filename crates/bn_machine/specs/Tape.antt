@@ -1,4 +1,4 @@
--- Tapes without ends (Bennett 1973): a symbol at each whole number, almost all of them the blank 0, and a head.
+-- Infinite tapes (Bennett 1973): a symbol at each whole number, almost all of them the blank 0, and a head.
 use Rattle.std.specs.Prelude.{ℕ, suc, ℤ, pos, negsuc, ◌+ℤ◌, ◌-ℤ◌, List, [], ◌∷◌, Option, Some, None, slice_index}
 use Rattle.std.specs.Ordering.{int_cmp}
 use Rattle.std.specs.FinMap.{FinMap, empty, get, insert, remove}
@@ -6,17 +6,17 @@ use Rattle.std.proofs.Common.{zero}
 use Rattle.bn_machine.specs.declared.quint.Shift.{Shift}
 use Rattle.bn_machine.specs.declared.quint.Shift.TheVariants.{Left, Stay, Right}
 
--- The nonblank cells. A kept value v stands for the symbol v + 1, so that no blank is kept and
--- equal contents are equal values.
+-- The nonblank cells. A stored value v represents the symbol v + 1: no blank is stored, and equal contents are equal
+-- values.
 abbrev pub Cells : Type 0
 Cells = FinMap int_cmp ℕ
 
--- A tape without ends: its nonblank cells, and where its head stands.
+-- An infinite tape: its nonblank cells, and the position of its head.
 pub record Tape : Type 0 where
   pub cells : Cells
   pub head : ℤ
 
--- the symbol for which a kept value stands
+-- the symbol that a stored value represents
 abbrev pub symbol_of : Option ℕ → ℕ
 symbol_of None = 0
 symbol_of (Some v) = suc v
@@ -48,7 +48,7 @@ moved p Left = p -ℤ pos 1
 moved p Stay = p
 moved p Right = p +ℤ pos 1
 
--- the shift that takes another one back
+-- the shift that undoes another one
 abbrev pub opposite : Shift → Shift
 opposite Left = Right
 opposite Stay = Stay

@@ -1,5 +1,5 @@
--- Why quintuples aren't in standard form: the first of the five demands that fails, in their order, with the numbers
--- that show it.
+-- Why quintuples are not in standard form: the first of the five conditions that fails, in their order, with the
+-- numbers that show it.
 use Rattle.std.specs.Prelude.{ℕ, ◌<◌, List, ⊤}
 use Rattle.bn_machine.specs.declared.quint.Quint.{Quint}
 use Rattle.bn_machine.specs.Standard.{Repeats, BeginsWell, UsesStart, EndsWell, UsesFinal, IsUnambiguous, HasLoneStart}
@@ -7,20 +7,20 @@ use Rattle.bn_machine.specs.declared.why.Why.{Why}
 use Rattle.bn_machine.specs.declared.why.Why.TheVariants.{Repeat, First, StartUsed, Last, FinalUsed, NoMemory}
 use Rattle.bn_lists.specs.Lists.{IsLeast}
 
--- i is the least quintuple that shares with a later one, and j the least later one with which it shares
+-- quintuple i is the first that shares state and scanned symbol with a later one, and j is the first such later one
 pub record IsLeastRepeat (qs : List Quint) (i j : ℕ) : Type 0 where
   pub repeats : Repeats qs i j
   pub least_first : (m n : ℕ) → m < i → Repeats qs m n → ⊥
   pub least_second : (n : ℕ) → n < j → Repeats qs i n → ⊥
 
--- i is the least quintuple that uses the start state, or the final state, where it may not stand
+-- quintuple i is the first that uses the start state, or the final state, at a place that standard form forbids
 abbrev pub IsLeastStart : List Quint → ℕ → Type 0
 IsLeastStart qs = IsLeast (UsesStart qs)
 
 abbrev pub IsLeastFinal : List Quint → ℕ → Type 0
 IsLeastFinal qs = IsLeast (UsesFinal qs)
 
--- when each refusal comes: all demands before its own are met. Want of memory is free.
+-- when each refusal fits: all conditions before its own hold, and its own fails; `NoMemory` always fits
 abbrev pub IsStandardRefusal : List Quint → Why → Type 0
 IsStandardRefusal qs (Repeat i j) = IsLeastRepeat qs i j
 IsStandardRefusal qs First = IsUnambiguous qs × (BeginsWell qs → ⊥)

@@ -1,4 +1,4 @@
--- Tapes in a window: which positions a head may take, and what a tape of finitely many cells stands for.
+-- Tapes in a window: the positions that a head may take, and the infinite tape that finitely many cells represent.
 use Rattle.std.specs.Prelude.{◌≡◌, ◌≢◌, ℕ, ◌+◌, ◌<◌, ◌≤◌, ℤ, pos, ◌-ℤ◌, ◌≤ℤ◌, ◌<ℤ◌, List, length, refl, ⊤}
 use Rattle.std.specs.FinMap.{code}
 use Rattle.std.specs.Coded.{Coded, code_by, coded×, coded_ℕ, coded_ℤ}
@@ -8,7 +8,7 @@ use Rattle.bn_machine.specs.declared.quint.Side.{Side}
 use Rattle.bn_machine.specs.declared.quint.Side.TheVariants.{Left, Right}
 use Rattle.bn_machine.specs.declared.tape.TheConstants.Tape.{GREATEST_SIDE}
 
--- where a head may be: at every position, or at those from -left to right
+-- the positions that a head may take: all of them, or those from -left to right (a window)
 pub data Room : Type 0 where
   anywhere : Room
   within : ℕ → ℕ → Room
@@ -18,7 +18,7 @@ pub record IsBetween (left right : ℕ) (p : ℤ) : Type 0 where
   pub above : (pos 0 -ℤ pos left) ≤ℤ p
   pub below : p ≤ℤ pos right
 
--- the room allows the position: a room without ends each one, a window those that lie in it
+-- the head may be at the position: `anywhere` allows each position, a window those from -left to right
 abbrev pub Allows : Room → ℤ → Type 0
 Allows anywhere p = ⊤
 Allows (within left right) p = IsBetween left right p
@@ -41,7 +41,7 @@ windowed_code =
     (λ p. record { left = p.0.0; right = p.0.1; tape = record { cells = p.1.0; head = p.1.1 } })
     (λ _. refl)
 
--- the window itself, with another tape in it
+-- the same window with another tape in it
 abbrev pub with_tape : Windowed → Tape → Windowed
 with_tape w t = record { left = w.left; right = w.right; tape = t }
 
@@ -53,14 +53,14 @@ IsInside w p = IsBetween w.left w.right p
 abbrev pub Leaves : Windowed → Shift → Side → Type 0
 Leaves w s side = IsBeyond w.left w.right side (moved w.tape.head s)
 
--- Each side has at most `GREATEST_SIDE` cells; the head is inside; all that lies outside is blank.
+-- Each side has at most `GREATEST_SIDE` cells; the head is inside; all cells outside are blank.
 pub record IsWindowed (w : Windowed) : Type 0 where
   pub left_side : w.left ≤ GREATEST_SIDE
   pub right_side : w.right ≤ GREATEST_SIDE
   pub head : IsInside w w.tape.head
   pub outside : (p : ℤ) → cell w.tape p ≢ 0 → IsInside w p
 
--- the window that stands in a list of its cells, the first at -left, with the head at the cell numbered `at` from 0
+-- the window of a list of cells, the first at position -left, with the head at the cell numbered `at`, counted from 0
 abbrev pub window_of : ℕ → ℕ → List ℕ → ℕ → Windowed
 window_of left right cells at = record {
   left = left;
@@ -68,13 +68,13 @@ window_of left right cells at = record {
   tape = record { cells = cells_from (pos 0 -ℤ pos left) cells; head = pos at -ℤ pos left };
 }
 
--- the list has one cell a position, and the head is at one of them
+-- the list has one cell for each position, and the head is at one of them
 pub record IsStored (left right : ℕ) (cells : List ℕ) (at : ℕ) : Type 0 where
   pub left_side : left ≤ GREATEST_SIDE
   pub right_side : right ≤ GREATEST_SIDE
   pub cells_number : length cells ≡ left + right + 1
   pub head_inside : at < length cells
 
--- the window of a new tape: the word at 1 and on, the head at 0
+-- the window of a new tape: the word from 1 on, the head at 0
 abbrev pub new_window : ℕ → ℕ → List ℕ → Windowed
 new_window left right word = record { left = left; right = right; tape = word_tape word }

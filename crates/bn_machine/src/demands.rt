@@ -1,4 +1,4 @@
-//! The five demands of standard form, each tested over the list of quintuples.
+//! The five conditions of standard form, each tested over the list of quintuples.
 ghost use Rattle.std.specs.Prelude.{◌≡◌, ◌↔◌, ℕ, ◌<◌, ◌≤◌, ◌^◌, IsTrue, MatchOption, length};
 ghost use Rattle.bn_machine.specs.Machine.{start_of, final_of};
 ghost use Rattle.bn_machine.specs.Standard.{Clashes, IsBeginning, BeginsWell, NamesStart, IsEnding, EndsWell};
@@ -8,15 +8,14 @@ ghost use Rattle.bn_machine.specs.Search.{HasNoRepeat, IsLeastSecond};
 
 use crate::{Quint, Shift};
 
-// Whether two quintuples, numbered `i` and `j`, share state and scanned symbol, the first before
-// the second.
+// Whether two quintuples with the numbers `i` and `j`, `i` less than `j`, share state and scanned symbol.
 fn clashes(i: u32, first: &Quint, j: u32, second: &Quint) -> bool
     ensures { IsTrue result ↔ Clashes i first.now j second.now }
 {
     i < j && first.state == second.state && first.read == second.read
 }
 
-// The least quintuple behind number `i` that shares state and scanned symbol with it.
+// The first quintuple after number `i` that shares state and scanned symbol with it.
 fn first_second(quints: &[Quint], i: u32) -> Option<u32>
     requires few { length quints.now < 2 ^ 32 }
     requires starts { 1 ≤ i }
@@ -33,7 +32,7 @@ fn first_second(quints: &[Quint], i: u32) -> Option<u32>
     None
 }
 
-// The least quintuple that shares state and scanned symbol with a later one, and the least such.
+// The first quintuple that shares state and scanned symbol with a later one, and the first such later one.
 pub(crate) fn first_repeat(quints: &[Quint]) -> Option<(u32, u32)>
     requires { length quints.now < 2 ^ 32 }
     ensures { MatchOption result (IsUnambiguous quints.now) (λ r. IsLeastRepeat quints.now r.0 r.1) }
@@ -62,14 +61,14 @@ fn is_beginning(quint: &Quint) -> bool
     quint.read == 0 && quint.write == 0 && quint.shift == Shift::Right
 }
 
-// Whether quintuple `i` has the state in it otherwise than as the first one's state.
+// Whether quintuple `i` contains the state elsewhere than as the state of the first quintuple.
 fn names_start(quint: &Quint, i: u32, start: u32) -> bool
     ensures { IsTrue result ↔ NamesStart start i quint.now }
 {
     quint.next == start || (1 < i && quint.state == start)
 }
 
-// The least quintuple that has the start state in it where it may not stand.
+// The first quintuple that contains the start state at a place that standard form forbids.
 pub(crate) fn first_start_use(quints: &[Quint], start: u32) -> Option<u32>
     requires few { length quints.now < 2 ^ 32 }
     requires state { start ≡ start_of quints.now }
@@ -84,7 +83,7 @@ pub(crate) fn first_start_use(quints: &[Quint], start: u32) -> Option<u32>
     None
 }
 
-// Whether the last quintuple reads a blank, writes a blank, stays, and isn't one of the start state.
+// Whether the last quintuple reads a blank, writes a blank, does not shift, and has a state other than the start state.
 pub(crate) fn ends_well(quints: &[Quint], start: u32) -> bool
     requires some { 0 < length quints.now }
     requires state { start ≡ start_of quints.now }
@@ -93,21 +92,21 @@ pub(crate) fn ends_well(quints: &[Quint], start: u32) -> bool
     is_ending(&quints[quints.len() - 1], start)
 }
 
-// Whether the quintuple reads a blank, writes a blank, stays, and has another state than this one.
+// Whether the quintuple reads a blank, writes a blank, does not shift, and has a state other than this one.
 fn is_ending(quint: &Quint, start: u32) -> bool
     ensures { IsTrue result ↔ IsEnding start quint.now }
 {
     quint.read == 0 && quint.write == 0 && quint.shift == Shift::Stay && quint.state != start
 }
 
-// Whether quintuple `i` of `count` has the state in it otherwise than as the last one's next.
+// Whether quintuple `i` of `count` contains the state elsewhere than as the next state of the last quintuple.
 fn names_final(quint: &Quint, i: u32, count: u32, last: u32) -> bool
     ensures { IsTrue result ↔ NamesFinal last count i quint.now }
 {
     quint.state == last || (i < count && quint.next == last)
 }
 
-// The least quintuple that has the final state in it where it may not stand.
+// The first quintuple that contains the final state at a place that standard form forbids.
 pub(crate) fn first_final_use(quints: &[Quint], last: u32) -> Option<u32>
     requires few { length quints.now < 2 ^ 32 }
     requires state { last ≡ final_of quints.now }

@@ -7,7 +7,7 @@ use crate::quint::{Quint, Side};
 use crate::tape::Tape;
 use std::marker::Model;
 
-/// Why quintuples make no machine.
+/// Why quintuples are not a machine.
 #[derive(Clone, Copy, PartialEq, Eq, Debug)]
 pub enum MachineRefusal {
     /// There is no quintuple.
@@ -16,7 +16,7 @@ pub enum MachineRefusal {
     Range { i: u32 },
 }
 
-/// What one step of a machine came to.
+/// The result of one step of a machine.
 #[derive(Clone, Copy, PartialEq, Eq, Debug)]
 pub enum Turn {
     /// The state is the final one.
@@ -29,9 +29,9 @@ pub enum Turn {
     Moved,
 }
 
-/// A one-tape Turing machine (Bennett 1973): its quintuples in order, and how many states and
-/// symbols it has. Callers see these three. There is at least one quintuple, there are fewer than
-/// 2^32, and their states and symbols are in range.
+/// A one-tape Turing machine (Bennett 1973): its quintuples in order, and its numbers of states and symbols. Contracts
+/// see these three. There is at least one quintuple, there are fewer than 2^32, and their states and symbols are in
+/// range.
 #[derive(Drop)]
 pub struct Machine {
     quints: Vec<Quint>,
@@ -53,9 +53,9 @@ impl Machine {
     ghost use Rattle.bn_machine.specs.Machine.{program_of, IsMachine, start_of, final_of};
     ghost use Rattle.bn_machine.specs.MachineCalls.{IsMachineRefusal, IsTurn};
 
-    /// The machine of these quintuples with `states` states and `symbols` symbols. It takes no
-    /// memory. `Empty` comes exactly where there is no quintuple, and `Range` exactly where there
-    /// is one with a state or a symbol out of range.
+    /// The machine of these quintuples with `states` states and `symbols` symbols. The error is `Empty` exactly if
+    /// there is no quintuple, and `Range` exactly if a quintuple has a state or a symbol out of range. Allocates no
+    /// memory.
     pub fn try_new(quints: Vec<Quint>, states: u32, symbols: u32) -> Result<Machine, MachineRefusal>
         requires { length quints.items < 2 ^ 32 }
         ensures made { IfOk result (λ m. m ≡ program_of quints.items states symbols) }
@@ -111,10 +111,10 @@ impl Machine {
         self.quints[self.quints.len() - 1].next
     }
 
-    /// One step of the machine from `state` on `tape`: `Final` exactly where the state is the
-    /// final one; else `Stuck` exactly where no quintuple has the state and the scanned symbol;
-    /// else the first that has them is applied, `Left` exactly where its shift would leave the
-    /// window, with nothing changed. It takes no memory.
+    /// One step of the machine from `state` on `tape`. The result is `Final` exactly if the state is the final one, and
+    /// otherwise `Stuck` exactly if no quintuple has the state and the scanned symbol. Otherwise the first quintuple
+    /// that has them is applied: the result is `Left`, with nothing changed, exactly if its shift would leave the
+    /// window, and else `Moved`. Allocates no memory.
     pub fn step(&self, state: &mut u32, tape: &mut Tape) -> Turn
         ensures { IsTurn self.now result state.old tape.old state.new tape.new }
     {

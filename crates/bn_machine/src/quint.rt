@@ -1,11 +1,11 @@
 //! The quintuples of a machine, and the moves of its head.
 
-/// Where a quintuple moves the head: one cell to the left, nowhere, or one cell to the right.
+/// How a quintuple moves the head: one cell to the left, not at all, or one cell to the right.
 #[derive(Clone, Copy, PartialEq, Eq, Debug)]
 pub enum Shift {
     /// One cell to the left.
     Left,
-    /// Nowhere.
+    /// Not at all.
     Stay,
     /// One cell to the right.
     Right,
@@ -20,9 +20,8 @@ pub enum Side {
     Right,
 }
 
-/// A quintuple (Bennett 1973): in `state`, where the head scans `read`, the machine writes `write`,
-/// moves its head by `shift` and goes on in `next`. States and symbols are counted from 0, and
-/// symbol 0 is the blank.
+/// A quintuple (Bennett 1973): in `state`, if the head scans `read`, the machine writes `write`, moves its head by
+/// `shift` and goes to `next`. States and symbols are counted from 0, and symbol 0 is the blank.
 #[derive(Clone, Copy, PartialEq, Eq, Debug)]
 pub struct Quint {
     /// The state in which it applies.
@@ -31,7 +30,7 @@ pub struct Quint {
     pub read: u32,
     /// The symbol that is written in its place.
     pub write: u32,
-    /// Where the head moves.
+    /// How the head moves.
     pub shift: Shift,
     /// The state that comes next.
     pub next: u32,

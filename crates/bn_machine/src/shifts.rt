@@ -1,11 +1,11 @@
-//! Shifts of a head, as this project's tables spell them.
+//! Shifts of the head, as this project's tables spell them.
 
 ghost use Rattle.std.specs.Prelude.{◌≡◌, true, false, MatchOption};
 ghost use Rattle.bn_machine.specs.Shifts.{is_shift, shift_text};
 
 use crate::quint::Shift;
 
-/// The shift that a field is: `-` to the left, `0` for none, `+` to the right; `None` where it is none of these.
+/// The shift of a field: `-` to the left, `0` for none, `+` to the right. Returns `None` for any other field.
 pub fn shift_of(field: &[u8]) -> Option<Shift>
     ensures { MatchOption result (is_shift field.now ≡ false) (λ s. (is_shift field.now ≡ true)
         × (field.now ≡ shift_text s)) }

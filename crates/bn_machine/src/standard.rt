@@ -9,7 +9,7 @@ use crate::why::Why;
 use std::alloc::Global;
 use std::marker::Model;
 
-/// A machine in standard form. Callers see the machine.
+/// A machine in standard form. Contracts see the machine.
 #[derive(Drop)]
 pub struct Standard<'a> {
     machine: &'a Machine,
@@ -39,14 +39,14 @@ impl Standard<'_> {
     }
 }
 
-/// The machine as one in standard form. `Err` comes exactly where one of the five demands isn't
-/// met, and names the first of them and the least quintuples that show it; want of memory is free.
+/// The machine as one in standard form, exactly if it is. The error is the first of the five conditions that fails,
+/// with the first quintuples that show it, or `NoMemory`, which the contract always allows.
 pub fn check<'a>(alloc: Global, machine: &'a Machine) -> Result<Standard<'a>, Why>
     ensures made { IfOk result (λ s. s ≡ machine.now) }
     ensures standard { OnOk result (IsStandard machine.now.quints) }
     ensures refused { IfErr result (IsStandardRefusal machine.now.quints) }
 {
-    // (the test needs no memory; callers hand it over all the same)
+    // (the test allocates no memory; callers pass the allocator all the same)
     let _ = alloc;
     let quints = machine.quints();
     if let Some((i, j)) = first_repeat(quints) {

@@ -12,12 +12,12 @@ use std::marker::Model;
 pub enum TapeRefusal {
     /// The word is longer than the right side; `needs` is its length.
     WordOutside { needs: u32 },
-    /// There was no memory for the cells.
+    /// Memory for the cells ran out.
     NoMemory,
 }
 
-/// A tape with the positions from `-left` to `right` and a head on one of them. Callers see the
-/// tape without ends that it stands for, which is blank outside of the window, and the two sides.
+/// A tape with the positions from `-left` to `right` and a head on one of them. Contracts see the two sides and the
+/// infinite tape that it represents, which is blank outside the window.
 #[derive(Drop)]
 pub struct Tape {
     left: u32,
@@ -46,9 +46,8 @@ impl Tape {
     /// The greatest number of cells on either side of position 0.
     pub const GREATEST_SIDE: u32 = 2_097_152;
 
-    /// A tape with `left` cells before position 0 and `right` cells behind it, the head at 0, the
-    /// symbols of `word` at 1 and on, and blanks elsewhere. `WordOutside` comes exactly where the
-    /// word is longer than `right`.
+    /// A tape with `left` cells left of position 0 and `right` cells right of it, the head at 0, the symbols of `word`
+    /// from 1 on, and blanks elsewhere. The error is `WordOutside` exactly if the word is longer than `right`.
     pub fn try_new(alloc: Global, left: u32, right: u32, word: &[u32]) -> Result<Tape, TapeRefusal>
         requires left_side { left ≤ Self.GREATEST_SIDE }
         requires right_side { right ≤ Self.GREATEST_SIDE }
@@ -81,7 +80,7 @@ impl Tape {
         i64::from(self.at) - i64::from(self.left)
     }
 
-    /// The symbol at a position, `None` exactly outside of the window. Its contract also tells what every tape keeps.
+    /// The symbol at a position, or `None` exactly outside the window. The contract also states the tape's invariant.
     pub fn symbol(&self, position: i64) -> Option<u32>
         ensures inside { IsSome result ↔ IsInside self.now position }
         ensures value { IfSome result (λ s. s ≡ cell self.now.tape position) }
@@ -109,8 +108,8 @@ impl Tape {
         self.cells[at] = symbol;
     }
 
-    /// Moves the head: `None` where it moved or stayed, and `Some` of the side exactly where it
-    /// would leave the window there; then nothing has changed.
+    /// Moves the head by the shift and returns `None`. If the head would leave the window, returns the side at which it
+    /// would leave, and changes nothing.
     pub fn shift(&mut self, shift: Shift) -> Option<Side>
         ensures { IsShifted self.old shift result self.new }
     {

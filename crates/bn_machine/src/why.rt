@@ -1,7 +1,7 @@
 //! The refusals of standard form.
 
-/// Why a machine isn't in standard form: the first of the five demands, in this order, that it
-/// doesn't meet. Quintuples are counted from 1.
+/// Why a machine is not in standard form: the first of the five conditions, in this order, that fails. Quintuples are
+/// counted from 1.
 #[derive(Clone, Copy, PartialEq, Eq, Debug)]
 pub enum Why {
     /// Quintuples `i` and `j` share state and scanned symbol: the least `i` that shares with a
@@ -9,12 +9,12 @@ pub enum Why {
     Repeat { i: u32, j: u32 },
     /// The first quintuple doesn't read a blank, write a blank and shift right.
     First,
-    /// The start state occurs otherwise than as the first quintuple's state, first in quintuple `i`.
+    /// The start state occurs elsewhere than as the state of the first quintuple, first in quintuple `i`.
     StartUsed { i: u32 },
-    /// The last quintuple doesn't read a blank, write a blank and stay, or is one of the start state.
+    /// The last quintuple doesn't read a blank, write a blank and stay, or its state is the start state.
     Last,
-    /// The final state occurs otherwise than as the last quintuple's next, first in quintuple `i`.
+    /// The final state occurs elsewhere than as the next state of the last quintuple, first in quintuple `i`.
     FinalUsed { i: u32 },
-    /// There was no memory for the test.
+    /// Memory for the test ran out.
     NoMemory,
 }

@@ -14,22 +14,22 @@ use Rattle.bn_mirror.specs.Mirror.{IsMirror}
 abbrev pub MirrorsAreThere : Type 0
 MirrorsAreThere = (v : Version) (s : Spelling) → Admits v s → (m : Spelling) × IsMirror s m
 
--- Its inverse circuits can be written, in the same version.
+-- If a configuration can be written in a version, its inverse circuits can be written in that version.
 abbrev pub MirrorsAreAdmitted : Type 0
 MirrorsAreAdmitted = (v : Version) (s m : Spelling) → Admits v s → IsMirror s m → Admits v m
 
--- There is one inverse circuit, for every order in which wires are listed.
+-- A configuration has at most one inverse circuit, up to the order of the list of wires.
 abbrev pub MirrorsAreOne : Type 0
 MirrorsAreOne = (s t m n : Spelling) → AreSame s t → IsMirror s m → IsMirror t n → AreSame m n
 
--- The inverse circuit of the inverse circuit is the first with no steps counted.
+-- The inverse circuit of the inverse circuit is the first circuit with no steps counted.
 abbrev pub MirrorsTurnBack : Type 0
 MirrorsTurnBack =
     (v : Version) (s m n : Spelling) → Admits v s → IsMirror s m → IsMirror m n
     → AreSame n (moved_to s (counted (situation_of s.config) 0))
 
--- As many steps as can be undone in a circuit can be made forward in its inverse circuit, and they lead to the bars and
--- the place that correspond to where undoing them leads.
+-- As many steps as can be undone in a circuit can be made in its inverse circuit, and both lead to the same bars and
+-- to corresponding places.
 abbrev pub MirrorsRunBack : Type 0
 MirrorsRunBack =
     (v : Version) (s m n : Spelling) → Admits v s → IsMirror s m → (most t : ℕ) (c : Config)
@@ -38,7 +38,7 @@ MirrorsRunBack =
     → Reaches (Goes (circuit_of m)) t m.config (run (circuit_of m) m.config t)
     × (situation_of (run (circuit_of m) m.config t) ≡ situation_of n.config)
 
--- Exactly t steps of m lead to the bars and the place of n, where the signal has left by the end of m.
+-- Exactly t steps of m lead to the bars and the place of n, in which the signal has left by the end of m.
 pub record ComesBack (m n : Spelling) (t : ℕ) : Type 0 where
   pub reaches : Reaches (Goes (circuit_of m)) t m.config (run (circuit_of m) m.config t)
   pub restored : situation_of (run (circuit_of m) m.config t) ≡ situation_of n.config
@@ -52,8 +52,8 @@ RunsComeBack =
     → (t : ℕ) (c : Config) → Reaches (Goes (circuit_of s)) t s.config c
     → IsMirror (moved_to s c) m → IsMirror s n → ComesBack m n t
 
--- The signal is about to enter the start of the inverse circuit if the signal of the first had left by its end, and has
--- left by the end of the inverse circuit if the signal of the first was about to enter its start.
+-- If the signal has left by the end, it is about to enter the start in the inverse circuit. If it is about to enter
+-- the start, it has left by the end in the inverse circuit.
 abbrev pub MirrorsExchangeEnds : Type 0
 MirrorsExchangeEnds =
     (v : Version) (s m : Spelling) → Admits v s → IsMirror s m
@@ -65,18 +65,18 @@ MirrorsExchangeEnds =
 pub record Laws : Type 0 where
   -- A configuration that can be written has an inverse circuit.
   pub mirrors_are_there : MirrorsAreThere
-  -- The inverse circuits of what can be written can be written, in the same version.
+  -- If a configuration can be written in a version, its inverse circuits can be written in that version.
   pub mirrors_are_admitted : MirrorsAreAdmitted
-  -- A circuit has one inverse circuit, for every order in which wires are listed.
+  -- A configuration has at most one inverse circuit, up to the order of the list of wires.
   pub mirrors_are_one : MirrorsAreOne
-  -- The inverse circuit of the inverse circuit is the first with no steps counted.
+  -- The inverse circuit of the inverse circuit is the first circuit with no steps counted.
   pub mirrors_turn_back : MirrorsTurnBack
-  -- As many steps as can be undone in a circuit can be made forward in its inverse circuit, and they lead to the bars
-  -- and the place that correspond to where undoing them leads.
+  -- As many steps as can be undone in a circuit can be made in its inverse circuit, and both lead to the same bars and
+  -- to corresponding places.
   pub mirrors_run_back : MirrorsRunBack
-  -- If a run began with the signal about to enter the start, as many steps of the inverse circuit lead from the end of
-  -- the run to its beginning, and the signal leaves by the end.
+  -- If a run begins with the signal about to enter the start, as many steps of the inverse circuit lead back, and the
+  -- signal leaves that circuit by its end.
   pub runs_come_back : RunsComeBack
-  -- The signal is about to enter the start of the inverse circuit if the signal of the first had left by its end, and
-  -- has left by the end of the inverse circuit if the signal of the first was about to enter its start.
+  -- In the inverse circuit, a signal that left by the end is about to enter the start, and one about to enter the
+  -- start has left by the end.
   pub mirrors_exchange_ends : MirrorsExchangeEnds

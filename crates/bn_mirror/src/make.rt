@@ -18,8 +18,8 @@ use bn_netlist::NetConfig;
 use std::alloc::Global;
 
 /// The inverse circuit of a circuit in a configuration that can be written in its version: a circuit of the same
-/// elements whose steps undo the steps of the first, at the place that corresponds to the first's, with no steps
-/// counted. It has the same version, and can be written in it. (This project's own definition.)
+/// elements whose steps undo the steps of the first, with the signal at the corresponding place and no steps counted.
+/// The inverse circuit has the same version, and can be written in it. (This project's own definition.)
 pub fn mirror(alloc: Global, config: &NetConfig) -> Result<NetConfig, NoMemory>
     requires { Admits config.now.version (spelling_of config.now) }
     ensures mirrored { IfOk result (λ m. IsMirror (spelling_of config.now) (spelling_of m)) }
@@ -115,7 +115,7 @@ fn mirrored_place(net: &Net<Rotary>, place: Place) -> Place
     }
 }
 
-// The line of the same element with east and west exchanged.
+// The port of the same element with east and west exchanged.
 fn mirrored_line(line: Line) -> Line
     ensures { result ≡ mirrored_line line }
 {
@@ -125,7 +125,7 @@ fn mirrored_line(line: Line) -> Line
     }
 }
 
-// The line with east and west exchanged.
+// The port with east and west exchanged.
 fn exchanged(line: u32) -> u32
     ensures { result ≡ exchanged line }
 {

@@ -1,4 +1,4 @@
--- Reading a text line by line: what has been read, and what a refusal says of the next line.
+-- Reading a text line by line: what has been read, and what a refusal asserts about the next line.
 use Rattle.std.specs.Prelude.{◌≡◌, ℕ, ◌+◌, ◌*◌, ◌<◌, Bool, true, false, List, [], ◌∷◌, ◌++◌, length, replicate, Option}
 use Rattle.std.specs.Prelude.{Some, None, slice_get, is_some}
 use Rattle.bn_circuits.specs.Circuits.{Circuit, source}
@@ -32,42 +32,42 @@ refusal_of start_fed line = StartFed line
 refusal_of second_source line = TwoSources line
 refusal_of spelled_out line = Spelling line
 
--- the refusal names this fault at this line; or memory was wanting
+-- the refusal names this fault at this line, or memory ran out
 pub data RefusesBy (found : Option Fault) (line : ℕ) (r : NetlistRefusal) : Type 0 where
   wants_memory : r ≡ NoMemory → RefusesBy found line r
   finds : (fault : Fault) → found ≡ Some fault → r ≡ refusal_of fault line → RefusesBy found line r
 
--- for each input line of so many elements a mark, whether one of the wires ends there
+-- for each input port of this many elements a mark: whether one of the wires ends there
 pub record IsFed (count : ℕ) (wires : List Wire) (fed : List Bool) : Type 0 where
   pub size : length fed ≡ 4 * count
   pub marks : (l : Line) → l.element < count → l.line < 4
       → slice_get fed (4 * l.element + l.line) ≡ Some (is_some (source wires l))
 
--- a draft of so many elements has the wires of this list, if these stay apart
+-- a draft of this many elements has the wires of this list, if these are distinct at both ends
 pub record HasDrawn (count : ℕ) (wires : List Wire) (drawn : EndList) : Type 0 where
   pub elements : drawn.elements ≡ count
   pub drawn_if : AreApart wires → AreDrawn count wires drawn
 
--- the wires of this list, as they are kept for so many elements: in a draft, and by the marks of where they end
+-- the wires of this list as they are stored for this many elements: in a draft, and by marks of where they end
 pub record AreKept (count : ℕ) (wires : List Wire) (drawn : EndList) (fed : List Bool) : Type 0 where
   pub drawn_are : HasDrawn count wires drawn
   pub marked : IsFed count wires fed
 
--- what keeps wires is there for so many elements
+-- the draft and the marks have the size for this many elements
 pub record IsSized (count : ℕ) (drawn : EndList) (fed : List Bool) : Type 0 where
   pub elements : drawn.elements ≡ count
   pub marks : length fed ≡ 4 * count
 
--- the first fault of a column of so many rows from this element on, after these wires
+-- the first fault of a column of this many rows from this element on, after these wires
 abbrev pub column_fault : Header → List Wire → ℕ → ℕ → Option Fault
 column_fault h wires e k = inner_fault (header_then h []) wires (e + k) (inner_wires e k)
 
--- these are the wires of a column that has its elements
+-- these are the wires of a column whose elements all exist
 pub record IsInnerOf (h : Header) (e k : ℕ) (inner : List Wire) : Type 0 where
   pub are : inner ≡ inner_wires e k
   pub within : e + k < h.count
 
--- the wires of a column have been added behind these
+-- the wires of a column have been added after these, without a fault
 pub record ConnectsColumn (h : Header) (e k : ℕ) (wires : List Wire) (drawn : EndList) (fed : List Bool) : Type 0 where
   pub faultless : column_fault h wires e k ≡ None
   pub kept : AreKept h.count (wires ++ inner_wires e k) drawn fed
@@ -77,30 +77,30 @@ pub record IsOwnColumn (own : List Bool) (c : Circuit) (states : List ℕ) (e : 
   pub has_line : slice_get own e ≡ Some true
   pub column : HasColumnAt c states e
 
--- what a test answers for the first fault of a wire, found in the line of this number
+-- what a check returns for the first fault of a wire, found in the line with this number
 abbrev pub tested : Option Fault → ℕ → Line → Result Line NetlistRefusal
 tested None line to = Ok to
 tested (Some fault) line to = Err (refusal_of fault line)
 
--- a wire without a fault has been added behind these
+-- a wire without a fault has been added after these
 pub record Connects (h : Header) (from to : Line) (wires : List Wire) (drawn : EndList) (fed : List Bool) : Type 0 where
   pub faultless : wire_fault (header_then h []) wires from to ≡ None
   pub kept : AreKept h.count (wires ++ record { from = from; to = to } ∷ []) drawn fed
 
--- the wires of some outputs of an element have been added behind these, from this output on
+-- the wires of some outputs of an element, from this output on, have been added after these, without a fault
 pub record ConnectsAll (h : Header) (e o : ℕ) (targets : List (Option Line)) (wires : List Wire) (drawn : EndList)
     (fed : List Bool) : Type 0 where
   pub faultless : outputs_fault (header_then h []) wires e o targets ≡ None
   pub kept : AreKept h.count (wires ++ wires_from e o targets) drawn fed
 
--- for each element whether it has a line of its own, as these lines say
+-- for each element, whether it has a line of its own, according to these lines
 abbrev pub own_in : List Sentence → List Bool
 own_in [] = []
 own_in (Element n q ts ∷ xs) = true ∷ own_in xs
 own_in (Column e k q ∷ xs) = replicate k false ++ false ∷ own_in xs
 own_in (x ∷ xs) = own_in xs
 
--- what has been read of the entries, as these lines say it
+-- the stored values are those of the entries in these lines
 pub record Holds (h : Header) (rows : List Sentence) (lines left : ℕ) (states : List ℕ) (own : List Bool)
     (drawn : EndList) (fed : List Bool) : Type 0 where
   pub lines_are : lines ≡ length rows
@@ -109,7 +109,7 @@ pub record Holds (h : Header) (rows : List Sentence) (lines left : ℕ) (states 
   pub own_are : own ≡ own_in rows
   pub kept : AreKept h.count (wires_after 6 rows) drawn fed
 
--- the line that says this has been read after these lines, without a fault
+-- the line with these contents has been read after these lines, without a fault
 pub record Reads (h : Header) (rows : List Sentence) (x : Sentence) (lines left : ℕ) (states : List ℕ)
     (own : List Bool) (drawn : EndList) (fed : List Bool) : Type 0 where
   pub faultless : fault_of (header_then h rows) x ≡ None

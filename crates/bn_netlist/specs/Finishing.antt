@@ -11,20 +11,20 @@ use Rattle.bn_netlist.specs.Drafting.{Holds}
 use Rattle.bn_netlist.specs.declared.line_refusal.NetlistRefusal.{NetlistRefusal}
 use Rattle.bn_netlist.specs.declared.line_refusal.NetlistRefusal.TheVariants.{Spelling, NoMemory}
 
--- some whole text says what has been read
+-- the stored values are those of some complete text
 pub record IsWholeDraft (h : Header) (lines left : ℕ) (states : List ℕ) (own : List Bool) (drawn : EndList)
     (fed : List Bool) : Type 0 where
   pub rows : List Sentence
   pub whole : AreWhole (header_then h rows)
   pub holds : Holds h rows lines left states own drawn fed
 
--- each whole text that says what has been read spells this, in this version
+-- each complete text with these stored values spells this, in this version
 abbrev pub SpellsAll : Header → ℕ → ℕ → List ℕ → List Bool → EndList → List Bool → Version → what.Spelling → Type 0
 SpellsAll h lines left states own drawn fed version s =
     (rows : List Sentence) → AreWhole (header_then h rows) → Holds h rows lines left states own drawn fed
     → (version ≡ h.version) × Spelled h.version s (lines_text (header_then h rows))
 
--- each whole text that says what has been read is refused so; or memory was wanting
+-- each complete text with these stored values has the fault that the refusal names, or memory ran out
 pub data RefusesAll (h : Header) (lines left : ℕ) (states : List ℕ) (own : List Bool) (drawn : EndList)
     (fed : List Bool) (r : NetlistRefusal) : Type 0 where
   wants_memory_for_net : r ≡ NoMemory → RefusesAll h lines left states own drawn fed r

@@ -1,4 +1,4 @@
--- The texts of nets, and what a refusal says of a text.
+-- The texts of nets, and what a refusal asserts about a text.
 use Rattle.std.specs.Prelude.{◌≡◌, ℕ, List, length}
 use Rattle.bn_circuits.specs.RotaryNets.{rotary_circuit}
 use Rattle.bn_netlist_laws.specs.Spelling as what
@@ -11,13 +11,13 @@ use Rattle.bn_netlist.specs.declared.line_refusal.NetlistRefusal.TheVariants.{Sy
 use Rattle.bn_netlist.specs.declared.line_refusal.NetlistRefusal.TheVariants.{StartFed, EndWired, LeftWired, TooMany}
 use Rattle.bn_netlist.specs.declared.line_refusal.NetlistRefusal.TheVariants.{Spelling, NoMemory}
 
--- what the text of a net with its configuration spells
+-- the meaning of the text of a net with its configuration
 abbrev pub spelling_of : NetConfig → what.Spelling
 spelling_of c =
     record { elements = length c.net.elements; wires = c.net.wires; config = c.config; start = c.start; end = c.end }
 
--- what a refusal says of the text: which line is the first with a fault, and its first fault; want of memory says
--- nothing
+-- what a refusal asserts about the text: which line is the first faulty one, and its first fault; out of memory
+-- asserts nothing
 abbrev pub IsTextRefusal : List ℕ → NetlistRefusal → Type 0
 IsTextRefusal text (Syntax line) = IsFirstFault text line malformed
 IsTextRefusal text (Order line) = IsFirstFault text line out_of_order

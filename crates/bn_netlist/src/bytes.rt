@@ -1,4 +1,4 @@
-//! What stands in a line of a text, from left to right.
+//! Parsing the parts of a line of a text, from left to right.
 
 ghost use Rattle.std.specs.Prelude.{◌≡◌, ◌==◌, None, Some, [], ◌∷◌, length, MatchOption, IfNone};
 ghost use Rattle.bn_netlist_laws.specs.Reading.{Takes, word_taken, number_taken, side_taken, bar_taken, line_taken};
@@ -8,7 +8,7 @@ use bn_base::read_u64;
 use bn_element::{EAST, HORIZONTAL, NORTH, SOUTH, VERTICAL, WEST};
 use std::marker::Model;
 
-/// A place in a text, read from left to right. Callers see it as the bytes that are left.
+/// A position in a text, read from left to right. Contracts see it as the bytes that are left.
 #[derive(Drop)]
 pub struct Cursor<'a> {
     rest: &'a [u8],
@@ -23,21 +23,21 @@ impl<'a> Model for Cursor<'a> {
 }
 
 impl<'a> Cursor<'a> {
-    /// The beginning of these bytes.
+    /// The position before these bytes.
     pub fn new(bytes: &[u8]) -> Cursor<'_>
         ensures { result ≡ bytes.now }
     {
         Cursor { rest: bytes }
     }
 
-    /// Whether nothing is left.
+    /// Whether no byte is left.
     pub fn is_at_end(&self) -> bool
         ensures { result ≡ (length self.now == 0) }
     {
         self.rest.is_empty()
     }
 
-    /// Passes over this word. Where it doesn't stand here, nothing is passed over.
+    /// Skips this word. If the bytes do not begin with the word, the position does not change.
     #[tactic(auto, using(crate::proofs::WordLemmas::words))]
     pub fn word(&mut self, word: &[u8]) -> Option<()>
         ensures taken { MatchOption result
@@ -52,7 +52,7 @@ impl<'a> Cursor<'a> {
         Some(())
     }
 
-    /// Passes over this byte, which is a word of its own. Where it doesn't stand here, nothing is passed over.
+    /// Skips this byte. If the bytes do not begin with it, the position does not change.
     #[tactic(auto, unfolding(bn_netlist_laws::specs::Reading::word_taken))]
     #[inline(always)]
     pub(crate) fn byte(&mut self, byte: u8) -> Option<()>
@@ -69,7 +69,8 @@ impl<'a> Cursor<'a> {
         Some(())
     }
 
-    /// A number in decimal digits, at most 2^62. Where none stands here, nothing is passed over.
+    /// Reads a number in decimal digits, at most 2^62. If the bytes do not begin with one, the position does not
+    /// change.
     #[tactic(auto, unfolding(bn_netlist_laws::specs::Reading::number_taken))]
     #[inline(always)]
     pub fn number(&mut self) -> Option<u64>
@@ -83,7 +84,7 @@ impl<'a> Cursor<'a> {
         Some(value)
     }
 
-    /// The letter of a line of an element.
+    /// Reads the letter of a port of an element.
     #[tactic(auto, unfolding(bn_netlist_laws::specs::Reading::side_taken))]
     #[inline(always)]
     pub(crate) fn side(&mut self) -> Option<u32>
@@ -101,7 +102,7 @@ impl<'a> Cursor<'a> {
         Some(side)
     }
 
-    /// The letter of a bar.
+    /// Reads the letter of the state of a bar.
     #[tactic(auto, unfolding(bn_netlist_laws::specs::Reading::bar_taken))]
     #[inline(always)]
     pub(crate) fn bar(&mut self) -> Option<u32>
@@ -117,7 +118,7 @@ impl<'a> Cursor<'a> {
         Some(bar)
     }
 
-    /// A line of an element: the element's number and the line's.
+    /// Reads a port of an element: the number of the element and that of the port.
     #[tactic(auto, unfolding(bn_netlist_laws::specs::Reading::line_taken))]
     #[inline(always)]
     pub(crate) fn line(&mut self) -> Option<(u64, u32)>
@@ -129,7 +130,7 @@ impl<'a> Cursor<'a> {
         Some((element, side))
     }
 
-    /// Where an output leads: nothing at a dash.
+    /// Reads where an output leads: `None` for a dash.
     #[tactic(auto, unfolding(bn_netlist_laws::specs::Reading::target_taken))]
     #[inline(always)]
     pub(crate) fn target(&mut self) -> Option<Option<(u64, u32)>>
@@ -143,7 +144,7 @@ impl<'a> Cursor<'a> {
         Some(Some(line))
     }
 
-    /// Where the four outputs of an element lead.
+    /// Reads where the four outputs of an element lead.
     #[tactic(auto, unfolding(bn_netlist_laws::specs::Reading::targets_taken))]
     #[inline(always)]
     pub(crate) fn targets(&mut self) -> Option<[Option<(u64, u32)>; 4]>

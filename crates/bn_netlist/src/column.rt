@@ -10,8 +10,8 @@ use bn_circuits::{Line, Net, Place, States};
 use bn_element::Rotary;
 use bn_netlist_laws::Version;
 
-/// A net in these states of its elements. Where the signal is, and what else a text names, tells nothing of columns: it
-/// is about to enter the first line, no step has been made, and that line is the start and the end.
+/// A net with these states of its elements. The rest of a configuration does not matter for columns: the signal is
+/// about to enter the first port, no step is counted, and that port is both the start and the end.
 #[derive(Drop)]
 struct NetInStates<'a> {
     net: &'a Net<Rotary>,
@@ -76,7 +76,7 @@ impl Spellable for NetInStates<'_> {
 }
 
 /// The number of rows of the column that begins at this element of a net in these states, one for each element; `None`
-/// exactly where no column begins there. It takes no memory. (This project's own profile.)
+/// exactly if no column begins there. The call takes no memory. (This project's own profile.)
 pub fn column_at(net: &Net<Rotary>, states: &States, element: u32) -> Option<u32>
     requires states { length states.now ≡ length net.now.elements }
     ensures { MatchOption result

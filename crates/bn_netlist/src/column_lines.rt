@@ -11,8 +11,8 @@ use crate::spellable::Spellable;
 use bn_circuits::Line;
 use bn_element::{EAST, NORTH, SOUTH, VERTICAL, WEST};
 
-/// The number of rows of the column that begins at this element; `None` exactly where no column begins
-/// there. It takes no memory. (This project's own profile.)
+/// The number of rows of the column that begins at this element; `None` exactly if no column begins there. The call
+/// takes no memory. (This project's own profile.)
 pub fn column_rows<C: Spellable>(config: &C, element: u32) -> Option<u32>
     requires states { length (C.spelling config.now).config.states ≡ (C.spelling config.now).elements }
     ensures { MatchOption result
@@ -23,7 +23,7 @@ pub fn column_rows<C: Spellable>(config: &C, element: u32) -> Option<u32>
     rows_at(config, element)
 }
 
-// As `column_rows`, by the function of the definitions.
+// The same as `column_rows`, by the function of the definitions.
 fn rows_at<C: Spellable>(config: &C, element: u32) -> Option<u32>
     requires states { length (C.spelling config.now).config.states ≡ (C.spelling config.now).elements }
     ensures { result ≡ column_at (C.spelling config.now).elements (C.spelling config.now).wires
@@ -46,7 +46,7 @@ fn rows_at<C: Spellable>(config: &C, element: u32) -> Option<u32>
     Some(rows)
 }
 
-// Whether a column of so many rows begins at this element.
+// Whether a column of this many rows begins at this element.
 fn is_column<C: Spellable>(config: &C, first: u32, rows: u32) -> bool
     requires states { length (C.spelling config.now).config.states ≡ (C.spelling config.now).elements }
     requires within { first + rows < (C.spelling config.now).elements }
@@ -118,7 +118,7 @@ fn is_free<C: Spellable>(config: &C, element: u32) -> bool
         .is_none()
 }
 
-// Whether this output line leads to that input line.
+// Whether this output port leads to that input port.
 fn leads<C: Spellable>(config: &C, from: u32, output: u32, to: u32, input: u32) -> bool
     requires within { from < (C.spelling config.now).elements }
     requires low { output < 4 }
@@ -138,7 +138,7 @@ fn leads<C: Spellable>(config: &C, from: u32, output: u32, to: u32, input: u32) 
     }
 }
 
-// Whether so many bars from this one on are vertical.
+// Whether this many bars from this one on are vertical.
 fn is_standing<C: Spellable>(config: &C, first: u32, rows: u32) -> bool
     requires within { first + rows < length (C.spelling config.now).config.states }
     requires fits { first + rows < 2 ^ 32 }

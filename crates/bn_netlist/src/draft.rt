@@ -1,4 +1,4 @@
-//! The wires of a configuration text, as far as they have been read.
+//! The wires of a configuration text that have been read so far.
 
 ghost use Rattle.std.specs.Prelude.{◌≡◌, ◌+◌, ◌*◌, ◌<◌, ◌≤◌, ◌++◌, ℕ, List, [], length, IfOk, OnOk, IfErr, Some};
 ghost use Rattle.std.specs.Prelude.{is_some, slice_get, MatchOption, None};
@@ -22,17 +22,17 @@ use bn_circuits::{Line, Place, Wire};
 use bn_netlist_laws::Header;
 use std::alloc::Global;
 
-/// The wires read so far, of which no list is kept.
+/// The wires read so far, without a list of them.
 #[derive(Drop)]
 pub struct Draft {
-    /// Where lines lead, in the form in which the circuit is packed.
+    /// Where ports lead, in packed form.
     pub(crate) drawn: bn_packed::Draft,
-    // For each input line of the circuit, four an element, whether a wire ends there.
+    // For each input port of the circuit, four per element, whether a wire ends there.
     pub(crate) fed: Vec<bool>,
 }
 
 impl Draft {
-    /// No wire, with room for those of so many elements.
+    /// A draft without wires, with memory for this many elements.
     pub fn new(alloc: Global, count: u32) -> Result<Draft, NetlistRefusal>
         requires { count ≤ MOST_ELEMENTS }
         ensures drawn { IfOk result (λ d. HasDrawn count [] d.drawn) }
@@ -74,7 +74,7 @@ impl Draft {
         Ok(())
     }
 
-    // Marks where these wires end.
+    // Marks the input ports where these wires end.
     fn mark(&mut self, count: u32, wires: &[Wire])
         requires marks { length self.old.fed.items ≡ 4 * count }
         requires fitting { AreFitting count wires.now }
@@ -88,8 +88,8 @@ impl Draft {
         }
     }
 
-    /// Adds the wires of some outputs of an element, from this output on, of which `targets` says
-    /// where they lead; `line` is the number of the line that says it.
+    /// Adds the wires of some outputs of an element, from this output on; `targets` are the input ports to which they
+    /// lead, and `line` is the number of the text line.
     pub fn connect_all(
         &mut self,
         header: &Header,
@@ -150,7 +150,7 @@ impl Draft {
         Ok(())
     }
 
-    // The input line to which a wire leads, where the wire has no fault.
+    // The input port to which a wire leads, if the wire has no fault; otherwise its first fault.
     #[inline]
     fn check(
         &self,
@@ -183,7 +183,7 @@ impl Draft {
         Ok(to)
     }
 
-    // The wires of a column, where it has no fault.
+    // The wires of a column, if it has no fault; otherwise its first fault.
     fn check_column(
         &self,
         alloc: Global,
@@ -223,7 +223,7 @@ impl Draft {
         Ok(inner)
     }
 
-    // Whether a wire ends where one of these wires does.
+    // Whether an earlier wire ends where one of these wires ends.
     fn are_fed(&self, count: u32, wires: &[Wire]) -> bool
         requires marks { length self.now.fed.items ≡ 4 * count }
         requires within { (n : ℕ) (w : Wire) → slice_get wires.now n ≡ Some w →
@@ -239,7 +239,7 @@ impl Draft {
         false
     }
 
-    // Whether a wire ends at this input line.
+    // Whether a wire ends at this input port.
     #[inline]
     fn is_fed(&self, to: Line) -> bool
         requires fed { (4 * to.element) + to.line < length self.now.fed.items }
@@ -249,8 +249,7 @@ impl Draft {
     }
 }
 
-// The line of an element with these two numbers, `None` exactly where the element isn't below the
-// count.
+// The port of an element with these two numbers; `None` exactly if the element is not below the count.
 pub(crate) fn existing(numbers: (u64, u32), count: u32) -> Option<Line>
     ensures { MatchOption result
         (count ≤ numbers.0)
@@ -266,7 +265,7 @@ pub(crate) fn existing(numbers: (u64, u32), count: u32) -> Option<Line>
     })
 }
 
-// Whether the signal has left by this output line.
+// Whether the signal has left by this output port.
 fn has_left_by(place: Place, from: Line) -> bool
     ensures { result ≡ is_left_by place from }
 {

@@ -1,4 +1,4 @@
-//! The entries of a configuration text, as far as they have been read.
+//! The entries of a configuration text that have been read so far.
 
 ghost use Rattle.std.specs.Prelude.{◌≡◌, ◌+◌, ◌<◌, ◌≤◌, ◌++◌, ◌∷◌, [], List, length, OnOk, IfOk, IfErr, replicate};
 ghost use Rattle.std.specs.Prelude.{None, false};
@@ -26,16 +26,16 @@ pub struct Entries {
     pub(crate) states: Vec<u32>,
     /// Whether each element has a line of its own.
     pub(crate) own: Vec<bool>,
-    /// The wires.
+    /// The wires read so far.
     pub(crate) ends: Draft,
-    /// How many rows are left of the column that is being read.
+    /// The number of rows that are left of the column being read.
     pub(crate) rows: u32,
-    /// How many lines have been read, each of which names an element.
+    /// The number of lines read. Each of them accounts for one element.
     pub(crate) lines: u32,
 }
 
 impl Entries {
-    /// No entry, with room for so many elements.
+    /// No entries yet, with memory for this many elements.
     pub fn new(alloc: Global, count: u32) -> Result<Entries, NetlistRefusal>
         requires { count ≤ MOST_ELEMENTS }
         ensures none { IfOk result (λ e. (h : Header) → h.count ≡ count
@@ -58,7 +58,7 @@ impl Entries {
         })
     }
 
-    /// The line of a row, which says where its east and its west output lead.
+    /// Takes the line of a row, given where its east and its west output lead.
     pub fn take_row(
         &mut self,
         header: &Header,
@@ -92,7 +92,7 @@ impl Entries {
         Ok(())
     }
 
-    /// The line of an element.
+    /// Takes the line of an element.
     pub fn take_element(
         &mut self,
         header: &Header,
@@ -132,7 +132,7 @@ impl Entries {
         Ok(())
     }
 
-    /// The line of a column.
+    /// Takes the line of a column.
     pub fn take_column(
         &mut self,
         alloc: Global,
@@ -169,7 +169,8 @@ impl Entries {
         Ok(())
     }
 
-    // The states of a column: its rows' bars are vertical.
+    // Appends the states of a column: vertical bars for its rows, and this state for its bottom. None of its elements
+    // has a line of its own.
     fn push_states(&mut self, rows: u32, state: u32) -> Result<(), NetlistRefusal>
         ensures states { OnOk result (self.new.states.items
             ≡ self.old.states.items ++ (replicate rows 1 ++ state ∷ [])) }

@@ -1,4 +1,4 @@
-//! What is made of a text that has been read to its end.
+//! The value of a text that has been read to its end.
 
 ghost use Rattle.std.specs.Prelude.{◌≡◌, ◌≤◌, ℕ, List, length, IfOk, IfErr, MatchOption};
 ghost use Rattle.bn_circuits.specs.declared.net.TheConstants.{MOST_ELEMENTS};
@@ -19,8 +19,7 @@ use bn_netlist_laws::{Header, Version};
 use std::alloc::Global;
 
 impl Entries {
-    /// What is made of the entries behind this header, of which all lines have been read, where no column
-    /// is spelled out.
+    /// The value of the entries after this header, whose lines have all been read; refused if a column is spelled out.
     pub fn into_config<C: FromWires>(
         self,
         alloc: Global,
@@ -54,7 +53,7 @@ impl Entries {
     }
 }
 
-// The first element at which a column begins that a text of its version spells out.
+// The first element with a line of its own at which a column begins, if the version of the text forbids this.
 fn spelled_out_in<C: Spellable>(config: &C, own: &[bool]) -> Option<u32>
     requires states { length (C.spelling config.now).config.states ≡ (C.spelling config.now).elements }
     requires lines { length own.now ≡ (C.spelling config.now).elements }

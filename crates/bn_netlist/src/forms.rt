@@ -1,4 +1,4 @@
-//! The forms of lines: what each says, as numbers.
+//! The forms of lines: the contents of each, as numbers.
 
 ghost use Rattle.std.specs.Prelude.{◌≡◌, is_some, option_map};
 ghost use Rattle.bn_netlist_laws.specs.Sentences.{Title, title_text};
@@ -19,7 +19,7 @@ pub fn version_of(line: &[u8]) -> Option<Version>
     title_of(line, b"rotary 2", Version::Two)
 }
 
-// This version, where the line is its title.
+// This version, if the line is its title.
 fn title_of(line: &[u8], title: &[u8], version: Version) -> Option<Version>
     requires { title.now ≡ title_text version }
     ensures { option_map Title result ≡ version_said version line.now }
@@ -32,7 +32,8 @@ fn title_of(line: &[u8], title: &[u8], version: Version) -> Option<Version>
     Some(version)
 }
 
-// What the line of a column says: the number of its top row, of its rows, and its bottom's state.
+// The contents of the line of a column: the number of its top row, the number of its rows, and the state of its
+// bottom.
 #[tactic(auto, unfolding(bn_netlist_laws::specs::Saying::column_of))]
 pub fn column_of(line: &[u8]) -> Option<(u64, u64, u32)>
     ensures { result ≡ column_of line.now }
@@ -50,7 +51,7 @@ pub fn column_of(line: &[u8]) -> Option<(u64, u64, u32)>
     Some((element, rows, state))
 }
 
-// What the line of a row says: where its east and its west output lead.
+// The contents of the line of a row: where its east and its west output lead.
 #[tactic(auto, unfolding(bn_netlist_laws::specs::Saying::sides_of))]
 pub fn sides_of(line: &[u8]) -> Option<(Option<(u64, u32)>, Option<(u64, u32)>)>
     ensures { result ≡ sides_of line.now }
@@ -65,7 +66,7 @@ pub fn sides_of(line: &[u8]) -> Option<(Option<(u64, u32)>, Option<(u64, u32)>)>
     Some((east, west))
 }
 
-// What the line of an element says.
+// The contents of the line of an element.
 #[tactic(auto, unfolding(bn_netlist_laws::specs::Reading::element_of))]
 pub fn element_of(line: &[u8]) -> Option<ElementLine>
     ensures { result ≡ element_of line.now }
@@ -100,7 +101,7 @@ pub fn number_after(line: &[u8], word: &[u8]) -> Option<u64>
     Some(number)
 }
 
-// The numbers in a line that is this word and a line of an element.
+// The numbers in a line that is this word and a port of an element.
 #[tactic(auto, unfolding(bn_netlist_laws::specs::Reading::named_after))]
 pub fn named_after(line: &[u8], word: &[u8]) -> Option<(u64, u32)>
     ensures { result ≡ named_after word.now line.now }

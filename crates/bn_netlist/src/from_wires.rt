@@ -1,4 +1,4 @@
-//! What is made of a configuration text that has been read.
+//! Values built from a configuration text.
 
 ghost use Rattle.std.specs.Prelude.{◌≡◌, ◌≤◌, List, IfOk};
 ghost use Rattle.bn_circuits.specs.Circuits.{IsConfig};
@@ -14,9 +14,10 @@ use bn_netlist_laws::Header;
 use bn_packed::Draft;
 use std::alloc::Global;
 
-/// What is made of the wires and the bars of a configuration text. (This project's own profile.)
+/// A value built from the wires and the bars of a configuration text. (This project's own profile.)
 pub trait FromWires: Spellable + Drop {
-    /// The header's elements with the wires of this draft and bars in these states, and what else the header names.
+    /// The value with the header's number of elements, the wires of this draft, bars in these states, and the version,
+    /// start, end, place and steps of the header.
     fn from_draft(
         alloc: Global,
         header: &Header,

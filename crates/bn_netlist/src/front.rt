@@ -1,4 +1,4 @@
-//! A configuration text of which a front has come.
+//! A configuration text of which a prefix has been received.
 
 ghost use Rattle.std.specs.Prelude.{◌≡◌, ◌+◌, ℕ, List, ◌++◌, ◌∷◌, [], length, IfOk, IfErr, OnOk};
 ghost use Rattle.bn_base.specs.Line.{IsInLine};
@@ -16,20 +16,20 @@ use crate::stage::Stage;
 use bn_base::{Lines, NextLine};
 use std::alloc::Global;
 
-/// The most bytes of a line that are kept: no line of any form is longer.
+/// The greatest number of bytes of a line that are stored: no line of any form is longer.
 pub const LONGEST_LINE: usize = 128;
 
-/// A configuration text of which a front has come, no line of it with a fault so far.
+/// A configuration text of which a prefix has been received, with no faulty line so far.
 #[derive(Drop)]
 pub(crate) struct Front {
-    /// How far the lines have been read.
+    /// The state of reading after the complete lines.
     pub(crate) stage: Stage,
-    /// The bytes behind the last of these lines.
+    /// The bytes after the last complete line.
     pub(crate) line: Vec<u8>,
 }
 
 impl Front {
-    /// A text of which nothing has come.
+    /// A text of which no byte has been received.
     pub(crate) fn new(alloc: Global) -> Result<Front, NetlistRefusal>
         ensures none { IfOk result (λ f. HasCome [] f.line.items f.stage) }
         ensures refused { IfErr result (λ r. r ≡ NetlistRefusal.NoMemory) }
@@ -43,7 +43,7 @@ impl Front {
         })
     }
 
-    /// Takes the next piece of the text. A refusal refuses the text whatever comes behind the piece.
+    /// Takes the next piece of the text. A refusal holds for the text whatever follows the piece.
     pub(crate) fn push(self, alloc: Global, piece: &[u8]) -> Result<Front, NetlistRefusal>
         requires { IsFront self.line.items self.stage }
         ensures come { IfOk result (λ next. (text : List ℕ) → HasCome text self.line.items self.stage
@@ -82,8 +82,8 @@ impl Front {
     }
 }
 
-// Takes a line that has come in pieces, `end` the last of them, and keeps nothing of it. One that has come whole is
-// taken where it stands.
+// Takes a line that has arrived in pieces, of which `end` is the last, and stores nothing of it. A line that has
+// arrived whole is read in place.
 fn take_line(
     alloc: Global,
     stage: &mut Stage,
@@ -107,8 +107,8 @@ fn take_line(
     Ok(())
 }
 
-// Keeps more bytes of a line, which is the text's next one and has this number. A line that grows
-// too long has no form, however it goes on.
+// Stores more bytes of the next line, which has this number. A line that is too long is malformed, however it
+// continues.
 fn keep(line: &mut Vec<u8>, more: &[u8], number: u64) -> Result<(), NetlistRefusal>
     ensures kept { OnOk result (line.new.items ≡ line.old.items ++ more.now) }
     ensures refused { IfErr result (λ r. (lines : List Sentence) (stage : Stage) → AreTaken lines stage

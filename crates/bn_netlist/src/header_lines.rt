@@ -13,7 +13,7 @@ use crate::line_refusal::NetlistRefusal;
 use bn_circuits::{Line, MOST_ELEMENTS, Place};
 use bn_netlist_laws::{MOST_ELEMENTS_IN_ONE, Version};
 
-/// Line 1, which says that this is a configuration text, and of which version.
+/// Line 1: the title of a configuration text, with its version.
 pub fn take_title(line: &[u8]) -> Result<Version, NetlistRefusal>
     ensures read { IfOk result (λ v. TakesLine [] line.now (Title v)) }
     ensures refused { IfErr result (RefusesLine [] line.now) }
@@ -24,7 +24,7 @@ pub fn take_title(line: &[u8]) -> Result<Version, NetlistRefusal>
     Ok(version)
 }
 
-/// Line 2, which says how many elements there are.
+/// Line 2: the number of elements.
 pub fn take_count(line: &[u8], version: Version) -> Result<u32, NetlistRefusal>
     ensures read { IfOk result (λ c. TakesLine (Title version ∷ []) line.now (Count c)) }
     ensures refused { IfErr result (RefusesLine (Title version ∷ []) line.now) }
@@ -41,7 +41,7 @@ pub fn take_count(line: &[u8], version: Version) -> Result<u32, NetlistRefusal>
     Ok(count as u32)
 }
 
-// The most elements of a text of this version.
+// The greatest number of elements of a text of this version.
 fn most_elements(version: Version) -> u64
     ensures { result ≡ most_elements version }
 {
@@ -51,7 +51,7 @@ fn most_elements(version: Version) -> u64
     }
 }
 
-/// Line 3, which says the start.
+/// Line 3: the start.
 pub fn take_start(line: &[u8], version: Version, count: u32) -> Result<Line, NetlistRefusal>
     ensures read { IfOk result (λ s. TakesLine (Title version ∷ Count count ∷ []) line.now (Start s)) }
     ensures refused { IfErr result (RefusesLine (Title version ∷ Count count ∷ []) line.now) }
@@ -65,7 +65,7 @@ pub fn take_start(line: &[u8], version: Version, count: u32) -> Result<Line, Net
     Ok(start)
 }
 
-/// Line 5, which says the steps made.
+/// Line 5: the count of element steps.
 pub fn take_steps(
     line: &[u8],
     version: Version,
@@ -83,7 +83,7 @@ pub fn take_steps(
     Ok(steps)
 }
 
-/// Line 4, which says the end.
+/// Line 4: the end.
 pub fn take_end(
     line: &[u8],
     version: Version,
@@ -102,7 +102,7 @@ pub fn take_end(
     Ok(end)
 }
 
-/// Line 6, which says where the signal is.
+/// Line 6: where the signal is.
 pub fn take_place(
     line: &[u8],
     version: Version,
@@ -127,7 +127,7 @@ pub fn take_place(
     }
 }
 
-// The same where the signal has left.
+// The same for a signal that has left.
 fn take_left(
     line: &[u8],
     version: Version,

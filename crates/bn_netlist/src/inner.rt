@@ -28,7 +28,7 @@ pub(crate) fn inner_wires(alloc: Global, first: u32, rows: u32) -> Result<Vec<Wi
     Ok(wires)
 }
 
-/// Whether one of the wires leaves this output line.
+/// Whether one of the wires leaves this output port.
 pub(crate) fn leave(wires: &[Wire], line: Line) -> bool
     ensures { result ≡ some_wire (λ w. same_line line w.from) wires.now }
 {
@@ -40,7 +40,7 @@ pub(crate) fn leave(wires: &[Wire], line: Line) -> bool
     false
 }
 
-/// Whether one of the wires ends at this input line.
+/// Whether one of the wires ends at this input port.
 pub(crate) fn end_at(wires: &[Wire], line: Line) -> bool
     ensures { result ≡ some_wire (λ w. same_line line w.to) wires.now }
 {
@@ -52,7 +52,7 @@ pub(crate) fn end_at(wires: &[Wire], line: Line) -> bool
     false
 }
 
-/// Whether one of the wires leaves the output line by which the signal has left.
+/// Whether one of the wires leaves the output port by which the signal has left.
 pub(crate) fn leave_behind(wires: &[Wire], place: Place) -> bool
     ensures { result ≡ some_wire (λ w. is_left_by place w.from) wires.now }
 {

@@ -1,5 +1,5 @@
-//! The texts of configurations of circuits of rotary elements, in two versions: read with the exact
-//! place of the first fault, and written, from bytes and to bytes as well as in pieces.
+//! Configuration texts of circuits of rotary elements, in two versions: reading, with the exact line of the first
+//! fault, and writing, from bytes, to bytes and in pieces.
 #![tactic(auto)]
 
 mod bytes;

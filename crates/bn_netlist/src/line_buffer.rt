@@ -1,15 +1,15 @@
-//! A line of a text, put together before it is handed over.
+//! A line of a text, assembled before it is appended to the text.
 
 ghost use Rattle.std.specs.Prelude.{◌≡◌, ◌+◌, ◌<◌, ◌≤◌, ◌++◌, ◌∷◌, [], length, decimal};
 
 use itoa::write_digits;
 use std::marker::Model;
 
-/// The most bytes of a line that is put together: no line of any form is longer.
+/// The greatest number of bytes of a line that is assembled: no line of any form is longer.
 pub(crate) const ROOM: usize = 128;
 
-/// A line that is put together in one place from its end to its beginning, so that it is handed over once. Callers see
-/// the bytes that stand so far.
+/// A line that is assembled in one buffer from its end to its beginning, so that it is appended at once. Contracts see
+/// the bytes written so far.
 #[derive(Drop)]
 pub(crate) struct LineBuffer {
     bytes: [u8; ROOM],
@@ -27,7 +27,7 @@ impl Model for LineBuffer {
 }
 
 impl LineBuffer {
-    /// The end of a line: its byte 10 alone.
+    /// The end of a line: only its byte 10.
     pub(crate) fn new() -> LineBuffer
         ensures { result ≡ 10 ∷ [] }
     {
@@ -39,7 +39,7 @@ impl LineBuffer {
         line
     }
 
-    /// Puts a byte before what stands.
+    /// Puts a byte before the bytes written so far.
     #[inline]
     pub(crate) fn put(&mut self, byte: u8)
         requires { length self.old < ROOM }
@@ -49,7 +49,7 @@ impl LineBuffer {
         self.bytes[self.begin] = byte;
     }
 
-    /// Puts a number before what stands.
+    /// Puts a number before the bytes written so far.
     #[inline]
     pub(crate) fn put_number(&mut self, number: u64)
         requires { length self.old + 20 ≤ ROOM }
@@ -59,7 +59,7 @@ impl LineBuffer {
         self.begin = write_digits(number, &mut self.bytes, self.begin);
     }
 
-    /// The bytes that stand.
+    /// The bytes written so far.
     #[inline]
     pub(crate) fn as_slice(&self) -> &[u8]
         ensures { result.now ≡ self.now }

@@ -1,21 +1,20 @@
-//! What reading a text refuses.
+//! Refusals of reading a text.
 
-/// Why a text is no configuration text: its first line with a fault, counted from 1, and that
-/// line's first fault.
+/// Why bytes are not a configuration text: the first faulty line, counted from 1, and the first fault of that line.
 #[derive(Clone, Copy, PartialEq, Eq, Debug)]
 pub enum NetlistRefusal {
-    /// The line hasn't its form: also where it is missing, where it lacks its byte 10, where its
-    /// number is none, and where bytes stand after the last line.
+    /// The line is malformed. This includes a missing line, a line without its byte 10, a number that cannot be read,
+    /// and bytes after the last line.
     Syntax {
         /// The line's number, from 1.
         line: u64,
     },
-    /// The line hasn't the number that comes next.
+    /// The number in the line is not the next one.
     Order {
         /// The line's number, from 1.
         line: u64,
     },
-    /// The line names an element that isn't there.
+    /// The line names an element that does not exist.
     Target {
         /// The line's number, from 1.
         line: u64,
@@ -40,7 +39,7 @@ pub enum NetlistRefusal {
         /// The line's number, from 1.
         line: u64,
     },
-    /// The line counts more elements than its version's limit.
+    /// The number of elements in the line is above the limit of the version.
     TooMany {
         /// The line's number, from 1.
         line: u64,
@@ -50,6 +49,6 @@ pub enum NetlistRefusal {
         /// The line's number, from 1.
         line: u64,
     },
-    /// There was no memory.
+    /// Memory ran out.
     NoMemory,
 }

@@ -1,4 +1,4 @@
-//! What a configuration text spells.
+//! The meaning of a configuration text: a net in a configuration.
 
 use crate::from_wires::FromWires;
 use crate::spellable::Spellable;
@@ -9,8 +9,8 @@ use bn_netlist_laws::{Header, Version};
 use bn_packed::{Draft, Packed};
 use std::alloc::Global;
 
-/// A net of rotary elements in a configuration, with the two lines that its text names, and the
-/// version of that text. Elements and lines are counted from 0. (This project's own profile.)
+/// A net of rotary elements in a configuration, with the two ports that its text names, and the version of that text.
+/// Elements and ports are counted from 0. (This project's own profile.)
 #[derive(Debug, Drop)]
 pub struct NetConfig {
     /// The version of its text.
@@ -19,9 +19,9 @@ pub struct NetConfig {
     pub net: Net<Rotary>,
     /// Its configuration.
     pub config: Config,
-    /// The start, an input line into which no wire leads.
+    /// The start, an input port to which no wire leads.
     pub start: Line,
-    /// The end, an output line from which no wire leads.
+    /// The end, an output port from which no wire leads.
     pub end: Line,
 }
 

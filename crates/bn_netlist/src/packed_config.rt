@@ -1,4 +1,4 @@
-//! A packed net in a configuration, with what its text names.
+//! A packed net in a configuration, with the version and the ports that its text names.
 
 use crate::from_wires::FromWires;
 use crate::spellable::Spellable;
@@ -8,17 +8,17 @@ use bn_netlist_laws::{Header, Version};
 use bn_packed::{Draft, Packed};
 use std::alloc::Global;
 
-/// A packed net of rotary elements in a configuration, with the two lines that its text names, and the version of that
-/// text. Elements and lines are counted from 0. (This project's own profile.)
+/// A packed net of rotary elements in a configuration, with the two ports that its text names, and the version of that
+/// text. Elements and ports are counted from 0. (This project's own profile.)
 #[derive(Debug, Drop)]
 pub struct PackedConfig {
     /// The version of its text.
     pub version: Version,
     /// The net, in its configuration.
     pub packed: Packed,
-    /// The start, an input line into which no wire leads.
+    /// The start, an input port to which no wire leads.
     pub start: Line,
-    /// The end, an output line from which no wire leads.
+    /// The end, an output port from which no wire leads.
     pub end: Line,
 }
 

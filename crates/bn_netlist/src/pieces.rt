@@ -1,4 +1,4 @@
-//! A configuration text that comes in pieces, each faulty one to its end.
+//! A configuration text received in pieces. A faulty text is received to its end as well.
 
 ghost use Rattle.std.specs.Prelude.{◌≡◌, ◌≢◌, ℕ, List, ◌++◌, [], IfOk, IfErr};
 ghost use Rattle.bn_netlist_laws.specs.Spelling.{Spelled};
@@ -11,17 +11,17 @@ use crate::line_refusal::NetlistRefusal;
 use bn_lists::NoMemory;
 use std::alloc::Global;
 
-/// A configuration text that comes in pieces. Of a faulty text it keeps the fault alone.
+/// A configuration text received in pieces. Of a faulty text only the fault is stored.
 #[derive(Drop)]
 pub(crate) enum Pieces {
     /// No fault so far.
     Open(Front),
-    /// The text has this fault, whatever comes.
+    /// The text has this fault, whatever follows.
     Refused(NetlistRefusal),
 }
 
 impl Pieces {
-    /// A text of which nothing has come.
+    /// A text of which no byte has been received.
     pub(crate) fn new(alloc: Global) -> Result<Pieces, NoMemory>
         ensures { IfOk result (λ p. HaveCome p []) }
     {

@@ -1,4 +1,4 @@
-//! Reading a configuration text that stands in memory.
+//! Reading a configuration text in memory.
 
 ghost use Rattle.std.specs.Prelude.{◌≢◌, IfOk, IfErr};
 ghost use Rattle.bn_netlist_laws.specs.Spelling.{Spelling};
@@ -13,10 +13,9 @@ use crate::refusal::FromRefusal;
 use bn_io::SliceInput;
 use std::alloc::Global;
 
-/// Reads a configuration text of either version. `Ok` comes only for a text that spells the answer
-/// in its version. A refusal names the first line with a fault, counted from 1, and the first fault
-/// of that line; a refused text is the text of no configuration, unless there was no memory. (This
-/// project's own profile.)
+/// Reads a configuration text of either version. Returns `Ok` only if the text spells the result in its version. A
+/// refusal names the first faulty line, counted from 1, and the first fault of that line; a refused text spells no
+/// configuration, unless memory ran out. (This project's own profile.)
 pub fn read_config(alloc: Global, bytes: &[u8]) -> Result<NetConfig, NetlistRefusal>
     ensures spelled { IfOk result (λ c. Spelled c.version (spelling_of c) bytes.now) }
     ensures refused { IfErr result (IsTextRefusal bytes.now) }

@@ -17,13 +17,13 @@ use crate::refusal::FromRefusal;
 use bn_io::{CHUNK, Input, Source, SourceFailed, piece_size};
 use std::alloc::Global;
 
-/// Reads a configuration text of either version from an input, to its end: that of a net with its configuration, or
-/// that of a packed net, of which no net of elements is made beside it. Of a source it keeps only a short part of the
-/// text; an input that lends its bytes is read where it stands. The refusals are tested in this order: `ReadFault`,
-/// only where the input's count of faults rose in this call or stands at its last value, and otherwise the count is
-/// what it was; `TooLong`, exactly where the input gave more than `limit` bytes; `Text`, exactly where the bytes taken
-/// have no reading: their first fault. After a faulty line it goes on taking bytes to the end of input. (This project's
-/// own profile.)
+/// Reads a configuration text of either version from an input, to its end, as a net with its configuration or as a
+/// packed net; for a packed net, no net of elements is built beside it. Of a source only a short part of the text is
+/// in memory; an input that lends its bytes is read in place. The refusals are checked in this order. `ReadFault` is
+/// returned only if the input's count of faults rose in this call or is at its last value; otherwise the count is
+/// unchanged. `TooLong` is returned exactly if the input gave more than `limit` bytes. `Text` is returned exactly if
+/// the bytes taken have a fault, and it names their first fault. After a faulty line the call goes on to take bytes to
+/// the end of input. (This project's own profile.)
 pub fn read_text<C: FromWires, I: Input>(
     alloc: Global,
     input: &mut I,
@@ -68,7 +68,7 @@ pub fn read_config_from<S: Source>(
     read_text(alloc, source, limit)
 }
 
-// The configuration of a text that has come whole.
+// The configuration of a text that has been received whole.
 fn config_of<C: FromWires>(alloc: Global, pieces: Pieces) -> Result<C, FromRefusal>
     requires { ComeSome pieces }
     ensures spelled { IfOk result (λ c. (text : List ℕ) → HaveCome pieces text
@@ -84,7 +84,7 @@ fn config_of<C: FromWires>(alloc: Global, pieces: Pieces) -> Result<C, FromRefus
     }
 }
 
-// Takes all pieces of the text to the end of input: the one piece that is lent, or piece after piece.
+// Takes all pieces of the text to the end of input: either one piece that is lent, or piece after piece.
 fn read_input<I: Input>(alloc: Global, input: &mut I, limit: u64) -> Result<Pieces, FromRefusal>
     ensures taken { (piece : List ℕ) × ReadsWithin (I.left input.old) (I.left input.new) limit
         (IsErrOf result FromRefusal.TooLong) piece
@@ -119,7 +119,7 @@ fn read_input<I: Input>(alloc: Global, input: &mut I, limit: u64) -> Result<Piec
     }
 }
 
-// Takes all pieces of the text, by way of `buffer`, to the end of input.
+// Takes all pieces of the text through `buffer`, to the end of input.
 fn read_pieces<I: Input>(
     alloc: Global,
     start: Pieces,
@@ -156,8 +156,7 @@ fn read_pieces<I: Input>(
     }
 }
 
-// Takes the next bytes into the front of `buffer`, and answers how many: 0 only at the end of
-// input.
+// Takes the next bytes into the front of `buffer`, and returns how many: 0 only at the end of input.
 fn read_piece<I: Input>(input: &mut I, buffer: &mut [u8], room: u64) -> Result<usize, FromRefusal>
     requires { 0 < length buffer.old }
     ensures taken { (piece : List ℕ) × ReadsWithin (I.left input.old) (I.left input.new) room

@@ -1,4 +1,4 @@
-//! What reading from a source and writing to a sink refuse.
+//! Refusals of reading from a source and of writing to a sink.
 
 use crate::line_refusal::NetlistRefusal;
 
@@ -9,9 +9,9 @@ pub enum FromRefusal {
     ReadFault,
     /// The source gave more bytes than the limit.
     TooLong,
-    /// The bytes up to the end of input are no configuration text.
+    /// The bytes up to the end of input are not a configuration text.
     Text(NetlistRefusal),
-    /// There was no memory.
+    /// Memory ran out.
     NoMemory,
 }
 
@@ -20,6 +20,6 @@ pub enum FromRefusal {
 pub enum ToRefusal {
     /// The sink failed.
     WriteFault,
-    /// There was no memory.
+    /// Memory ran out.
     NoMemory,
 }

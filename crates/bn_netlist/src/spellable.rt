@@ -1,4 +1,4 @@
-//! What a configuration text is written of.
+//! Sources of configuration texts.
 
 ghost use Rattle.std.specs.Prelude.{◌≡◌, ◌<◌, length, Some, IfSome, slice_get};
 ghost use Rattle.bn_circuits.specs.Circuits.{target};
@@ -6,9 +6,9 @@ ghost use Rattle.bn_circuits.specs.Circuits.{target};
 use bn_circuits::{Line, Place};
 use bn_netlist_laws::Version;
 
-/// What a configuration text is written of: a net of rotary elements in a configuration, with the two lines that
-/// the text names and its version. Clauses see the version, and what the text spells. Elements and lines are counted
-/// from 0. No call takes memory. (This project's own profile.)
+/// The source of a configuration text: a net of rotary elements in a configuration, with the two ports that the text
+/// names and its version. Contracts see the version, and the meaning of the text. Elements and ports are counted from
+/// 0. No call takes memory. (This project's own profile.)
 pub trait Spellable {
     ghost use Rattle.bn_netlist_laws.specs.Spelling.{Spelling};
     ghost use Rattle.bn_netlist_laws.specs.declared.version.Version.{Version};
@@ -16,7 +16,7 @@ pub trait Spellable {
     /// The version of its text.
     ghost version: { Self → Version };
 
-    /// What its text spells.
+    /// The meaning of its text: the configuration that the text spells.
     ghost spelling: { Self → Spelling };
 
     /// The version of its text.
@@ -27,11 +27,11 @@ pub trait Spellable {
     fn len(&self) -> u32
         ensures { result ≡ (spelling self.now).elements };
 
-    /// The start, an input line.
+    /// The start, an input port.
     fn start(&self) -> Line
         ensures { result ≡ (spelling self.now).start };
 
-    /// The end, an output line.
+    /// The end, an output port.
     fn end(&self) -> Line
         ensures { result ≡ (spelling self.now).end };
 
@@ -48,7 +48,7 @@ pub trait Spellable {
         requires { element < length (spelling self.now).config.states }
         ensures { slice_get (spelling self.now).config.states element ≡ Some result };
 
-    /// The input line to which the wire of this output line leads, `None` exactly where no wire leaves it.
+    /// The input port to which the wire of this output port leads, `None` exactly if no wire leaves it.
     fn target(&self, from: Line) -> Option<Line>
         requires element { from.element < (spelling self.now).elements }
         requires line { from.line < 4 }

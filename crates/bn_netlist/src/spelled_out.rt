@@ -1,4 +1,4 @@
-//! Columns that a text spells out.
+//! Columns that a text spells out, element by element.
 
 ghost use Rattle.std.specs.Prelude.{◌≡◌, ℕ, length, MatchOption};
 ghost use Rattle.bn_lists.specs.Lists.{IsLeast};
@@ -8,7 +8,7 @@ ghost use Rattle.bn_netlist.specs.Drafting.{IsOwnColumn};
 use crate::column_lines::column_rows;
 use crate::spellable::Spellable;
 
-/// The first element at which a column begins, of those that have a line of their own.
+/// The first element with a line of its own at which a column begins; `None` if there is none.
 pub fn first_spelled_out<C: Spellable>(config: &C, own: &[bool]) -> Option<u32>
     requires states { length (C.spelling config.now).config.states ≡ (C.spelling config.now).elements }
     requires lines { length own.now ≡ (C.spelling config.now).elements }

@@ -17,8 +17,7 @@ use bn_netlist_laws::{Header, Version};
 use std::alloc::Global;
 use std::mem;
 
-/// How far a configuration text has been read: which line comes next, and what the lines before it
-/// said.
+/// The state of reading a configuration text: which line comes next, and the contents of the lines before it.
 #[derive(Drop)]
 pub enum Stage {
     /// The title comes next.
@@ -44,7 +43,7 @@ pub enum Stage {
         /// The start.
         start: Line,
     },
-    /// The steps made come next.
+    /// The count of element steps comes next.
     Steps {
         /// The version.
         version: Version,
@@ -158,7 +157,7 @@ impl Stage {
         }
     }
 
-    /// Takes the next line as `take` does, in its place. What a stage is that has refused a line isn't told.
+    /// Takes the next line as `take` does, in place. After a refused line the stage is unspecified.
     pub(crate) fn advance(&mut self, alloc: Global, line: &[u8]) -> Result<(), NetlistRefusal>
         requires { HasTaken self.old }
         ensures taken { OnOk result ((lines : List Sentence) → AreTaken lines self.old
@@ -172,7 +171,7 @@ impl Stage {
         }
     }
 
-    // The same by `take`.
+    // The same for a line of the header, by `take`.
     fn advance_header(&mut self, alloc: Global, line: &[u8]) -> Result<(), NetlistRefusal>
         requires { HasTaken self.old }
         ensures taken { OnOk result ((lines : List Sentence) → AreTaken lines self.old
@@ -216,7 +215,7 @@ impl Stage {
     }
 }
 
-// Takes a line behind the header.
+// Takes a line after the header.
 fn take_entry(
     alloc: Global,
     header: &Header,
@@ -237,7 +236,7 @@ fn take_entry(
     entries.take_line(alloc, header, line)
 }
 
-// The configuration of a text that ends behind these entries.
+// The configuration of a text that ends after these entries.
 fn finish_entries<C: FromWires>(
     alloc: Global,
     header: &Header,

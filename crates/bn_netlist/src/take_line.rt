@@ -1,4 +1,4 @@
-//! The lines of entries, from their bytes.
+//! Taking the lines of entries from their bytes.
 
 ghost use Rattle.std.specs.Prelude.{◌≡◌, ◌+◌, ◌<◌, ◌≤◌, ◌++◌, ◌∷◌, [], List, OnOk, IfErr, None};
 ghost use Rattle.bn_circuits.specs.declared.net.TheConstants.{MOST_ELEMENTS};
@@ -99,7 +99,7 @@ impl Entries {
         }
     }
 
-    // Takes the line of a column, where it isn't one of an element.
+    // Takes the line of a column, for a line that is not that of an element.
     fn take_column_line(
         &mut self,
         alloc: Global,

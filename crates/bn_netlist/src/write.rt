@@ -23,7 +23,7 @@ use bn_lists::NoMemory;
 use bn_netlist_laws::Version;
 use std::alloc::Global;
 
-/// The one text of a configuration that may be spelled in its version. (This project's own profile.)
+/// The one text of a configuration that its version admits. (This project's own profile.)
 pub fn write_config<C: Spellable>(alloc: Global, config: &C) -> Result<Vec<u8>, NoMemory>
     requires { Admits (C.version config.now) (C.spelling config.now) }
     ensures { IfOk result (λ text. IsTextOf (C.version config.now) (C.spelling config.now) text.items) }
@@ -35,7 +35,7 @@ pub fn write_config<C: Spellable>(alloc: Global, config: &C) -> Result<Vec<u8>, 
     }
 }
 
-// The six lines before those of the elements.
+// Appends the six lines of the header.
 pub(crate) fn push_header<C: Spellable>(text: &mut Vec<u8>, config: &C) -> Result<(), NoMemory>
     requires { Admits (C.version config.now) (C.spelling config.now) }
     ensures { OnOk result (text.new.items ≡ text.old.items
@@ -49,7 +49,7 @@ pub(crate) fn push_header<C: Spellable>(text: &mut Vec<u8>, config: &C) -> Resul
     push_place(text, config.place())
 }
 
-// The line at this place, and the place behind it.
+// Appends the line at this place, and returns the place after it.
 pub(crate) fn push_line<C: Spellable>(
     text: &mut Vec<u8>,
     config: &C,
@@ -85,7 +85,7 @@ pub(crate) fn push_line<C: Spellable>(
     }
 }
 
-// The place behind a row: the next row, or the element behind the bottom.
+// The place after a row: the next row, or the element after the bottom.
 fn behind_row(place: Place) -> Place
     requires some { 0 < place.rows }
     requires within { place.element + 2 < 2 ^ 32 }
@@ -104,7 +104,7 @@ fn behind_row(place: Place) -> Place
     }
 }
 
-// The number of rows of the column that is written at this element, if one is.
+// The number of rows of the column that is written as one entry at this element, if one is.
 fn rows_written<C: Spellable>(config: &C, element: u32) -> Option<u32>
     requires { Admits (C.version config.now) (C.spelling config.now) }
     ensures { MatchOption result
@@ -117,7 +117,7 @@ fn rows_written<C: Spellable>(config: &C, element: u32) -> Option<u32>
     }
 }
 
-// The line of one element.
+// Appends the line of one element.
 fn push_element<C: Spellable>(
     text: &mut Vec<u8>,
     config: &C,
@@ -142,7 +142,7 @@ fn push_element<C: Spellable>(
     push(text, line.as_slice())
 }
 
-// The line of a column.
+// Appends the line of a column.
 fn push_column(text: &mut Vec<u8>, first: u32, rows: u32, state: u32) -> Result<(), NoMemory>
     requires state { state < 2 }
     ensures { OnOk result (text.new.items ≡ text.old.items ++ (sentence_text (Column first rows state) ++ 10 ∷ [])) }
@@ -158,7 +158,7 @@ fn push_column(text: &mut Vec<u8>, first: u32, rows: u32, state: u32) -> Result<
     push(text, line.as_slice())
 }
 
-// The line of a row of a column.
+// Appends the line of a row of a column.
 fn push_row<C: Spellable>(text: &mut Vec<u8>, config: &C, element: u32) -> Result<(), NoMemory>
     requires { element < (C.spelling config.now).elements }
     ensures { OnOk result (text.new.items ≡ text.old.items
@@ -172,7 +172,7 @@ fn push_row<C: Spellable>(text: &mut Vec<u8>, config: &C, element: u32) -> Resul
     push(text, line.as_slice())
 }
 
-// A space, and where one output leads, before what stands.
+// Puts a space, and where one output leads, before the bytes written so far.
 fn put_target<C: Spellable>(line: &mut LineBuffer, config: &C, element: u32, output: u32)
     requires there { element < (C.spelling config.now).elements }
     requires output { output < 4 }
@@ -196,7 +196,7 @@ fn put_target<C: Spellable>(line: &mut LineBuffer, config: &C, element: u32, out
     line.put(b' ');
 }
 
-// The letter of a line of an element.
+// The letter of a port of an element.
 fn side_letter(line: u32) -> u8
     requires { line < 4 }
     ensures { result ≡ slice_index side_letters line }
@@ -217,7 +217,7 @@ fn bar_letter(state: u32) -> u8
     if state == HORIZONTAL { b'H' } else { b'V' }
 }
 
-// The first line.
+// Appends the first line.
 fn push_title(text: &mut Vec<u8>, version: Version) -> Result<(), NoMemory>
     ensures { OnOk result (text.new.items ≡ text.old.items ++ (title_text version ++ 10 ∷ [])) }
 {
@@ -227,7 +227,7 @@ fn push_title(text: &mut Vec<u8>, version: Version) -> Result<(), NoMemory>
     }
 }
 
-// Where the signal is.
+// Appends where the signal is.
 fn push_place(text: &mut Vec<u8>, place: bn_circuits::Place) -> Result<(), NoMemory>
     requires { (line_of_place place).line < 4 }
     ensures { OnOk result (text.new.items ≡ text.old.items ++ (place_text place ++ 10 ∷ [])) }
@@ -246,7 +246,7 @@ fn push_place(text: &mut Vec<u8>, place: bn_circuits::Place) -> Result<(), NoMem
     }
 }
 
-// A line that is a word and a number.
+// Appends a line that is a word and a number.
 fn push_counted(text: &mut Vec<u8>, word: &[u8], number: u64) -> Result<(), NoMemory>
     ensures { OnOk result (text.new.items ≡ text.old.items
         ++ ((word.now ++ decimal number) ++ 10 ∷ [])) }
@@ -256,7 +256,7 @@ fn push_counted(text: &mut Vec<u8>, word: &[u8], number: u64) -> Result<(), NoMe
     push(text, b"\n")
 }
 
-// A line that is a word and a line of an element.
+// Appends a line that is a word and a port of an element.
 fn push_named(text: &mut Vec<u8>, word: &[u8], line: Line) -> Result<(), NoMemory>
     requires { line.line < 4 }
     ensures { OnOk result (text.new.items ≡ text.old.items
@@ -267,7 +267,7 @@ fn push_named(text: &mut Vec<u8>, word: &[u8], line: Line) -> Result<(), NoMemor
     push(text, b"\n")
 }
 
-// A line of an element.
+// Appends a port of an element.
 fn push_line_of(text: &mut Vec<u8>, line: Line) -> Result<(), NoMemory>
     requires { line.line < 4 }
     ensures { OnOk result (text.new.items ≡ text.old.items ++ line_text line) }
@@ -276,7 +276,7 @@ fn push_line_of(text: &mut Vec<u8>, line: Line) -> Result<(), NoMemory>
     push(text, &[b'.', side_letter(line.line)])
 }
 
-// A number.
+// Appends a number.
 fn push_number(text: &mut Vec<u8>, number: u64) -> Result<(), NoMemory>
     ensures { OnOk result (text.new.items ≡ text.old.items ++ decimal number) }
 {
@@ -284,7 +284,7 @@ fn push_number(text: &mut Vec<u8>, number: u64) -> Result<(), NoMemory>
     Ok(())
 }
 
-// Some bytes.
+// Appends some bytes.
 fn push(text: &mut Vec<u8>, bytes: &[u8]) -> Result<(), NoMemory>
     ensures { OnOk result (text.new.items ≡ text.old.items ++ bytes.now) }
 {

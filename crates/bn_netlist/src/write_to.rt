@@ -13,11 +13,10 @@ use crate::write::{push_header, push_line};
 use bn_io::{Sink, WriteFault, give_pieces, write_all};
 use std::alloc::Global;
 
-/// Gives the one text of a configuration that may be spelled in its version to a sink, in pieces of
-/// 4,096 bytes, the last one shorter, and keeps no more of the text than a piece and a line.
-/// `WriteFault` comes only where the sink's count of faults rose in this call or stands at its last
-/// value; otherwise the count is what it was. Then, and where there was no memory, the sink has taken
-/// a front of the text. (This project's own profile.)
+/// Writes the one text of a configuration that its version admits to a sink, in pieces of 4,096 bytes, the last one
+/// shorter. At most a piece and a line of the text are in memory. `WriteFault` is returned only if the sink's count of
+/// faults rose in this call or is at its last value; otherwise the count is unchanged. After `WriteFault`, and if
+/// memory ran out, the sink has received a prefix of the text. (This project's own profile.)
 pub fn write_config_to<K: Sink, C: Spellable>(
     alloc: Global,
     sink: &mut K,
@@ -40,7 +39,7 @@ pub fn write_config_to<K: Sink, C: Spellable>(
     give_entries(sink, &mut text, config)
 }
 
-// Gives the header that stands in `text`, and then the lines of all elements.
+// Writes the header in `text`, and then the lines of all elements.
 fn give_entries<K: Sink, C: Spellable>(
     sink: &mut K,
     text: &mut Vec<u8>,

@@ -1,5 +1,5 @@
--- Reading a line of a configuration text: what stands at the front of some bytes, with the bytes behind it; nothing
--- where the bytes have another form.
+-- Parsers for the parts of a line of a configuration text. A parser returns the value at the front of some bytes and
+-- the bytes after it, or `None` if the bytes have another form.
 use Rattle.std.specs.Prelude.{◌≡◌, ℕ, ◌==◌, List, [], ◌∷◌, length, drop, Option, Some, None, option_and_then}
 use Rattle.std.specs.Prelude.{option_map, if◌then◌else◌, Result, Ok, Err, codes}
 use Rattle.bn_base.specs.Number.{read_number}
@@ -8,17 +8,17 @@ use Rattle.bn_element.specs.Rotary.{horizontal, vertical, north, east, south, we
 use Rattle.bn_circuits.specs.declared.line.Line.{Line}
 use Rattle.bn_netlist_laws.specs.declared.element_line.ElementLine.{ElementLine}
 
--- one step after another, where each may find another form
+-- one parser after another; `None` if one of them fails
 infixl 10 ◌>>=◌
 abbrev pub ◌>>=◌ : {A B : Type 0} → Option A → (A → Option B) → Option B
 o >>= f = option_and_then f o
 
--- what a reader answers, with the bytes that it leaves
+-- the parser returns this value and leaves these bytes
 abbrev pub Takes : {X : Type 0} → Option X → List ℕ → Option (X × List ℕ) → Type 0
 Takes None left taken = taken ≡ None
 Takes (Some x) left taken = taken ≡ Some (x, left)
 
--- the bytes behind a word
+-- the bytes after a word
 unfoldable pub word_taken : List ℕ → List ℕ → Option (List ℕ)
 word_taken [] bytes = Some bytes
 word_taken (w ∷ word) [] = None
@@ -32,7 +32,7 @@ number_by bytes (Err fault) = None
 unfoldable pub number_taken : List ℕ → Option (ℕ × List ℕ)
 number_taken bytes = number_by bytes (read_number bytes 0)
 
--- a letter that stands for a number
+-- a letter that denotes a number
 abbrev pub letter_taken : (ℕ → Option ℕ) → List ℕ → Option (ℕ × List ℕ)
 letter_taken number [] = None
 letter_taken number (b ∷ bytes) = option_map (λ n. (n, bytes)) (number b)
@@ -53,7 +53,7 @@ side_taken bytes = letter_taken side_of bytes
 unfoldable pub bar_taken : List ℕ → Option (ℕ × List ℕ)
 bar_taken bytes = letter_taken bar_of bytes
 
--- a line of an element, as the element's number and the line's
+-- a port of an element, as the element's number and the port's number
 unfoldable pub line_taken : List ℕ → Option ((ℕ × ℕ) × List ℕ)
 line_taken bytes = do
   element ← number_taken bytes
@@ -61,7 +61,7 @@ line_taken bytes = do
   side ← side_taken behind
   Some ((element.0, side.0), side.1)
 
--- where an output leads, behind a space
+-- where an output leads, after a space
 abbrev pub target_by : Option (List ℕ) → Option ((ℕ × ℕ) × List ℕ) → Option (Option (ℕ × ℕ) × List ℕ)
 target_by (Some behind) line = Some (None, behind)
 target_by None line = option_map (λ l. (Some l.0, l.1)) line
@@ -80,11 +80,11 @@ targets_taken bytes = do
   w ← target_taken s.1
   Some (n.0 ∷ e.0 ∷ s.0 ∷ w.0 ∷ [], w.1)
 
--- nothing may stand behind it
+-- the value, if no byte is left after it
 abbrev pub ended : {X : Type 0} → X × List ℕ → Option X
 ended taken = if length taken.1 == 0 then Some taken.0 else None
 
--- the line is a word and a number, or a word and a line of an element
+-- a line that is a word and a number; below, a word and a port of an element
 unfoldable pub number_after : List ℕ → List ℕ → Option ℕ
 number_after word line = do
   behind ← word_taken word line
@@ -97,7 +97,7 @@ named_after word line = do
   taken ← line_taken behind
   ended taken
 
--- the line is the line of an element
+-- a line that is that of an element
 unfoldable pub element_of : List ℕ → Option ElementLine
 element_of line = do
   first ← word_taken (codes "e ") line
@@ -107,7 +107,7 @@ element_of line = do
   targets ← targets_taken bar.1
   ended (record { number = number.0; state = bar.0; targets = targets.0 }, targets.1)
 
--- a line of an element from its two numbers
+-- a port of an element from its two numbers
 abbrev pub named : ℕ × ℕ → Line
 named l = record { element = l.0; line = l.1 }
 

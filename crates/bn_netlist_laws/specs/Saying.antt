@@ -1,4 +1,4 @@
--- Reading a line of a configuration text: what it says as a line of its kind; nothing where it has another form.
+-- Parsing a line of a configuration text: its contents as a line of its kind; `None` if it has another form.
 use Rattle.std.specs.Prelude.{ℕ, ◌==◌, List, Option, Some, None, option_map, if◌then◌else◌, codes}
 use Rattle.bn_circuits.specs.declared.place.Place.TheVariants.{Enter, Left}
 use Rattle.bn_netlist_laws.specs.Reading.{◌>>=◌, word_taken, number_taken, bar_taken, target_taken, ended, number_after}
@@ -9,7 +9,7 @@ use Rattle.bn_netlist_laws.specs.declared.element_line.ElementLine.{ElementLine}
 use Rattle.bn_netlist_laws.specs.declared.version.Version.{Version}
 use Rattle.bn_netlist_laws.specs.declared.version.Version.TheVariants.{One, Two}
 
--- the line is that of a column: the number of its top row, of its rows, and its bottom's bar
+-- a line of a column: the number of its top row, the number of its rows, and the bar of its bottom
 unfoldable pub column_of : List ℕ → Option (ℕ × ℕ × ℕ)
 column_of line = do
   first ← word_taken (codes "c ") line
@@ -20,7 +20,7 @@ column_of line = do
   bar ← bar_taken third
   ended ((element.0, rows.0, bar.0), bar.1)
 
--- the line is that of a row of a column: where its east and its west output lead
+-- a line of a row of a column: where its east and its west output lead
 unfoldable pub sides_of : List ℕ → Option (Option (ℕ × ℕ) × Option (ℕ × ℕ))
 sides_of line = do
   first ← word_taken (codes "r") line
@@ -28,7 +28,7 @@ sides_of line = do
   y ← target_taken x.1
   ended ((x.0, y.0), y.1)
 
--- the first of two answers
+-- the first of two results, if there is one, otherwise the second
 abbrev pub first_some : Option Sentence → Option Sentence → Option Sentence
 first_some None other = other
 first_some (Some x) other = Some x
@@ -73,7 +73,7 @@ column_said_by c = if c.1 == 0 then None else Some (Column c.0 c.1 c.2)
 abbrev pub column_said : List ℕ → Option Sentence
 column_said line = column_of line >>= column_said_by
 
--- the line begins an entry: of an element, or in version 2 of a column
+-- a line that begins an entry: that of an element, or in version 2 that of a column
 abbrev pub entry_said : Version → List ℕ → Option Sentence
 entry_said One line = element_said line
 entry_said Two line = first_some (element_said line) (column_said line)
@@ -83,7 +83,7 @@ row_said line =
     option_map (λ (p : Option (ℕ × ℕ) × Option (ℕ × ℕ)). sentences.Row (named_target p.0) (named_target p.1))
     (sides_of line)
 
--- what a line says as one of this kind
+-- the contents of a line of this kind, in this version
 abbrev pub said : Version → ℕ → List ℕ → Option Sentence
 said v k line =
     if k == 0 then title_said line

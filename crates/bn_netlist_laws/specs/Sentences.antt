@@ -1,6 +1,6 @@
--- What a line of a configuration text says, and how it is written, in both versions. Each line says one thing, in one
--- spelling: words and numbers with single spaces between them, and byte 10 at its end. The form is this project's own
--- profile.
+-- The contents of a line of a configuration text, and how they are written, in both versions. Each line has one
+-- meaning and one spelling: words and numbers with single spaces between them, and byte 10 at its end. The form is
+-- this project's own profile.
 use Rattle.std.specs.Prelude.{◌≡◌, ℕ, ◌<◌, ◌≤◌, List, [], ◌∷◌, ◌++◌, length, slice_index, Option, Some, None, codes}
 use Rattle.std.specs.Prelude.{decimal}
 use Rattle.bn_base.specs.Number.{greatest}
@@ -10,11 +10,11 @@ use Rattle.bn_circuits.specs.declared.place.Place.TheVariants.{Enter, Left}
 use Rattle.bn_netlist_laws.specs.declared.version.Version.{Version}
 use Rattle.bn_netlist_laws.specs.declared.version.Version.TheVariants.{One, Two}
 
--- What a line says: that this is a configuration text, and of which version; how many elements there are; the start, an
--- input line; the end, an output line; the steps made; where the signal is; of an element its number, the state of its
--- bar, and for each of its outputs the input line to which its wire leads, or nothing; of a column its top row's
--- number, the number of its rows, and the state of its bottom's bar; and of a row of a column where its east and its
--- west output lead.
+-- The contents of a line, in the order of the variants: the title of a configuration text, with its version; the
+-- number of elements; the start, an input port; the end, an output port; the count of steps; where the signal is; for
+-- an element its number, the state of its bar, and for each of its outputs the input port to which its wire leads, or
+-- nothing; for a column the number of its top row, the number of its rows, and the state of the bottom's bar; for a
+-- row of a column where its east and its west output lead.
 pub data Sentence : Type 0 where
   Title : Version → Sentence
   Count : ℕ → Sentence
@@ -26,7 +26,7 @@ pub data Sentence : Type 0 where
   Column : ℕ → ℕ → ℕ → Sentence
   Row : Option Line → Option Line → Sentence
 
--- the letters of the four lines of an element, in the order of their numbers
+-- the letters of the four ports of an element, in the order of their numbers
 abbrev pub side_letters : List ℕ
 side_letters = codes "nesw"
 
@@ -34,16 +34,16 @@ side_letters = codes "nesw"
 abbrev pub bar_letters : List ℕ
 bar_letters = codes "HV"
 
--- a line of an element: the element's number, a point, the line's letter
+-- a port of an element: the element's number, a point, the port's letter
 abbrev pub line_text : Line → List ℕ
 line_text l = decimal l.element ++ codes "." ++ slice_index side_letters l.line ∷ []
 
--- where the signal is
+-- the text of where the signal is
 abbrev pub place_text : Place → List ℕ
 place_text (Enter e l) = codes "at " ++ line_text (record { element = e; line = l })
 place_text (Left e l) = codes "left " ++ line_text (record { element = e; line = l })
 
--- where the wire of an output leads; a dash where it has none
+-- the text of where the wire of an output leads; a dash if it has no wire
 abbrev pub target_text : Option Line → List ℕ
 target_text None = codes "-"
 target_text (Some to) = line_text to
@@ -58,7 +58,7 @@ abbrev pub title_text : Version → List ℕ
 title_text One = codes "rotary 1"
 title_text Two = codes "rotary 2"
 
--- the line that says it, without its byte 10
+-- the line with these contents, without its byte 10
 abbrev pub sentence_text : Sentence → List ℕ
 sentence_text (Title v) = title_text v
 sentence_text (Count c) = codes "elements " ++ decimal c
@@ -77,7 +77,7 @@ abbrev pub lines_text : List Sentence → List ℕ
 lines_text [] = []
 lines_text (x ∷ xs) = sentence_text x ++ 10 ∷ lines_text xs
 
--- a line that a text can name: a number that is read, and one of the four letters
+-- a port that a text can name: its element has a number that can be read, and it has one of the four letters
 abbrev pub IsNameable : Line → Type 0
 IsNameable l = (l.element ≤ greatest) × (l.line < 4)
 
@@ -90,8 +90,8 @@ abbrev pub line_of_place : Place → Line
 line_of_place (Enter e l) = record { element = e; line = l }
 line_of_place (Left e l) = record { element = e; line = l }
 
--- The sentence can be written: its numbers are at most the greatest that is read, its lines and states have letters, it
--- counts some element or row, and it gives an element four outputs.
+-- The contents can be written: the numbers are at most the greatest that can be read, ports and states have letters,
+-- there is at least one element or row, and an element has four outputs.
 abbrev pub IsSayable : Sentence → Type 0
 IsSayable (Title v) = Unit {0}
 IsSayable (Count c) = (0 < c) × (c ≤ greatest)

@@ -17,8 +17,8 @@ use Rattle.bn_circuits.specs.declared.net.TheConstants.{MOST_ELEMENTS}
 use Rattle.bn_netlist_laws.specs.declared.version.TheConstants.{MOST_ELEMENTS_IN_ONE}
 use Rattle.bn_netlist_laws.specs.declared.header.Header.{Header}
 
--- what a text spells: a circuit of so many rotary elements with its wires, a configuration of it, and two lines that it
--- names: the start, an input line, and the end, an output line
+-- the meaning of a text: a circuit of this many rotary elements with its wires, a configuration of it, and two ports
+-- that the text names: the start, an input port, and the end, an output port
 pub record Spelling : Type 0 where
   pub elements : ℕ
   pub wires : List Wire
@@ -26,7 +26,7 @@ pub record Spelling : Type 0 where
   pub start : Line
   pub end : Line
 
--- the circuit
+-- the circuit of a spelling
 abbrev pub circuit_of : Spelling → Circuit
 circuit_of s = record { tables = replicate s.elements rotary; wires = s.wires }
 
@@ -35,9 +35,9 @@ abbrev pub most_elements : Version → ℕ
 most_elements One = MOST_ELEMENTS_IN_ONE
 most_elements Two = MOST_ELEMENTS
 
--- What may be spelled in this version: at least one element and at most the version's limit, wires that lead one to one
--- from output lines to input lines, a configuration of this circuit, a start into which no wire leads and an end from
--- which none leads.
+-- What this version admits: at least one element and at most the version's limit, wires that lead one to one from
+-- output ports to input ports, a configuration of this circuit, a start into which no wire leads and an end from which
+-- none leads.
 pub record Admits (v : Version) (s : Spelling) : Type 0 where
   pub some : 0 < s.elements
   pub few : s.elements ≤ most_elements v
@@ -60,16 +60,16 @@ header_of v s =
       place = s.config.place;
     }
 
--- the six lines of the header, and then these
+-- the six lines of the header, followed by these lines
 abbrev pub header_then : Header → List Sentence → List Sentence
 header_then h rows = Title h.version ∷ Count h.count ∷ Start h.start ∷ End h.end ∷ Steps h.steps ∷ At h.place ∷ rows
 
--- A column of the configuration that begins at this element is written as one: in version 2, and in no other.
+-- A column of k rows that begins at element e is written as one entry: only in version 2.
 pub record IsWrittenAt (v : Version) (s : Spelling) (e k : ℕ) : Type 0 where
   pub second : v ≡ Two
   pub column : IsColumnAt (circuit_of s) s.config.states e k
 
--- what the text says of so many rows of a column, the first of them this element
+-- the lines of this many rows of a column, the first of them this element
 abbrev pub row_sentences : List Wire → ℕ → ℕ → List Sentence
 row_sentences ws e zero = []
 row_sentences ws e (suc k) = Row (target ws (line_at e east)) (target ws (line_at e west)) ∷ row_sentences ws (suc e) k
@@ -78,9 +78,9 @@ row_sentences ws e (suc k) = Row (target ws (line_at e east)) (target ws (line_a
 abbrev pub targets_of : List Wire → ℕ → List (Option Line)
 targets_of wires e = map (λ l. target wires (record { element = e; line = l })) (north ∷ east ∷ south ∷ west ∷ [])
 
--- What the text says of the elements from this one on. Where a column is written at the element, its entry comes: the
--- line of the column, and a line for each row; the next element is the one behind its bottom. Where none is, the line
--- of the element comes. So no column is cut short, and none is left out.
+-- The lines of the elements from this one on. If a column is written at the element, its entry comes: the line of the
+-- column, and a line for each row; the next element is the one after its bottom. Otherwise the line of the element
+-- comes. Therefore every column is written as an entry, with all its rows.
 pub data AreEntries (v : Version) (s : Spelling) : ℕ → List Sentence → Type 0 where
   no_entry : {e : ℕ} {xs : List Sentence} → e ≡ s.elements → xs ≡ [] → AreEntries v s e xs
   element_entry : {e : ℕ} {xs : List Sentence} (q : ℕ) (rest : List Sentence) → slice_get s.config.states e ≡ Some q
@@ -97,13 +97,13 @@ pub record IsTextOf (v : Version) (s : Spelling) (text : List ℕ) : Type 0 wher
   pub are : AreEntries v s 0 entries
   pub written : text ≡ lines_text (header_then (header_of v s) entries)
 
--- the text spells it, in this version
+-- the version admits the spelling, and this is its text in that version
 pub record Spelled (v : Version) (s : Spelling) (text : List ℕ) : Type 0 where
   pub admitted : Admits v s
   pub is_text : IsTextOf v s text
 
--- The two are the same configuration of the same circuit, with the same start and end; the wires may be listed in
--- another order.
+-- The two spellings are the same configuration of the same circuit, with the same start and end; the wires may be
+-- listed in another order.
 pub record AreSame (s t : Spelling) : Type 0 where
   pub elements : s.elements ≡ t.elements
   pub targets : (from : Line) → target s.wires from ≡ target t.wires from
@@ -118,30 +118,30 @@ moved_to s c = record { elements = s.elements; wires = s.wires; config = c; star
 
 -- ---- laws
 
--- Each configuration that a version admits has a text in it.
+-- Each configuration that a version admits has a text in that version.
 abbrev pub HasText : Type 0
 HasText = (v : Version) (s : Spelling) → Admits v s → (text : List ℕ) × Spelled v s text
 
--- It has only one, in whatever order its wires are listed.
+-- A configuration has at most one text in a version, for every order of the list of its wires.
 abbrev pub SameHaveOneText : Type 0
 SameHaveOneText =
     (v : Version) (s t : Spelling) (first second : List ℕ) → AreSame s t → Spelled v s first → Spelled v t second
     → first ≡ second
 
--- What a text spells it spells in whatever order the wires are listed.
+-- A text that spells a configuration spells it for every order of the list of wires.
 abbrev pub SpelledAlike : Type 0
 SpelledAlike = (v : Version) (s t : Spelling) (text : List ℕ) → AreSame s t → Spelled v s text → Spelled v t text
 
--- What may be spelled in version 1 may be spelled in version 2.
+-- What version 1 admits, version 2 admits.
 abbrev pub AdmissionRises : Type 0
 AdmissionRises = (v : Version) (s : Spelling) → Admits v s → Admits Two s
 
--- What may be spelled may be spelled in each configuration of its circuit.
+-- If a version admits a circuit in one configuration, it admits the circuit in each of its configurations.
 abbrev pub SpellingsMove : Type 0
 SpellingsMove =
     (v : Version) (s : Spelling) (c : Config) → Admits v s → IsConfig (circuit_of s) c → Admits v (moved_to s c)
 
--- Each text has one version and one configuration.
+-- Each text spells at most one configuration, in at most one version.
 abbrev pub SpellingsAgree : Type 0
 SpellingsAgree =
     (v w : Version) (s t : Spelling) (text : List ℕ) → Spelled v s text → Spelled w t text → (v ≡ w) × AreSame s t

@@ -1,12 +1,12 @@
-//! What the line of an element says.
+//! The contents of the line of an element.
 
-/// The line of an element, read and not yet tested.
+/// The contents of the line of an element, parsed and not yet checked.
 #[derive(Drop)]
 pub struct ElementLine {
     /// The element's number, from 0.
     pub number: u64,
     /// The state of its bar.
     pub state: u32,
-    /// For each of its outputs the element and the line to which its wire leads, or nothing.
+    /// For each of its outputs, the element and the port to which its wire leads, or `None`; all are counted from 0.
     pub targets: [Option<(u64, u32)>; 4],
 }

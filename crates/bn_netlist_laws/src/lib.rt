@@ -1,5 +1,5 @@
-//! The grammar of configuration texts, in both versions, and its laws: what a text spells, which line of
-//! a text is the first with a fault, and that the one or the other holds of each text.
+//! The grammar of configuration texts, in both versions, and its laws: the configuration that a text spells, the first
+//! faulty line of a text, and that each text has exactly one of the two.
 #![tactic(auto)]
 
 mod element_line;

@@ -1,7 +1,7 @@
 //! The versions of configuration texts.
 
-/// A version of the text: in the first each element has a line of its own, in the second a column is
-/// written as one entry. (This project's own profile.)
+/// A version of the text. In version 1 each element has a line of its own. In version 2 a column is written as one
+/// entry. (This project's own profile.)
 #[derive(Clone, Copy, PartialEq, Eq, Debug)]
 pub enum Version {
     /// Version 1.

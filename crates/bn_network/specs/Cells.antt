@@ -1,5 +1,6 @@
--- A tape cell (this project's own profile): a reversible sequential machine (Morita 2017) that keeps one symbol and
--- maybe the head, by names and by numbers. Symbols are counted from 0, the blank first; z is the number of symbols.
+-- A tape cell (own to this project), by names and by numbers: a reversible sequential machine (Morita 2017) that
+-- stores one symbol, and whether the head is there. Symbols are counted from 0, the blank first; z is the number of
+-- symbols.
 use Rattle.std.specs.Prelude.{ℕ, zero, suc, ◌+◌, ◌-◌, ◌*◌, ◌<◌, ◌==◌, nat_lt, Option, Some, None, if◌then◌else◌}
 use Rattle.bn_element.specs.Tables.{Table}
 use Rattle.bn_network.specs.declared.cell_line.CellLine.{CellLine}
@@ -8,12 +9,13 @@ use Rattle.bn_network.specs.declared.cell_line.CellLine.TheVariants.{Answer, Don
 
 -- ---- names
 
--- a cell without the head, and with it, and its symbol
+-- a cell without the head (`Plain`) or with it (`Head`), and its symbol
 pub data CellState : Type 0 where
   Plain : ℕ → CellState
   Head : ℕ → CellState
 
--- a blank cell with the head takes a symbol, and gives it back
+-- with the head, a blank cell stores the symbol u, and only a blank cell does; backward, only a blank cell can have
+-- replied to a read
 abbrev pub written : ℕ → ℕ → Option (CellState × CellLine)
 written zero u = Some (Head u, DoneWrite)
 written (suc t) u = None
@@ -22,8 +24,8 @@ abbrev pub never_read : ℕ → ℕ → Option (CellState × CellLine)
 never_read zero t = Some (Head t, Read)
 never_read (suc u) t = None
 
--- A cell without the head lets everything pass, and takes the head when it comes; the cell with the head answers, or
--- hands the head on. The other pairs have no move.
+-- A cell without the head passes each signal on unchanged, but accepts the head when it arrives. The cell with the
+-- head replies, or passes the head on. The other pairs have no move.
 abbrev pub cell_go : CellState → CellLine → Option (CellState × CellLine)
 cell_go (Plain t) TakeRight = Some (Head t, DoneRight)
 cell_go (Plain t) TakeLeft = Some (Head t, DoneLeft)
@@ -34,7 +36,7 @@ cell_go (Head t) ShiftRight = Some (Plain t, TakeRight)
 cell_go (Head t) ShiftLeft = Some (Plain t, TakeLeft)
 cell_go (Head t) _ = None
 
--- the move that leads to a state and an output line, if one does
+-- the pair of state and input port from which a move leads to this state and output port, if there is one
 abbrev pub cell_back : CellState → CellLine → Option (CellState × CellLine)
 cell_back (Plain t) TakeRight = Some (Head t, ShiftRight)
 cell_back (Plain t) TakeLeft = Some (Head t, ShiftLeft)
@@ -45,7 +47,7 @@ cell_back (Head t) DoneRight = Some (Plain t, TakeRight)
 cell_back (Head t) DoneLeft = Some (Plain t, TakeLeft)
 cell_back (Head t) _ = None
 
--- the symbol of a line, if it has one, is among z
+-- the symbol of a port, if it has one, is among the z symbols
 abbrev pub IsLineOf : ℕ → CellLine → Type 0
 IsLineOf z (Write u) = u < z
 IsLineOf z (Answer u) = u < z
@@ -69,7 +71,7 @@ abbrev pub state_number : ℕ → CellState → ℕ
 state_number z (Plain t) = t
 state_number z (Head t) = z + t
 
--- the line and the state of a number
+-- the port and the state with a number
 abbrev pub cell_line : ℕ → ℕ → CellLine
 cell_line z n =
     if n == 0 then Read else if nat_lt n (z + 1) then Write (n - 1)
@@ -80,16 +82,16 @@ cell_line z n =
 abbrev pub state_of : ℕ → ℕ → CellState
 state_of z n = if nat_lt n z then Plain n else Head (n - z)
 
--- how many input lines a cell has, and as many output lines
+-- the number of input ports of a cell, and of its output ports
 abbrev pub cell_line_count : ℕ → ℕ
 cell_line_count z = 2 * z + 8
 
--- a move in numbers
+-- a move by the numbers of its state and port
 abbrev pub by_numbers : ℕ → Option (CellState × CellLine) → Option (ℕ × ℕ)
 by_numbers z None = None
 by_numbers z (Some m) = Some (state_number z m.0, line_number z m.1)
 
--- a move from numbers in range
+-- the move, if the numbers of state and port are in range
 abbrev pub within_cell : ℕ → ℕ → ℕ → Option (ℕ × ℕ) → Option (ℕ × ℕ)
 within_cell z q i m = if nat_lt q (2 * z) then (if nat_lt i (cell_line_count z) then m else None) else None
 

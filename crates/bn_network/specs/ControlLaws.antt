@@ -1,4 +1,4 @@
--- What the laws of this crate say, each a field of `Laws`.
+-- The statements of this crate's laws, each a field of `Laws`.
 use Rattle.std.specs.Prelude.{◌≡◌, ℕ, ◌<◌, List, Some}
 use Rattle.bn_element.specs.Tables.{Table}
 use Rattle.bn_lists.specs.Lists.{nth}
@@ -10,7 +10,8 @@ use Rattle.bn_quad.specs.Calls.{IsUniformMachine}
 use Rattle.bn_network.specs.Controls.{ControlState, ControlLine, ControlMove, ControlGoes, IsEntry, IsNumbering}
 use Rattle.bn_network.specs.Controls.{IsControlTable}
 
--- quadruples of one state read the same tapes, and those into one state write the same tapes, whichever stands first
+-- quadruples that leave one state read the same tapes, and those that lead to one state write the same tapes, in
+-- whichever order they appear
 abbrev pub TapesAreSame : Type 0
 TapesAreSame =
     ((rs : List (Rule ℕ)) (i j : ℕ) (r s : Rule ℕ) → HasNoClash Reads rs → nth rs i ≡ Some r → nth rs j ≡ Some s
@@ -18,7 +19,8 @@ TapesAreSame =
     × ((rs : List (Rule ℕ)) (i j : ℕ) (r s : Rule ℕ) → HasNoClash Writes rs → nth rs i ≡ Some r → nth rs j ≡ Some s
     → r.to ≡ s.to → HaveSameTapes r s)
 
--- quadruples that overlap in domain are one where the machine is deterministic, and in range where it is reversible
+-- quadruples that overlap in domain are equal if the machine is deterministic, and those that overlap in range are
+-- equal if it is reversible
 abbrev pub OverlapsAreOne : Type 0
 OverlapsAreOne =
     ((rs : List (Rule ℕ)) (i j : ℕ) (r s : Rule ℕ) → IsDeterministic rs → nth rs i ≡ Some r → nth rs j ≡ Some s
@@ -26,7 +28,7 @@ OverlapsAreOne =
     × ((rs : List (Rule ℕ)) (i j : ℕ) (r s : Rule ℕ) → IsReversible rs → nth rs i ≡ Some r → nth rs j ≡ Some s
     → OverlapsInRange r s → i ≡ j)
 
--- the control's moves are one to one
+-- the control's moves are one-to-one
 pub record IsOneToOne (m : Quadruples) : Type 0 where
   pub forth : (q : ControlState) (i : ControlLine) (k l : ControlMove) → ControlGoes m q i k → ControlGoes m q i l
       → k ≡ l
@@ -36,7 +38,8 @@ pub record IsOneToOne (m : Quadruples) : Type 0 where
 abbrev pub ControlsAreOneToOne : Type 0
 ControlsAreOneToOne = (m : Quadruples) → IsQuadMachine m → IsUniformMachine m → IsOneToOne m
 
--- each state of the machine has one first command, and the commands of two states wait in two states of the control
+-- each state of the machine has exactly one first command, and the control waits for the replies to the first
+-- commands of two different states in two different states
 pub record HasEntries (m : Quadruples) : Type 0 where
   pub one : (a : ℕ) (k l : ControlMove) → IsEntry m a k → IsEntry m a l → k ≡ l
   pub some : (a : ℕ) → a < m.states → (k : ControlMove) × IsEntry m a k
@@ -45,7 +48,7 @@ pub record HasEntries (m : Quadruples) : Type 0 where
 abbrev pub StatesHaveEntries : Type 0
 StatesHaveEntries = (m : Quadruples) → IsQuadMachine m → IsUniformMachine m → HasEntries m
 
--- a machine's control has one order of its states and one table, and it has them
+-- a machine's control has exactly one order of its states and exactly one table
 abbrev pub ControlsAreOne : Type 0
 ControlsAreOne =
     ((m : Quadruples) (a b : List ControlState) → IsNumbering m a → IsNumbering m b → a ≡ b)

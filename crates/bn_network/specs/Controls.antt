@@ -1,5 +1,5 @@
--- The finite control of a uniform machine of quadruples (this project's own profile), by names, and its table: it sends
--- the commands of a quadruple to the tapes one after another, and awaits the answer to each.
+-- The finite control of a uniform machine of quadruples (own to this project), by names, and its table: it sends the
+-- commands of a quadruple to the tapes one after another, and waits for the reply to each.
 use Rattle.std.specs.Prelude.{◌≡◌, ◌≢◌, ◌↔◌, ℕ, zero, suc, ◌+◌, ◌-◌, ◌<◌, List, [], ◌∷◌, ◌++◌, length, map, reverse}
 use Rattle.std.specs.Prelude.{Option, Some, None, slice_get, slice_index}
 use Rattle.std.specs.Ordering.{nat_cmp}
@@ -16,10 +16,10 @@ use Rattle.bn_network.specs.declared.cell_line.CellLine.{CellLine}
 use Rattle.bn_network.specs.declared.cell_line.CellLine.TheVariants.{Read, Write, ShiftRight, ShiftLeft, Answer}
 use Rattle.bn_network.specs.declared.cell_line.CellLine.TheVariants.{DoneWrite, DoneRight, DoneLeft}
 
--- ---- what a quadruple commands: first its reads by rising tape, then its shifts other than 0 by rising tape, then its
--- writes by falling tape. Tapes are counted from 1.
+-- ---- the commands of a quadruple: first its reads by rising tape, then its shifts other than 0 by rising tape, then
+-- its writes by falling tape. Tapes are counted from 1.
 
--- the read tapes with their symbols, by rising tape, where the deeds begin at tape t
+-- the read tapes with their symbols, by rising tape, if the first deed of the list is on tape t
 abbrev pub reads : ℕ → List Deed → List (ℕ × ℕ)
 reads t [] = []
 reads t (Rewrite read written ∷ ds) = (t, read) ∷ reads (suc t) ds
@@ -52,12 +52,12 @@ shifts_of r = shifts 1 (deeds_of r)
 abbrev pub writes_of : Rule ℕ → List (ℕ × ℕ)
 writes_of r = reverse (rising 1 (deeds_of r))
 
--- ---- states and lines
+-- ---- states and ports
 
--- `Begin` before all; `End` in the machine's final state. `Reads a s`: in state a of the machine, awaiting the answer
--- to the next read, after the symbols s. `Shifts n t`: in quadruple n, counted from 1, awaiting the answer to the shift
--- of tape t. `Writes a t u`: on the way into state a, awaiting the answer to the write on tape t, with the symbols u
--- still to be written on lower tapes, in falling order.
+-- `Begin` before the start; `End` in the machine's final state. `Reads a s`: in state a of the machine, waiting for
+-- the reply to the next read, after the symbols s were read. `Shifts n t`: in quadruple n, counted from 1, waiting
+-- for the reply to the shift of tape t. `Writes a t u`: on the way to state a, waiting for the reply to the write on
+-- tape t, with the symbols u still to be written on lower tapes, by falling tape.
 pub data ControlState : Type 0 where
   Begin : ControlState
   End : ControlState
@@ -65,7 +65,7 @@ pub data ControlState : Type 0 where
   Shifts : ℕ → ℕ → ControlState
   Writes : ℕ → ℕ → List ℕ → ControlState
 
--- the line to the outside, or from it; and a line to a tape, or from it
+-- the port to or from the outside (`Outside`), and a port to or from a tape (`Tape`)
 pub data ControlLine : Type 0 where
   Outside : ControlLine
   Tape : ℕ → CellLine → ControlLine
@@ -93,8 +93,7 @@ to_shift n p = (Shifts n p.0, Tape p.0 (shift_line p.1))
 abbrev pub to_write : ℕ → (ℕ × ℕ) → List (ℕ × ℕ) → ControlMove
 to_write a p rest = (Writes a p.0 (symbols_read rest), Tape p.0 (Write p.1))
 
--- what follows in quadruple n where these writes are left, these shifts, these reads; e is the next state's first
--- command
+-- the next command of quadruple n, if these writes, shifts or reads remain; e is the first command of the next state
 abbrev pub to_writes : ControlMove → ℕ → List (ℕ × ℕ) → ControlMove
 to_writes e a [] = e
 to_writes e a (p ∷ rest) = to_write a p rest
@@ -107,7 +106,7 @@ abbrev pub to_reads : ControlMove → ℕ → Rule ℕ → List (ℕ × ℕ) →
 to_reads e n r before [] = to_shifts e n r (shifts_of r)
 to_reads e n r before (p ∷ rest) = to_read r.from before p
 
--- the first command of quadruple n: its first read, or else its first shift
+-- the first command of quadruple n: its first read, or its first shift if it reads nothing
 abbrev pub IsFirstOf : ℕ → Rule ℕ → List (ℕ × ℕ) → List (ℕ × Side) → ControlMove → Type 0
 IsFirstOf n r [] [] k = ⊥
 IsFirstOf n r [] (p ∷ rest) k = k ≡ to_shift n p
@@ -117,19 +116,19 @@ IsFirstOf n r (p ∷ rest) ss k = k ≡ to_read r.from [] p
 pub record IsNotLeft (m : Quadruples) (a : ℕ) : Type 0 where
   pub none : (n : ℕ) (r : Rule ℕ) → nth m.rules n ≡ Some r → r.from ≢ a
 
--- The first command of a state of the machine, with the control's state that awaits its answer: in the final state the
--- signal leaves; else it is the first read, or where nothing is read the first shift, of a quadruple that leaves the
--- state; and where none leaves it, a read of tape 1.
+-- The first command of a state of the machine, with the control's state that waits for its reply. In the final state
+-- the signal leaves. In another state the command is the first read of a quadruple that leaves the state, or its
+-- first shift if it reads nothing. If no quadruple leaves the state, the command is a read of tape 1.
 pub data IsEntry (m : Quadruples) (a : ℕ) (k : ControlMove) : Type 0 where
   finishes : a ≡ final_state_of m.rules → k ≡ (End, Outside) → IsEntry m a k
   leaves : (n : ℕ) (r : Rule ℕ) → nth m.rules n ≡ Some r → r.from ≡ a → IsFirstOf n r (reads_of r) (shifts_of r) k
       → IsEntry m a k
   waits : a ≢ final_state_of m.rules → a < m.states → IsNotLeft m a → k ≡ to_read a [] (1, 0) → IsEntry m a k
 
--- The control's moves, from a state and an input line to a state and an output line: it begins with the first command
--- of the initial state; after a read it goes on to the next read of the quadruple, or else to what follows its reads;
--- after a shift and after a write likewise, at last to the first command of the next state. Where no quadruple's reads
--- begin with what was answered there is no move.
+-- The control's moves, from a state and an input port to a state and an output port. The control begins with the
+-- first command of the initial state. After a read it continues with the next read of the quadruple, or with its
+-- shifts after the last read; after shifts and writes likewise, and at the end with the first command of the next
+-- state. If no quadruple's reads begin with the replies so far, there is no move.
 pub data ControlGoes (m : Quadruples) (q : ControlState) (i : ControlLine) (k : ControlMove) : Type 0 where
   begins : q ≡ Begin → i ≡ Outside → IsEntry m (initial_of m.rules) k → ControlGoes m q i k
   reads_on : (n : ℕ) (r : Rule ℕ) → nth m.rules n ≡ Some r → (e : ControlMove) → IsEntry m r.to e
@@ -144,8 +143,9 @@ pub data ControlGoes (m : Quadruples) (q : ControlState) (i : ControlLine) (k : 
       → q ≡ Writes r.to p.0 (symbols_read rest) → i ≡ Tape p.0 DoneWrite → k ≡ to_writes e r.to rest
       → ControlGoes m q i k
 
--- The states of the control: the first and the last; one for each state that isn't final and that no quadruple leaves,
--- which awaits tape 1 for ever; and one for each read, shift and write of each quadruple.
+-- The states of the control: the first and the last; one for each state that is not final and that no quadruple
+-- leaves, which waits for a reply of tape 1 for which it has no move; and one for each read, shift and write of each
+-- quadruple.
 pub data Occurs (m : Quadruples) (q : ControlState) : Type 0 where
   is_begin : q ≡ Begin → Occurs m q
   is_end : q ≡ End → Occurs m q
@@ -157,8 +157,8 @@ pub data Occurs (m : Quadruples) (q : ControlState) : Type 0 where
   is_write : (n : ℕ) (r : Rule ℕ) → nth m.rules n ≡ Some r → (before rest : List (ℕ × ℕ)) (p : ℕ × ℕ)
       → writes_of r ≡ before ++ (p ∷ rest) → q ≡ Writes r.to p.0 (symbols_read rest) → Occurs m q
 
--- What the states are ordered by, as words of numbers: kinds in their order; reads by state, by how many symbols were
--- read, by these; shifts by quadruple and tape; writes by state, by falling tape, by the symbols.
+-- The key by which the states are ordered, a word of numbers: the kinds in their order; reads by state, by the number
+-- of symbols read, by these symbols; shifts by quadruple and tape; writes by state, by falling tape, by the symbols.
 abbrev pub key_of : ControlState → List ℕ
 key_of Begin = 0 ∷ []
 key_of End = 1 ∷ []
@@ -166,21 +166,22 @@ key_of (Reads a s) = 2 ∷ a ∷ length s ∷ s
 key_of (Shifts n t) = 3 ∷ n ∷ t ∷ []
 key_of (Writes a t u) = 4 ∷ a ∷ (3 - t) ∷ u
 
--- the control's states in order: each that occurs has a number, none else has one, and they rise
+-- the control's states in order: each state that occurs has a number, no other state has one, and the keys rise
 pub record IsNumbering (m : Quadruples) (names : List ControlState) : Type 0 where
   pub each : (q : ControlState) → Occurs m q → (n : ℕ) × (slice_get names n ≡ Some q)
   pub only : (n : ℕ) (q : ControlState) → slice_get names n ≡ Some q → Occurs m q
   pub rising_keys : (i j : ℕ) (q r : ControlState) → i < j → slice_get names i ≡ Some q → slice_get names j ≡ Some r
       → slice_cmp nat_cmp (key_of q) (key_of r) ≡ Less
 
--- ---- numbers of lines, from 0
+-- ---- numbers of ports, from 0
 
--- how many symbols a tape has, counted from 1
+-- the number of symbols of a tape; tapes are counted from 1
 abbrev pub symbol_count : Quadruples → ℕ → ℕ
 symbol_count m zero = 0
 symbol_count m (suc t) = slice_index m.symbols t
 
--- the lines before those of the tape with this number less one
+-- the number of the control's ports before those of tape t + 1, for the argument t: the outside port, and z + 3 ports
+-- for each earlier tape with z symbols
 abbrev pub lines_before : List ℕ → ℕ → ℕ
 lines_before zs zero = 1
 lines_before [] (suc t) = 1
@@ -211,14 +212,14 @@ abbrev pub out_number : Quadruples → ControlLine → ℕ
 out_number m Outside = 0
 out_number m (Tape t l) = lines_before m.symbols (t - 1) + command_offset (symbol_count m t) l
 
--- What is kept of the first command of a state of the machine: the state of the control that awaits its answer, and the
--- output line by which it is given; nothing for the final state.
+-- The record of the first command of a state of the machine: the state of the control that waits for its reply, and
+-- the output port by which it is sent; nothing for the final state.
 pub data IsFirstKept (m : Quadruples) (names : List ControlState) (a : ℕ) : Option (ℕ × ℕ) → Type 0 where
   final_kept : a ≡ final_state_of m.rules → IsFirstKept m names a None
   sent_kept : a ≢ final_state_of m.rules → (k : ControlMove) (q : ℕ) → IsEntry m a k → slice_get names q ≡ Some k.0
       → IsFirstKept m names a (Some (q, out_number m k.1))
 
--- a move in numbers
+-- a move by the numbers of its states and ports
 pub record NumberedGoes (m : Quadruples) (names : List ControlState) (n j r o : ℕ) : Type 0 where
   pub state : ControlState
   pub line : ControlLine

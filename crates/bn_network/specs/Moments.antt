@@ -1,5 +1,5 @@
--- Moments of the network (this project's own profile): where it stands for a configuration of the machine of
--- quadruples.
+-- Moments of the network (own to this project): the situations at which it represents a configuration of the machine
+-- of quadruples.
 use Rattle.std.specs.Prelude.{◌≡◌, ◌≢◌, ℕ, ◌+◌, ◌*◌, ◌<◌, ◌≤◌, pos, ◌+ℤ◌, Bool, true, false, not, List, Some, slice_get}
 use Rattle.std.specs.Prelude.{◌⊎◌}
 use Rattle.std.specs.Int.RustNames.{unsigned_abs}
@@ -19,16 +19,16 @@ use Rattle.bn_network.specs.Controls.{ControlState, ControlMove, IsEntry, symbol
 use Rattle.bn_network.specs.Networks.{ShowsTapes, IsControlAt, first_cell, cells_in, IsTape}
 use Rattle.bn_circuits.specs.Circuits.{line_at}
 
--- The network is at the moment of a state of the machine: of the final one where the signal has left by the control's
--- line to the outside; of another where the control waits for the answer to that state's first command, and the signal
--- is where that command leads.
+-- The network is at the moment of a state of the machine. For the final state, the signal has left by the control's
+-- port to the outside. For another state, the control waits for the reply to that state's first command, and the
+-- signal is where that command's port leads.
 pub data IsMoment (m : Quadruples) (names : List ControlState) (k : Circuit) (s : Situation) (a : ℕ) : Type 0 where
   at_end : a ≡ final_state_of m.rules → s.place ≡ Left 0 0 → IsMoment m names k s a
   sent : a ≢ final_state_of m.rules → (first : ControlMove) → IsEntry m a first → IsControlAt names s.states first.0
       → s.place ≡ place_after k.wires (line_at 0 (out_number m first.1)) → IsMoment m names k s a
 
--- it is at the moment of this configuration: the control waits in the state of the first command, in the final state
--- too, and the cells show the tapes
+-- the network is at the moment of this configuration: the control waits for the reply to the first command of its
+-- state (in the final state too), and the cells show the tapes
 pub record IsMomentOf (m : Quadruples) (l : Limits) (names : List ControlState) (k : Circuit) (s : Situation)
     (c : Configuration ℕ) : Type 0 where
   pub first : ControlMove
@@ -37,7 +37,7 @@ pub record IsMomentOf (m : Quadruples) (l : Limits) (names : List ControlState) 
   pub place : s.place ≡ place_after k.wires (line_at 0 (out_number m first.1))
   pub shows : ShowsTapes m l s.states c
 
--- the test says no wherever there is no moment, and yes at each
+-- the test is false in each situation that is no moment, and true in each that is one
 pub record TellsMoments (m : Quadruples) (names : List ControlState) (k : Circuit) (test : Situation
     → Bool) : Type 0 where
   pub none : (s : Situation) → ((a : ℕ) → IsMoment m names k s a → ⊥) → test s ≡ false
@@ -45,7 +45,8 @@ pub record TellsMoments (m : Quadruples) (names : List ControlState) (k : Circui
 
 -- ---- how many moves a quadruple takes
 
--- a command on a tape whose head is at cell h, counted from 0, goes there and comes back, and the control answers
+-- a command on a tape whose head is at cell h, counted from 0: the moves of the signal to that cell and back, and the
+-- control's next move
 abbrev pub shift_moves : ℕ → Shift → ℕ
 shift_moves h way.Left = 2 * h + 2
 shift_moves h way.Stay = 0
@@ -55,7 +56,7 @@ abbrev pub deed_moves : ℕ → Deed → ℕ
 deed_moves h (Rewrite read written) = (2 * h + 2) + (2 * h + 2)
 deed_moves h (Move s) = shift_moves h s
 
--- the cell of a head
+-- the cell of a head, counted from 0
 abbrev pub head_cell : ℕ → Tape → ℕ
 head_cell left t = unsigned_abs (t.head +ℤ pos left)
 
@@ -65,18 +66,19 @@ quad_moves l r c = deed_moves (head_cell l.left c.one) r.one + deed_moves (head_
 
 -- ---- from moment to moment
 
--- from s to t in n moves, with no moment strictly between, at no more than this cost
+-- from s to t in n moves, with no moment strictly between, at most at this cost
 pub record Travels (k : Circuit) (test : Situation → Bool) (n most : ℕ) (s t : Situation) : Type 0 where
   pub path : Passes (Turns k) (λ x. not (test x)) n s t
   pub cost : run_cost k n s ≤ most
 
--- each tape has a symbol, the blank
+-- each tape has at least one symbol, the blank
 abbrev pub HasLetters : Quadruples → Type 0
 HasLetters m = (t : ℕ) → IsTape t → 0 < symbol_count m t
 
 -- ---- heads
 
--- on no tape two cells have the head, and none has it where the signal takes it to a cell
+-- no tape has two cells with the head, and while the signal carries the head to a cell of a tape, no cell of that
+-- tape has it
 pub record HasHeads (m : Quadruples) (l : Limits) (s : Situation) : Type 0 where
   pub one : (t p q i j : ℕ) → IsTape t → p < cells_in l t → q < cells_in l t
       → slice_get s.states (first_cell l t + p) ≡ Some i → slice_get s.states (first_cell l t + q) ≡ Some j

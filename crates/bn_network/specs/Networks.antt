@@ -1,4 +1,4 @@
--- The network of control and cells (this project's own profile), and what it shows. Tapes are counted from 1; modules
+-- The network of control and cells (own to this project), and what its cells show. Tapes are counted from 1, modules
 -- from 0: the control, then each tape's cells from left to right.
 use Rattle.std.specs.Prelude.{◌≡◌, ◌≢◌, ◌↔◌, ℕ, zero, suc, ◌+◌, ◌*◌, ◌<◌, ◌≤◌, ℤ, pos, ◌-ℤ◌, List, [], ◌∷◌, ◌++◌}
 use Rattle.std.specs.Prelude.{replicate, map, Some, slice_get, if◌then◌else◌}
@@ -47,7 +47,8 @@ pub record IsTape (t : ℕ) : Type 0 where
   pub low : 0 < t
   pub high : t ≤ 3
 
--- lines from the control, and to it; lines that go right from cell to cell, and left
+-- ports for signals from the control (`IsCommand`), to the control (`IsReply`), and from cell to cell, rightward
+-- (`GoesRight`) and leftward (`GoesLeft`)
 abbrev pub IsCommand : CellLine → Type 0
 IsCommand Read = Unit {0}
 IsCommand (Write u) = Unit {0}
@@ -92,8 +93,8 @@ module_tables m l control = control ∷ replicate (cells_in l 1) (cell_table (sy
     ++ replicate (cells_in l 2) (cell_table (symbol_count m 2))
     ++ replicate (cells_in l 3) (cell_table (symbol_count m 3))
 
--- This circuit of modules is the network of the machine in these limits; `names` are the control's states in order, so
--- each law that speaks of costs or numbers also has that they are.
+-- This circuit of modules is the network of the machine within these limits. `names` should be the control's states
+-- in order; this record does not require it, and each law on costs or numbers requires it in addition.
 pub record IsNetwork (m : Quadruples) (l : Limits) (names : List ControlState) (k : Circuit) : Type 0 where
   pub circuit : IsCircuit k
   pub control : Table
@@ -105,7 +106,7 @@ pub record IsNetwork (m : Quadruples) (l : Limits) (names : List ControlState) (
 abbrev pub bank_size : ℕ → ℕ → ℕ
 bank_size n k = n * (k + 1)
 
--- the number of elements of the bank of a cell for so many symbols
+-- the number of elements of the bank of a cell for z symbols
 abbrev pub cell_size : ℕ → ℕ
 cell_size z = bank_size (2 * z) (cell_line_count z)
 
@@ -118,15 +119,15 @@ elements_by m l control_states = bank_size control_states (control_lines m) + ce
 abbrev pub cell_of : Tape → ℤ → CellState
 cell_of t p = if int_eq p t.head then Head (cell t p) else Plain (cell t p)
 
--- The cells from this module on, for z symbols, show the tape from -left to right: no other letter stands on it, and
--- each cell has its symbol, and the head where it is there. A head that is elsewhere is in no cell.
+-- The cells from this module on, for z symbols, show the tape from -left to right: the tape is blank elsewhere, and
+-- each cell has its symbol, and the head if the head is there. If the head is elsewhere, no cell has it.
 pub record ShowsCells (states : List ℕ) (first z left right : ℕ) (t : Tape) : Type 0 where
   pub inside : (p : ℤ) → cell t p ≢ 0 → IsBetween left right p
   pub symbols : (p : ℤ) → cell t p < z
   pub cells : (j : ℕ) → j < left + right + 1
       → slice_get states (first + j) ≡ Some (state_number z (cell_of t (pos j -ℤ pos left)))
 
--- they show the tape, and its head is there
+-- the cells show the tape, and its head is in one of them
 pub record ShowsTape (states : List ℕ) (first z left right : ℕ) (t : Tape) : Type 0 where
   pub head : IsBetween left right t.head
   pub shown : ShowsCells states first z left right t
@@ -148,13 +149,13 @@ pub record IsControlAt (names : List ControlState) (states : List ℕ) (q : Cont
   pub is : slice_get states 0 ≡ Some number
   pub named : slice_get names number ≡ Some q
 
--- the states of the cells from -left to right of a tape that holds this word at 1 and on, with the head at 0
+-- the states of the cells from -left to right of a tape that contains this word from cell 1 on, with the head at 0
 abbrev pub start_cells : ℕ → ℕ → List ℕ → ℕ → List ℕ
 start_cells z left word right = map (λ j. state_number z (cell_of (word_tape word) (pos j -ℤ pos left)))
     (range_with_len 0 (left + right + 1))
 
--- the start: the control in its first state, the word on tape 1 from cell 1 on, all else blank, the heads at 0, the
--- signal at the control's line from outside
+-- the start: the control in its first state, the word on tape 1 from cell 1 on, all other cells blank, the heads at
+-- 0, the signal at the control's port from outside
 abbrev pub network_start : Quadruples → Limits → List ℕ → Situation
 network_start m l word = situation (0 ∷ start_cells (symbol_count m 1) l.left word l.right
     ++ start_cells (symbol_count m 2) 0 [] l.steps ++ start_cells (symbol_count m 3) 0 [] l.output) (Enter 0 0)

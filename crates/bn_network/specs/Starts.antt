@@ -1,5 +1,4 @@
--- The start of a network from any configuration that stands in its window, and from three words (this project's own
--- profile).
+-- The start of a network from any configuration that fits its window, and from three words (own to this project).
 use Rattle.std.specs.Prelude.{◌≢◌, ℕ, ◌+◌, ◌<◌, ◌≤◌, ℤ, pos, ◌-ℤ◌, List, ◌∷◌, ◌++◌, length, map, All}
 use Rattle.std.specs.List.{range_with_len}
 use Rattle.bn_circuits.specs.Situations.{Situation, situation}
@@ -20,19 +19,19 @@ cells_by z left right x =
     map (λ j. state_number z (cell_of x (pos j -ℤ pos left))) (range_with_len 0 (left + right + 1))
 
 -- the network's start: the control in its first state, the cells with these three tapes, the signal at the control's
--- line from outside
+-- port from outside
 abbrev pub start_from : Quadruples → Limits → Configuration ℕ → Situation
 start_from m l c =
     situation (0 ∷ cells_by (symbol_count m 1) l.left l.right c.one ++ cells_by (symbol_count m 2) 0 l.steps c.two
     ++ cells_by (symbol_count m 3) 0 l.output c.three) (Enter 0 0)
 
--- the tape stands in the window: its head is inside, no letter but the blank is outside, and each is one of z symbols
+-- the tape fits the window: its head is inside, all cells outside are blank, and each symbol is one of z symbols
 pub record FitsTape (z left right : ℕ) (x : Tape) : Type 0 where
   pub head : IsBetween left right x.head
   pub inside : (p : ℤ) → cell x p ≢ 0 → IsBetween left right p
   pub symbols : (p : ℤ) → cell x p < z
 
--- so does each tape of a configuration
+-- each tape of the configuration fits its window
 pub record FitsWindow (m : Quadruples) (l : Limits) (c : Configuration ℕ) : Type 0 where
   pub one : FitsTape (symbol_count m 1) l.left l.right c.one
   pub two : FitsTape (symbol_count m 2) 0 l.steps c.two
@@ -49,7 +48,7 @@ words_on m one two three = record {
   three = word_tape three;
 }
 
--- the words are of their tapes' symbols, and none is longer than its tape's right side
+-- each word consists of its tape's symbols, and is at most as long as its tape's right side
 pub record AreInputs (m : Quadruples) (l : Limits) (one two three : List ℕ) : Type 0 where
   pub one_letters : All (λ x. x < symbol_count m 1) one
   pub two_letters : All (λ x. x < symbol_count m 2) two

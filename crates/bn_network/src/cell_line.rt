@@ -1,27 +1,28 @@
-//! The lines of a tape cell.
+//! The ports of a tape cell.
 
-/// A line of a tape cell (this project's own profile). Input and output lines have the same names. The first
-/// five come in from the left and go out to the right, the others come in from the right and go out to the left.
+/// A port of a tape cell (own to this project). An input port and the output port of the same name belong together.
+/// Signals of the first five ports enter at the left and leave at the right; signals of the others enter at the right
+/// and leave at the left.
 #[derive(Clone, Copy, PartialEq, Eq, Debug)]
 pub enum CellLine {
-    /// A command to the cell with the head: give the symbol, and be blank.
+    /// A command to the cell with the head: return the symbol, and become blank.
     Read,
-    /// A command to the cell with the head, which is blank: take this symbol.
+    /// A command to the cell with the head, which is blank: store this symbol.
     Write(u32),
-    /// A command to the cell with the head: hand the head to the right neighbour.
+    /// A command to the cell with the head: pass the head to the right neighbour.
     ShiftRight,
-    /// A command to the cell with the head: hand the head to the left neighbour.
+    /// A command to the cell with the head: pass the head to the left neighbour.
     ShiftLeft,
-    /// The head comes from the left neighbour.
+    /// The head arrives from the left neighbour.
     TakeRight,
-    /// The answer to `Read`: this symbol.
+    /// The reply to `Read`: this symbol.
     Answer(u32),
-    /// The answer to `Write`.
+    /// The reply to `Write`.
     DoneWrite,
-    /// The answer to `ShiftRight`.
+    /// The reply to `ShiftRight`.
     DoneRight,
-    /// The answer to `ShiftLeft`.
+    /// The reply to `ShiftLeft`.
     DoneLeft,
-    /// The head comes from the right neighbour.
+    /// The head arrives from the right neighbour.
     TakeLeft,
 }

@@ -1,6 +1,6 @@
-//! The modules that a machine of quadruples becomes, as definitions: the tape cell, the finite control, the
-//! network of both, and the moments at which a network shows a configuration of the machine. And laws on the
-//! control of a uniform machine: its moves are one to one, and it has one order of its states and one table.
+//! The modules of a machine of quadruples, as definitions: the tape cell, the finite control, the network of both,
+//! and the moments at which a network represents a configuration of the machine. Laws on the control of a uniform
+//! machine: its moves are one-to-one, and it has exactly one order of its states and one table.
 #![tactic(auto)]
 
 mod cell_line;

@@ -28,13 +28,13 @@ use Rattle.bn_circuits.specs.declared.net.TheConstants.{MOST_ELEMENTS}
 abbrev pub limits_of : Windows → Limits
 limits_of w = record { left = w.left1; right = w.right1; steps = w.right2; output = w.right3 }
 
--- a network in a configuration, and the window for which it was assembled
+-- a network with a configuration, and the window for which it was assembled
 pub record Assembled : Type 0 where
   pub net : Parts Module
   pub config : Config
   pub limits : Limits
 
--- its code: net, configuration and window
+-- the code of an assembly: net, configuration and window
 abbrev pub assembled_code : Coded Assembled
 assembled_code =
     code_by (Parts Module × (Config × Limits)) (coded× net_code (coded× config_code limits_code))
@@ -43,8 +43,8 @@ assembled_code =
 abbrev pub network_of : Assembled → Circuit
 network_of a = circuit module_table a.net
 
--- The network is the machine's, for this window: module 0 is its control, the others are its cells, the wires are those
--- of the network, the board would not have too many elements, and it starts from this configuration.
+-- The network is the machine's, for this window: module 0 is its control, the others are its cells, the wires are
+-- those of the network, the circuit would not have too many elements, and the network starts from this configuration.
 pub record IsAssembledFrom (m : Quadruples) (l : Limits) (c : Configuration ℕ) (names : List ControlState)
     (a : Assembled) : Type 0 where
   pub control : Controlled
@@ -62,12 +62,12 @@ pub record IsAssembledFrom (m : Quadruples) (l : Limits) (c : Configuration ℕ)
 abbrev pub IsAssembled : Quadruples → Limits → List ℕ → List ControlState → Assembled → Type 0
 IsAssembled m l word names a = IsAssembledFrom m l (words_on m word [] []) names a
 
--- the word's symbols are tape 1's, and none is blank
+-- the word's symbols are among tape 1's, and none is blank
 abbrev pub IsWordOf : Quadruples → List ℕ → Type 0
 IsWordOf m word = All (λ s. (0 < s) × (s < symbol_count m 1)) word
 
--- What every assembly keeps: there is a machine with its control's states in order, and a configuration in the initial
--- state that stands in the window, for which it is assembled.
+-- The invariant of an assembly: it was assembled for some machine with its control's states in order, and for some
+-- configuration in the initial state that fits the window.
 pub record IsKept (a : Assembled) : Type 0 where
   pub machine : Quadruples
   pub names : List ControlState
@@ -82,18 +82,18 @@ pub record IsKept (a : Assembled) : Type 0 where
 
 -- ---- refusals
 
--- the number of elements of the board
+-- the number of elements of the circuit
 abbrev pub CountsElements : Quadruples → Limits → ℕ → Type 0
 CountsElements m l count = (names : List ControlState) × IsNumbering m names × (count ≡ elements_by m l (length names))
 
--- what a refusal says: the word is longer than the right side of tape 1; or it isn't, and the board would have too many
--- elements. Want of memory says only that the word fits.
+-- the meaning of a refusal: the word is longer than the right side of tape 1; or it is not, and the circuit would
+-- have too many elements; or memory has run out, and the word fits
 abbrev pub IsRefusal : Quadruples → Limits → List ℕ → AssembleRefusal → Type 0
 IsRefusal m l word (WordOutside needs) = (needs ≡ length word) × (l.right < length word)
 IsRefusal m l word (Elements count) = (length word ≤ l.right) × CountsElements m l count × (MOST_ELEMENTS < count)
 IsRefusal m l word NoMemory = length word ≤ l.right
 
--- what it says where all words fit: the board would have too many elements, or there is want of memory
+-- the meaning of a refusal if all words fit: the circuit would have too many elements, or memory has run out
 abbrev pub IsSizeRefusal : Quadruples → Limits → AssembleRefusal → Type 0
 IsSizeRefusal m l (WordOutside needs) = ⊥
 IsSizeRefusal m l (Elements count) = CountsElements m l count × (MOST_ELEMENTS < count)

@@ -1,5 +1,5 @@
--- Codes by which ghost values keep an assembly: its modules, wires, configuration and window, part by part. They say
--- nothing of it.
+-- Codes in which ghost values represent an assembly: its modules, wires, configuration and window, part by part. They
+-- state nothing about it.
 use Rattle.std.specs.Prelude.{◌≡◌, ◌⊎◌, ℕ, List, refl}
 use Rattle.std.specs.Coded.{Coded, coded_ℕ, coded_list, coded×, coded⊎, code_by}
 use Rattle.std.proofs.Common.{inl, inr}

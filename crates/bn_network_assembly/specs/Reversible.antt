@@ -1,4 +1,4 @@
--- That each module's table is reversible, which each element hands to the trait.
+-- The proof that each module's table is reversible, which each element passes to the trait.
 use Rattle.bn_element.specs.Tables.{IsReversible}
 use Rattle.bn_rsm.specs.Machines.{machine_table-IsReversible}
 use Rattle.bn_cell.specs.Reversible.{cells-reversible}

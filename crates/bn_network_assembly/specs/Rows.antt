@@ -1,4 +1,4 @@
--- Rows of cells as modules: the words in which the functions that push them are said.
+-- Rows of cells as modules: the vocabulary of the contracts of the functions that add them.
 use Rattle.std.specs.Prelude.{◌≡◌, ℕ, List, [], ◌∷◌, ◌++◌, All, length}
 use Rattle.bn_machine.specs.Outcome.{Limits}
 use Rattle.bn_quad.specs.Quadruples.{Quadruples}
@@ -13,14 +13,14 @@ abbrev pub IsCellFor : ℕ → Module → Type 0
 IsCellFor z (Control v) = ⊥
 IsCellFor z (Cell c) = c.symbols ≡ z
 
--- so many cells for z symbols were added to these modules
+-- n cells for z symbols were added to these modules
 pub record IsRow (old : List Module) (z n : ℕ) (new : List Module) : Type 0 where
   pub row : List Module
   pub count : length row ≡ n
   pub cells : All (IsCellFor z) row
   pub is : new ≡ old ++ row
 
--- the control, and then the rows of the three tapes
+-- the modules are the control, followed by the rows of the three tapes
 pub record AreModules (m : Quadruples) (l : Limits) (v : Controlled) (modules : List Module) : Type 0 where
   pub one : List Module
   pub two : List Module

@@ -1,13 +1,13 @@
-//! A network in a configuration.
+//! A network with its configuration.
 
 use crate::module::Module;
 use crate::windows::Windows;
 use bn_circuits::{Config, Net};
 use std::marker::Model;
 
-/// The network of a machine of quadruples (this project's own profile): its finite control, module 0, and the cells of
-/// its three tapes, tape by tape from left to right; in a configuration, and with the window for which it was
-/// assembled. Clauses see the net, the configuration and the window.
+/// The network of a machine of quadruples (own to this project): its finite control, module 0, and the cells of its
+/// three tapes, tape by tape from left to right; with a configuration, and with the window for which it was
+/// assembled. Contracts see the net, the configuration and the window.
 #[derive(Drop)]
 pub struct Assembly {
     net: Net<Module>,
@@ -53,8 +53,9 @@ impl Assembly {
         &self.net
     }
 
-    /// The configuration in which it was assembled: the control in its first state, the words on their tapes from cell
-    /// 1 on, all else blank, the heads at 0, the signal at the control's line from outside, and no step made.
+    /// The configuration in which it was assembled: the control in its first state, the words on their tapes from
+    /// cell 1 on, all other cells blank, the heads at 0, the signal at the control's port from outside, and no step
+    /// made.
     pub fn config(&self) -> &Config
         ensures config { result.now ≡ self.now.config }
         ensures kept { IsKept self.now }
@@ -70,7 +71,7 @@ impl Assembly {
         &self.windows
     }
 
-    /// How many symbols a tape, counted from 1 to 3, has.
+    /// The number of symbols of a tape, counted from 1 to 3.
     pub fn symbols(&self, tape: u32) -> u32
         requires first { 1 ≤ tape }
         requires last { tape ≤ 3 }

@@ -1,4 +1,4 @@
-//! The network of a machine of quadruples: its finite control and the cells of its tapes, joined by wires.
+//! The network of a machine of quadruples: its finite control and the cells of its tapes, connected by wires.
 #![tactic(auto)]
 
 mod assembly;

@@ -1,4 +1,4 @@
-//! Networks are assembled here.
+//! The assembly of networks.
 ghost use Rattle.std.specs.Prelude.{◌≡◌, ℕ, ◌*◌, ◌^◌, ◌<◌, ◌≤◌, List, IfOk, IfErr, length};
 ghost use Rattle.bn_quad.specs.Quadruples.{IsQuadMachine};
 ghost use Rattle.bn_quad.specs.Calls.{IsUniformMachine};
@@ -25,9 +25,9 @@ use bn_network::MOST_SYMBOLS;
 use bn_quad::{QuadMachine, Uniform};
 use std::alloc::Global;
 
-/// The network of a uniform machine for these windows, at the start with this word on tape 1. `WordOutside` comes
-/// exactly where the word is longer than the right side of tape 1; else `Elements` comes only where the flat board
-/// would have more than `MOST_ELEMENTS` elements, and `Ok` only where it wouldn't.
+/// The network of a uniform machine for these windows, at the start with this word on tape 1. `Err` is `WordOutside`
+/// exactly if the word is longer than the right side of tape 1, `Elements` only if the flat circuit would have more
+/// than `MOST_ELEMENTS` elements, or `NoMemory`. `Ok` only if the circuit has at most that many.
 pub fn assemble(
     alloc: Global,
     machine: &Uniform,
@@ -57,9 +57,9 @@ pub fn assemble(
     assemble_words(alloc, machine, windows, &words)
 }
 
-/// The network of a uniform machine for these windows, at the start with words on the three tapes, which fit.
-/// `Elements` comes only where the flat board would have more than `MOST_ELEMENTS` elements, `Ok` only where it
-/// wouldn't, and `WordOutside` never.
+/// The network of a uniform machine for these windows, at the start with words on the three tapes, which fit. `Err`
+/// is `Elements` only if the flat circuit would have more than `MOST_ELEMENTS` elements, or `NoMemory`, and never
+/// `WordOutside`. `Ok` only if the circuit has at most that many.
 pub fn assemble_words(
     alloc: Global,
     machine: &Uniform,
@@ -84,7 +84,7 @@ pub fn assemble_words(
     Ok(join(alloc, control, machine, windows, words)?)
 }
 
-/// How many elements the flat board of a uniform machine's network has in these windows. It takes no memory.
+/// The number of elements of the flat circuit of a uniform machine's network in these windows. It takes no memory.
 pub fn element_count(machine: &Uniform, windows: &Windows) -> u64
     requires machine { IsWithinLimits machine.now }
     requires windows { AreSmall (limits_of windows.now) }
@@ -95,7 +95,7 @@ pub fn element_count(machine: &Uniform, windows: &Windows) -> u64
     count_elements(machine, windows, state_count(machine))
 }
 
-// How many elements the board has whose control has so many states.
+// The number of elements of the circuit if the control has this number of states.
 pub(crate) fn count_elements(machine: &QuadMachine, windows: &Windows, states: u32) -> u64
     requires machine { IsWithinLimits machine.now }
     requires windows { AreSmall (limits_of windows.now) }
@@ -112,7 +112,7 @@ pub(crate) fn count_elements(machine: &QuadMachine, windows: &Windows, states: u
         + row_size(windows.cells(3), three)
 }
 
-// The network of a control and its cells, where the board is not too large.
+// The network of a control and its cells, if the circuit is not too large.
 fn join(
     alloc: Global,
     control: Control,
@@ -147,7 +147,7 @@ fn join(
     Ok(Assembly::of(net, config, *windows))
 }
 
-// The elements of a bank of so many states and lines.
+// The number of elements of a bank with these numbers of states and ports.
 fn bank_size(states: u32, lines: u32) -> u64
     requires { lines < 2 ^ 16 }
     ensures size { result ≡ bank_size states lines }
@@ -156,7 +156,7 @@ fn bank_size(states: u32, lines: u32) -> u64
     u64::from(states) * (u64::from(lines) + 1)
 }
 
-// The elements of a tape of so many cells for so many symbols.
+// The number of elements of a tape's cells, for this number of symbols.
 fn row_size(cells: u32, symbols: u32) -> u64
     requires cells { cells < 2 ^ 22 }
     requires symbols { symbols ≤ MOST_SYMBOLS }

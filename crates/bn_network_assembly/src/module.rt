@@ -4,7 +4,7 @@ use bn_cell::CellTable;
 use bn_control::Control;
 use bn_element::Element;
 
-/// A module of a network (this project's own profile): the finite control, or a tape cell.
+/// A module of a network (own to this project): the finite control, or a tape cell.
 #[derive(Drop)]
 pub enum Module {
     /// The finite control.

@@ -33,7 +33,7 @@ pub(crate) fn network_modules(
     Ok(modules)
 }
 
-// How many symbols a tape, counted from 1, has.
+// The number of symbols of a tape, counted from 1.
 pub(crate) fn letters(machine: &QuadMachine, tape: u32) -> u32
     requires machine { IsWithinLimits machine.now }
     requires first { 1 ≤ tape }
@@ -44,7 +44,7 @@ pub(crate) fn letters(machine: &QuadMachine, tape: u32) -> u32
     machine.symbols(tape)
 }
 
-// A tape's cells for so many symbols.
+// Adds a tape's cells for this number of symbols.
 fn push_row(modules: &mut Vec<Module>, symbols: u32, count: u32) -> Result<(), NoMemory>
     requires { IsCellSize symbols }
     ensures { OnOk result (IsRow modules.old.items symbols count modules.new.items) }

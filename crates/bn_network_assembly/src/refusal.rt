@@ -1,16 +1,16 @@
-//! Why a network isn't assembled.
+//! The reasons why a network is not assembled.
 
 use bn_control::NoMemory;
 
-/// Why `assemble` and `assemble_words` refuse; tested in this order.
+/// The reasons why `assemble` and `assemble_words` refuse; tested in this order.
 #[derive(Clone, Copy, PartialEq, Eq, Debug)]
 pub enum AssembleRefusal {
     /// The word of `assemble` is longer than the right side of tape 1.
     WordOutside {
-        /// The number of the word's letters.
+        /// The number of the word's letters, the right side that it needs.
         needs: u32,
     },
-    /// The flat board would have more than `MOST_ELEMENTS` elements.
+    /// The flat circuit would have more than `MOST_ELEMENTS` elements.
     Elements {
         /// The number of elements that it would have.
         count: u64,

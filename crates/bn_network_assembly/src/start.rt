@@ -1,4 +1,4 @@
-//! The states in which a network starts.
+//! The states of a network's modules at the start.
 ghost use Rattle.std.specs.Prelude.{◌≡◌, ◌+◌, ◌-◌, ◌^◌, ◌<◌, ◌≤◌, ◌++◌, length, IfOk, OnOk};
 ghost use Rattle.bn_control.specs.Controlled.{IsWithinLimits};
 ghost use Rattle.bn_network.specs.Controls.{symbol_count};
@@ -17,7 +17,7 @@ use bn_quad::QuadMachine;
 use std::alloc::Global;
 
 // The state of each module at the start: the control in its first state, the words on their tapes from cell 1 on, all
-// else blank, and the heads at 0.
+// other cells blank, and the heads at 0.
 pub(crate) fn start_states(
     alloc: Global,
     machine: &QuadMachine,
@@ -55,7 +55,7 @@ pub(crate) fn start_states(
     Ok(states)
 }
 
-// The states of a tape's cells, from `left` cells left of position 0 to `right` cells right of it.
+// Adds the states of a tape's cells, from `left` cells left of position 0 to `right` cells right of it.
 fn push_cells(
     states: &mut Vec<u32>,
     symbols: u32,
@@ -74,7 +74,7 @@ fn push_cells(
     Ok(())
 }
 
-// The state of a cell, counted from the first one.
+// The state of a cell at the start; cells are counted from the first one, from 0.
 fn start_state(symbols: u32, left: u32, cell: u32, word: &[u32]) -> u32
     ensures { result ≡ start_state symbols left word.now cell }
 {

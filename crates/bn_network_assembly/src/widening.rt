@@ -1,4 +1,4 @@
-//! The first window for a word, and wider ones.
+//! The first window for a word, and wider windows.
 
 ghost use Rattle.std.specs.Prelude.{◌≡◌, ◌≤◌, length};
 ghost use Rattle.bn_base.specs.declared.limits.TheConstants.{MOST_COUNT};
@@ -8,8 +8,8 @@ ghost use Rattle.bn_network_assembly.specs.Widening.{IsEnd, first_window, number
 use crate::windows::Windows;
 use bn_machine::Side;
 
-/// The first window in which a word is run: room for the word on the right of tape 1, and one of everything else. It
-/// takes no memory. (This project's own profile.)
+/// The first window in which a word is run: the right side of tape 1 has room for the word, and at least one cell;
+/// every other side has one cell. It takes no memory. (Own to this project.)
 pub fn first_windows(word: &[u32]) -> Windows
     requires { length word.now ≤ MOST_COUNT }
     ensures { limits_of result ≡ first_window word.now }
@@ -22,8 +22,8 @@ pub fn first_windows(word: &[u32]) -> Windows
     }
 }
 
-/// The window with the number of one end doubled, an end being either end of tape 1 or the right end of tape 2 or of
-/// tape 3. It takes no memory. (This project's own profile.)
+/// The window with the number of one end doubled: either end of tape 1, or the right end of tape 2 or of tape 3. It
+/// takes no memory. (Own to this project.)
 pub fn widen(windows: &Windows, tape: u32, side: Side) -> Windows
     requires end { IsEnd tape side }
     requires some { 1 ≤ number_at (limits_of windows.now) tape side }

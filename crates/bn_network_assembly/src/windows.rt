@@ -1,17 +1,17 @@
 //! The window of cells of each tape.
 
-/// The window of each tape (this project's own profile): tape 1, the work tape, has its cells at the positions from
-/// minus `left1` to `right1`, tape 2, the history, from 0 to `right2`, and tape 3, the output, from 0 to `right3`. A
-/// network takes sides of at most `MOST_COUNT` cells.
+/// The window of each tape (own to this project): tape 1, the work tape, has its cells at the positions from minus
+/// `left1` to `right1`, tape 2, the history, from 0 to `right2`, and tape 3, the output, from 0 to `right3`. Each
+/// side of a network's window has at most `MOST_COUNT` cells.
 #[derive(Clone, Copy, PartialEq, Eq, Debug)]
 pub struct Windows {
-    /// The cells of tape 1 left of position 0.
+    /// The number of cells of tape 1 left of position 0.
     pub left1: u32,
-    /// The cells of tape 1 right of position 0.
+    /// The number of cells of tape 1 right of position 0.
     pub right1: u32,
-    /// The cells of tape 2 right of position 0: as many steps the one-tape machine can make.
+    /// The number of cells of tape 2 right of position 0: the one-tape machine can make this many steps.
     pub right2: u32,
-    /// The cells of tape 3 right of position 0.
+    /// The number of cells of tape 3 right of position 0.
     pub right3: u32,
 }
 
@@ -21,7 +21,7 @@ impl Windows {
     ghost use Rattle.bn_network.specs.Limits.{AreSmall};
     ghost use Rattle.bn_network_assembly.specs.Assembled.{limits_of};
 
-    /// How many cells a tape, counted from 1 to 3, has. It takes no memory.
+    /// The number of cells of a tape, counted from 1 to 3. It takes no memory.
     pub fn cells(&self, tape: u32) -> u32
         requires first { 1 ≤ tape }
         requires last { tape ≤ 3 }
@@ -35,7 +35,8 @@ impl Windows {
         }
     }
 
-    /// The module of the first cell of a tape, counted from 1 to 3; the control is module 0. It takes no memory.
+    /// The number of the module that is a tape's first cell; tapes are counted from 1 to 3, and the control is module
+    /// 0. It takes no memory.
     pub fn first_cell(&self, tape: u32) -> u32
         requires first { 1 ≤ tape }
         requires last { tape ≤ 3 }

@@ -44,7 +44,7 @@ pub(crate) fn network_wires(
     Ok(wires)
 }
 
-// The wires of a tape whose lines at the control begin with this one, from its first cell's module on.
+// Adds the wires of a tape: its ports at the control begin with `line`, and its first cell is module `first`.
 fn push_tape(
     wires: &mut Vec<Wire>,
     line: u32,
@@ -66,7 +66,7 @@ fn push_tape(
     Ok(())
 }
 
-// The wires between a cell and its right neighbour, both ways.
+// Adds the wires between a cell and its right neighbour, in both directions.
 fn push_joint(wires: &mut Vec<Wire>, cell: u32, symbols: u32) -> Result<(), NoMemory>
     requires cell { cell + 1 < 2 ^ 32 }
     requires symbols { symbols ≤ MOST_SYMBOLS }
@@ -82,7 +82,8 @@ fn push_joint(wires: &mut Vec<Wire>, cell: u32, symbols: u32) -> Result<(), NoMe
     Ok(())
 }
 
-// The wires from `count` lines, from this one on, to as many of another module.
+// Adds the wires from `count` consecutive ports of a module, the first of which is `from`, to as many of another
+// module.
 fn push_bundle(wires: &mut Vec<Wire>, from: Line, to: Line, count: u32) -> Result<(), NoMemory>
     requires from { from.line + count < 2 ^ 32 }
     requires to { to.line + count < 2 ^ 32 }

@@ -1,6 +1,6 @@
 //! Words on the three tapes.
 
-/// The symbols of the words that stand on the three tapes at the start, each from cell 1 on.
+/// The symbols of the words on the three tapes at the start, each from cell 1 on.
 #[derive(Clone, Copy)]
 pub struct TapeSymbols<'a> {
     /// The word on tape 1.

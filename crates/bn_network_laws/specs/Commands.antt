@@ -1,5 +1,5 @@
--- One command of the control to one tape of the network (this project's own profile): what the row of its cells does
--- with it, in how many moves and at what cost.
+-- One command of the control to one tape of the network (own to this project): its effect on the row of the tape's
+-- cells, the number of moves, and the cost.
 use Rattle.std.specs.Prelude.{◌≡◌, ℕ, zero, suc, ◌+◌, ◌-◌, ◌*◌, ◌<◌, ◌≤◌, Bool, false, not, List, slice_get, ◌⊎◌}
 use Rattle.bn_lists.specs.Runs.{Passes}
 use Rattle.bn_circuits.specs.Circuits.{Circuit}
@@ -35,7 +35,7 @@ right_of l (suc (suc (suc t))) = l.output
 abbrev pub ShowsAt : Quadruples → Limits → ℕ → List ℕ → Tape → Type 0
 ShowsAt m l t states tape = ShowsTape states (first_cell l t) (symbol_count m t) (left_of l t) (right_of l t) tape
 
--- they show it, wherever its head is
+-- the cells of tape t show this tape, wherever its head is
 abbrev pub ShowsCellsAt : Quadruples → Limits → ℕ → List ℕ → Tape → Type 0
 ShowsCellsAt m l t states tape = ShowsCells states (first_cell l t) (symbol_count m t) (left_of l t) (right_of l t) tape
 
@@ -47,8 +47,8 @@ head_of l t tape = head_cell (left_of l t) tape
 abbrev pub tape_elements : Quadruples → Limits → ℕ → ℕ
 tape_elements m l t = cells_in l t * cell_size (symbol_count m t)
 
--- a command that stays in the window: its answer, the tape after it, and how many moves pass from the first cell's line
--- to the control's
+-- a command that stays in the window: its reply, the tape after it, and the number of moves from the first cell's
+-- port to the control's port
 pub data Does (m : Quadruples) (l : Limits) (t : ℕ) (tape : Tape) (command answer : CellLine) (after : Tape)
     (n : ℕ) : Type 0 where
   does_read : command ≡ Read → answer ≡ Answer (scanned tape) → after ≡ write tape 0 → n ≡ 2 * head_of l t tape + 1
@@ -67,19 +67,19 @@ abbrev pub way_to : Side → Shift
 way_to side.Left = way.Left
 way_to side.Right = way.Right
 
--- the loose line at a side of the row
+-- the loose port at a side of the row
 abbrev pub loose_place : Quadruples → Limits → ℕ → Side → Place
 loose_place m l t side.Left = Left (first_cell l t) (line_number (symbol_count m t) TakeLeft)
 loose_place m l t side.Right = Left (first_cell l t + (cells_in l t - 1)) (line_number (symbol_count m t) TakeRight)
 
--- the test says no where the signal is past the first cell, or enters the first cell by a line that is none of a
+-- the test is false where the signal is past the first cell, or enters the first cell by a port that is not that of a
 -- command
 pub record IsCalm (m : Quadruples) (l : Limits) (t : ℕ) (test : Situation → Bool) : Type 0 where
   pub calm : (x : Situation) (p i : ℕ) → p < cells_in l t → (0 < p) ⊎ (symbol_count m t + 2 < i)
       → x.place ≡ Enter (first_cell l t + p) i → test x ≡ false
 
--- from s the signal comes back in n moves, the test saying no strictly between; the cells show the tape after it, and
--- all other modules are as before
+-- from s the signal returns to the control in n moves, and the test is false strictly between; the cells show the
+-- tape after the command, and all other modules are as before
 pub record Answered (m : Quadruples) (l : Limits) (k : Circuit) (test : Situation
     → Bool) (t : ℕ) (s : Situation) (answer : CellLine) (after : Tape) (n : ℕ) : Type 0 where
   pub last : Situation
@@ -90,7 +90,7 @@ pub record Answered (m : Quadruples) (l : Limits) (k : Circuit) (test : Situatio
   pub others : (e : ℕ) → (e < first_cell l t) ⊎ (first_cell l t + cells_in l t ≤ e)
       → slice_get last.states e ≡ slice_get s.states e
 
--- from s the signal leaves by the loose line at this side; the cells show the shifted tape, whose head has left them,
+-- from s the signal leaves by the loose port at this side; the cells show the shifted tape, whose head has left them,
 -- and all other modules are as before
 pub record Parted (m : Quadruples) (l : Limits) (k : Circuit) (test : Situation
     → Bool) (t : ℕ) (s : Situation) (tape : Tape) (to : Side) : Type 0 where

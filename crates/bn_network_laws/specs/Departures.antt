@@ -1,4 +1,4 @@
--- A shift that would take the head out of its window: how far the signal goes until it leaves by a loose line.
+-- A shift that would move the head out of its window: the number of moves until the signal leaves by a loose port.
 use Rattle.std.specs.Prelude.{◌≡◌, ℕ, ◌+◌, ◌*◌, ◌≤◌, Bool, List}
 use Rattle.bn_circuits.specs.Circuits.{Circuit}
 use Rattle.bn_circuits.specs.declared.place.Place.TheVariants.{Enter}
@@ -15,13 +15,13 @@ use Rattle.bn_network.specs.Controls.{ControlState, symbol_count, shift_line}
 use Rattle.bn_network.specs.Networks.{IsNetwork, IsTape, first_cell, left_of}
 use Rattle.bn_network_laws.specs.Commands.{IsCalm, ShowsAt, Parted, head_of, right_of, tape_elements, way_to}
 
--- the number of moves to the loose line at a side
+-- the number of moves to the loose port at a side
 abbrev pub leaving_moves : Limits → ℕ → Tape → Side → ℕ
 leaving_moves l t tape side.Left = 1
 leaving_moves l t tape side.Right = head_of l t tape + 1
 
--- The signal leaves by the loose line at this side in that many moves, and the next step, which can't be made, costs
--- nothing.
+-- The signal leaves by the loose port at this side in that many moves, and the next step, for which there is no move,
+-- costs nothing.
 pub record Departs (m : Quadruples) (l : Limits) (k : Circuit) (test : Situation
     → Bool) (t : ℕ) (s : Situation) (tape : Tape) (to : Side) : Type 0 where
   pub parted : Parted m l k test t s tape to

@@ -1,4 +1,4 @@
--- How a run of the network ends, for each reason for which the machine of quadruples goes on no more.
+-- How a run of the network ends, for each reason why the machine of quadruples makes no further step.
 use Rattle.std.specs.Prelude.{◌≡◌, ℕ, zero, suc, ◌+◌, ◌-◌, ◌<◌, nat_le, if◌then◌else◌, List, [], ◌∷◌, Some}
 use Rattle.bn_circuits.specs.declared.place.Place.TheVariants.{Enter, Left}
 use Rattle.bn_machine.specs.Tape.{Tape, scanned, shift, write}
@@ -28,11 +28,11 @@ put_tape c (suc zero) x = record { state = c.state; one = x; two = c.two; three 
 put_tape c (suc (suc zero)) x = record { state = c.state; one = c.one; two = x; three = c.three }
 put_tape c (suc (suc (suc t))) x = record { state = c.state; one = c.one; two = c.two; three = x }
 
--- the configuration from which a tape's scanned symbol has been taken
+-- the configuration without a tape's scanned symbol, which has been replaced by the blank
 abbrev pub taken_from : Configuration ℕ → ℕ → Configuration ℕ
 taken_from c t = put_tape c t (write (tape_of c t) 0)
 
--- a tape after a deed's read: the symbol that it reads has been taken off
+-- a tape after a deed's read: the symbol read has been replaced by the blank
 abbrev pub read_by : Deed → Tape → Tape
 read_by (Rewrite read written) x = write x 0
 read_by (Move s) x = x
@@ -42,12 +42,12 @@ abbrev pub shift_by : Deed → Tape → Tape
 shift_by (Rewrite read written) x = x
 shift_by (Move s) x = shift x s
 
--- tape t after the reads of a step, and after the shifts of the tapes up to this one
+-- a tape after the reads of a step, and after the shifts of the tapes up to `last`
 abbrev pub shifted_to : ℕ → ℕ → Deed → Tape → Tape
 shifted_to last t d x = if nat_le t last then shift_by d (read_by d x) else read_by d x
 
--- The tapes where the head of tape t leaves its window within a step by this quadruple: all that it reads has been
--- taken off, the tapes up to t have been shifted, and nothing has been written.
+-- The tapes when the head of tape t leaves its window within a step by this quadruple: all symbols that it reads have
+-- been replaced by the blank, the tapes up to t have been shifted, and nothing has been written.
 abbrev pub left_at : ℕ → Rule ℕ → Configuration ℕ → Configuration ℕ
 left_at t r c = record {
   state = c.state;
@@ -56,18 +56,20 @@ left_at t r c = record {
   three = shifted_to t 3 r.three c.three;
 }
 
--- The machine is stuck at its first read: the first command of the state reads tape t, and no quadruple that leaves the
--- state reads there first what stands there. Nothing is said of a stop at a later read.
+-- The machine is stuck at its first read: the first command of the state reads tape t, and no quadruple that leaves
+-- the state reads the scanned symbol on this tape as its first read. This record does not cover a stop at a later
+-- read.
 pub record IsStoppedAt (m : Quadruples) (c : Configuration ℕ) (t : ℕ) : Type 0 where
   pub tape : IsTape t
   pub entry : IsEntry m c.state (Reads c.state [], to_tape t Read)
   pub none : (n : ℕ) (r : Rule ℕ) (rest : List (ℕ × ℕ)) → nth m.rules n ≡ Some r → r.from ≡ c.state
       → reads_of r ≡ (t, scanned (tape_of c t)) ∷ rest → ⊥
 
--- How the network's run ends: by the control's line to the outside, with the tapes shown; at the control, with an
--- answer to its first read for which it has no move, and the tapes shown but for the symbol that was read; by the last
--- or by the first cell of a tape, with the tapes shown as they are within the step of which that shift is a part, so
--- that the head of this tape is in no cell.
+-- How the network's run ends. At the final state: the signal leaves by the control's port to the outside, and the
+-- cells show the tapes. Stuck: the signal is at the control, with a reply to its first read for which it has no move,
+-- and the cells show the tapes without the symbol that was read. Outside the window: the signal leaves by the last or
+-- the first cell of a tape. The cells show the tapes within the step that contains this shift, and no cell of this
+-- tape has the head.
 pub data EndsBy (m : Quadruples) (l : Limits) (names : List ControlState) (s : Situation) (c : Configuration ℕ) : Exit
     → Type 0 where
   by_end : s.place ≡ Left 0 0 → IsControlAt names s.states End → ShowsTapes m l s.states c
@@ -83,7 +85,7 @@ pub data EndsBy (m : Quadruples) (l : Limits) (names : List ControlState) (s : S
       → (d : Configuration ℕ) (step : Follows m.rules c d) → ShowsAllCells m l s.states (left_at t step.leads.rule c)
       → EndsBy m l names s c (Leaving t side.Left)
 
--- the reasons of which the law on the last moment speaks: all but a stop at a later read
+-- the reasons that the law on the last moment covers: all but a stop at a later read
 abbrev pub IsEarlyStop : Quadruples → Configuration ℕ → Exit → Type 0
 IsEarlyStop m c Finished = Unit {0}
 IsEarlyStop m c Stopped = (t : ℕ) × IsStoppedAt m c t

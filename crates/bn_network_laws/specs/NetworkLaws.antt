@@ -1,5 +1,5 @@
--- What the laws of this crate say, each a field of `Laws`: from moment to moment, for every uniform machine and every
--- window.
+-- The statements of this crate's laws, each a field of `Laws`: the network's path from moment to moment, for every
+-- uniform machine and every window.
 use Rattle.std.specs.Prelude.{◌≡◌, ℕ, ◌+◌, ◌*◌, ◌<◌, ◌≤◌, Bool, true, false, List, length, All, ◌⊎◌}
 use Rattle.bn_circuits.specs.Circuits.{Circuit}
 use Rattle.bn_machine.specs.Tape.{word_tape, blank_tape}
@@ -15,8 +15,8 @@ use Rattle.bn_network.specs.Networks.{IsNetwork, network_start, elements_by}
 use Rattle.bn_network.specs.Moments.{HasLetters, HasHeads, IsMomentOf, TellsMoments, Travels, quad_moves}
 use Rattle.bn_network_laws.specs.Ends.{EndsBy, IsEarlyStop}
 
--- From the start the network comes in one move of the control to the moment of the initial state: the word on tape 1
--- from cell 1 on, all else blank, the heads at 0.
+-- From the start the network reaches, in one move of the control, the moment of the initial state: the word is on
+-- tape 1 from cell 1 on, all other cells are blank, and the heads are at 0.
 abbrev pub FirstMoment : Type 0
 FirstMoment =
     (m : Quadruples) (l : Limits) (names : List ControlState) (k : Circuit) (test : Situation → Bool) (word : List ℕ)
@@ -31,8 +31,8 @@ FirstMoment =
       three = blank_tape;
     }) × (test t ≡ true)
 
--- From the moment of a configuration it comes to the moment of the one that follows, in a counted number of moves, with
--- no moment strictly between, at a bounded cost.
+-- From the moment of a configuration the network reaches the moment of the next configuration, in a counted number of
+-- moves, with no moment strictly between, at a bounded cost.
 abbrev pub NextMoment : Type 0
 NextMoment =
     (m : Quadruples) (l : Limits) (names : List ControlState) (k : Circuit) (test : Situation → Bool)
@@ -44,8 +44,9 @@ NextMoment =
     × Travels k test (quad_moves l by.rule c) (48 * elements_by m l (length names)) s t × IsMomentOf m l names k t d
     × (test t ≡ true)
 
--- From the moment of a configuration at which the machine goes on no more, for one of those reasons, the network comes
--- to its end, with no moment after the first; the cost is bounded, that of the move which can't be made among it.
+-- From the moment of a configuration at which the machine's run ends for one of those reasons, the network reaches
+-- its end, with no moment after the first. The cost is bounded, including that of the attempt at a move that does not
+-- exist.
 abbrev pub LastMoment : Type 0
 LastMoment =
     (m : Quadruples) (l : Limits) (names : List ControlState) (k : Circuit) (test : Situation → Bool)

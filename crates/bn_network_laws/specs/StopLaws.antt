@@ -1,5 +1,5 @@
--- At which read a machine of quadruples is stuck, and that its network stops there. `Laws` at the end is the contract
--- of this crate's one function.
+-- The read at which a machine of quadruples is stuck, and the law that its network stops there. `Laws` at the end is
+-- the contract of `stop_laws`.
 use Rattle.std.specs.Prelude.{◌≡◌, ℕ, ◌+◌, ◌*◌, ◌≤◌, Bool, false, List, length, ◌⊎◌}
 use Rattle.bn_circuits.specs.Circuits.{Circuit}
 use Rattle.bn_circuits.specs.Situations.{Situation, IsAtEnd}
@@ -23,8 +23,8 @@ StopsAreStuck = (m : Quadruples) (c : Configuration ℕ) → (IsNotLeft m c.stat
 abbrev pub StopsAreOne : Type 0
 StopsAreOne = (m : Quadruples) (c : Configuration ℕ) (t u : ℕ) → IsStuckAtRead m c t → IsStuckAtRead m c u → t ≡ u
 
--- n moves, with no moment behind the first, at no more than 48 element steps an element, those of the move that can't
--- be made among them
+-- n moves, with no moment after the first, at most at 48 element steps per element, including those of the attempt at
+-- a move that does not exist
 abbrev pub NetworksStop : Type 0
 NetworksStop =
     (m : Quadruples) (l : Limits) (names : List ControlState) (k : Circuit) (test : Situation → Bool)
@@ -36,12 +36,12 @@ NetworksStop =
     × StopsAtRead m l names u c t stop.rule × (test u ≡ false)
 
 pub record Laws : Type 0 where
-  -- Where no quadruple applies, none leaves the state, or the machine is stuck at the read of a tape.
+  -- If no quadruple applies, either no quadruple leaves the state, or the machine is stuck at the read of a tape.
   pub stops_are_there : StopsAreThere
-  -- Where none leaves the state, or the machine is stuck at the read of a tape, no quadruple applies.
+  -- If no quadruple leaves the state, or the machine is stuck at the read of a tape, no quadruple applies.
   pub stops_are_stuck : StopsAreStuck
-  -- A machine is stuck at the read of one tape at most.
+  -- A machine is stuck at the read of at most one tape.
   pub stops_are_one : StopsAreOne
-  -- For every uniform machine and window: from the moment of a configuration that is stuck at a read, the first or a
-  -- later one, the network comes to the answer of this read in some moves, at a bounded cost, and stops there.
+  -- For every uniform machine and window: if a moment's configuration is stuck at a read, the network reaches the
+  -- reply to this read at a bounded cost, and stops there.
   pub networks_stop : NetworksStop

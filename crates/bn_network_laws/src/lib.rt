@@ -1,6 +1,6 @@
-//! Laws on the network of the finite control and the tape cells: what a row of cells does with one command, the
-//! network from moment to moment, in counted moves, and where it stops with a machine that can't go on. Definitions
-//! and laws; no code.
+//! Laws on the network of the finite control and the tape cells: the effect of one command on the cells of a tape,
+//! the network's path from moment to moment in counted moves, and the place where it stops with a machine that is
+//! stuck. Definitions and laws; no code.
 #![tactic(auto)]
 
 mod laws;

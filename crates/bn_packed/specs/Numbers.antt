@@ -1,13 +1,13 @@
--- The numbers of lines. They go in blocks of 1,024 elements: first come the north lines of a block's elements, then its
--- east, its south and its west lines. So lines of one name lie side by side, since a signal often comes to lines of one
--- name one after another.
+-- The numbers of ports, in blocks of 1,024 elements: first the north ports of the elements of a block, then the east,
+-- the south and the west ports. Ports of one direction lie side by side, since a signal often enters ports of one
+-- direction one after another.
 use Rattle.std.specs.Prelude.{ℕ, ◌+◌, ◌*◌, ◌/◌, ◌%◌}
 use Rattle.bn_circuits.specs.declared.line.Line.{Line}
 
--- the line with this number
+-- the port with this number
 abbrev pub line_of : ℕ → Line
 line_of n = record { element = 1024 * (n / 1024 / 4) + n % 1024; line = n / 1024 % 4 }
 
--- the number of a line
+-- the number of a port
 abbrev pub number_of : Line → ℕ
 number_of l = 1024 * (4 * (l.element / 1024) + l.line) + l.element % 1024

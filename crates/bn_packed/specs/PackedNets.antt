@@ -14,16 +14,16 @@ pub record PackedNet : Type 0 where
   pub net : Parts Rotary
   pub config : Config
 
--- what a packed netlist keeps: its net is a circuit, and the configuration is one of it
+-- the invariant of a packed netlist: its net is a circuit, and the configuration is one of it
 pub record IsPacked (net : Parts Rotary) (c : Config) : Type 0 where
   pub circuit : IsCircuit (rotary_circuit net)
   pub good : IsConfig (rotary_circuit net) c
 
--- the configuration with these bars, the signal at this place, after so many steps
+-- the configuration with these bars, the signal at this place, and this many steps
 abbrev pub config_at : List ℕ → Place → ℕ → Config
 config_at bars place steps = record { states = bars; place = place; steps = steps }
 
--- the net whose wires these are, in numbers of whatever size
+-- the net of these wires, for numbers of either size
 abbrev pub net_in : Wires → Parts Rotary
 net_in (Narrow wiring) = wiring.net
 net_in (Wide wiring) = wiring.net

@@ -1,4 +1,4 @@
--- Runs in either direction, of at most so many steps, and as many as can be made.
+-- Runs in either direction, of at most a given number of steps, which stop early only if no further step can be made.
 use Rattle.std.specs.Prelude.{◌≡◌, ℕ, ◌<◌, ◌≤◌, List}
 use Rattle.bn_lists.specs.Runs.{Reaches}
 use Rattle.bn_circuits.specs.Circuits.{Circuit, IsConfig, Goes, IsStuck, IsFirst}
@@ -23,7 +23,7 @@ abbrev pub IsAtEnd : Direction → Circuit → Config → Type 0
 IsAtEnd Forward k c = IsStuck k c
 IsAtEnd Backward k c = IsFirst k c
 
--- c after e steps in this direction, or after as many as can be made
+-- the configuration e steps after c in this direction; if fewer can be made, the last one
 abbrev pub run_along : Direction → Circuit → Config → ℕ → Config
 run_along Forward k c e = run k c e
 run_along Backward k c e = back k c e
@@ -38,8 +38,8 @@ abbrev pub places_along : Direction → Circuit → ℕ → Config → List Plac
 places_along Forward k e c = places k e c
 places_along Backward k e c = places_back k e c
 
--- A run in this direction of at most e steps, which made n, from c to d: as many as can be made, so that none is left
--- where there are fewer; n steps against the direction lead from d back to c; and d is a configuration.
+-- A run in this direction of at most e steps, which made n, from c to d: if n is less than e, no further step can be
+-- made from d; n steps against the direction lead from d back to c; and d is a configuration.
 pub record IsLongestRun (way : Direction) (k : Circuit) (e n : ℕ) (c d : Config) : Type 0 where
   pub bound : n ≤ e
   pub made : LeadsTo way k n c d

@@ -10,9 +10,9 @@ use bn_element::VERTICAL;
 use std::alloc::Global;
 use std::marker::Model;
 
-/// The bars of elements, 64 in a word: a bit is 1 where the bar lies along north and south. Of the 64 words of a block
-/// of elements 16 are used, so that a shift and a mask lead from a line's number to the word of its element's bar.
-/// Clauses see the list of states.
+/// The bars of elements, 64 in a word: a bit is 1 if the bar lies along north and south. Each block of 1,024 elements
+/// has 64 words, of which 16 are used. With this layout a shift and a mask compute the word of an element's bar from
+/// the number of a port. Contracts see the list of states.
 #[derive(Debug, Drop)]
 pub(crate) struct Bars {
     count: usize,
@@ -63,9 +63,9 @@ impl Bars {
         ((self.words[word_of(element)] >> (element % 64)) & 1) as u32
     }
 
-    /// Lets the signal cross an element from the line of this number, and answers the number of the line across from
-    /// the output line: the same number where the signal goes straight. The bar turns where the signal comes across it,
-    /// and the number becomes that of a neighbouring line.
+    /// Moves the signal across an element from the port with this number. Returns the number of the port across from
+    /// the output port, which is the same number if the signal goes straight. If the signal comes across the bar, the
+    /// bar turns, and the result is the number of a neighbouring port.
     #[tactic(auto, using(crate::proofs::CrossLemmas::crossings))]
     pub(crate) fn cross(&mut self, number: usize) -> usize
         requires { (line_of number).element < length self.old }
@@ -88,8 +88,8 @@ impl Bars {
         }
     }
 
-    /// Takes the signal's crossing of an element back from the output line, and answers the line by
-    /// which it came.
+    /// Undoes the signal's crossing of an element, given the output port, and returns the port by which the signal
+    /// entered.
     #[tactic(auto, using(crate::proofs::CrossLemmas::back_line))]
     pub(crate) fn cross_back(&mut self, element: u32, line: u32) -> u32
         requires element { element < length self.old }
@@ -101,8 +101,8 @@ impl Bars {
         (into / BLOCK % LINES) as u32
     }
 
-    /// The same by numbers: from that of the line across from the output line it answers that of the line by which the
-    /// signal came.
+    /// The same by numbers: from the number of the port across from the output port, returns the number of the port by
+    /// which the signal entered.
     #[tactic(auto, using(crate::proofs::CrossLemmas::crossings_back))]
     pub(crate) fn cross_back_at(&mut self, number: usize) -> usize
         requires { (line_of number).element < length self.old }
@@ -125,7 +125,7 @@ impl Bars {
         }
     }
 
-    /// Gives an element's bar this state.
+    /// Sets an element's bar to this state.
     #[tactic(auto, using(crate::proofs::PutLemmas::put_same, crate::proofs::PutLemmas::put_turned))]
     pub(crate) fn put(&mut self, element: usize, state: u32)
         requires element { element < length self.old }
@@ -137,7 +137,7 @@ impl Bars {
         }
     }
 
-    /// The same bars once more.
+    /// A copy of the bars.
     pub(crate) fn copy(&self, alloc: Global) -> Result<Bars, NoMemory>
         ensures { IfOk result (λ b. b ≡ self.now) }
     {
@@ -148,7 +148,7 @@ impl Bars {
         })
     }
 
-    // So many bars along west and east. A block has 64 words, one for 16 elements.
+    // This many bars along west and east. A block has 64 words, one for 16 elements.
     fn horizontal(alloc: Global, count: usize) -> Result<Bars, NoMemory>
         ensures { IfOk result (λ b. b ≡ replicate count 0) }
     {
@@ -156,7 +156,7 @@ impl Bars {
         Ok(Bars { count, words })
     }
 
-    // Gives a bar that lies along west and east this state.
+    // Sets a bar that lies along west and east to this state.
     fn set(&mut self, element: usize, state: u32)
         requires bar { slice_get self.old element ≡ Some 0 }
         requires state { state < 2 }
@@ -176,7 +176,7 @@ impl Bars {
     }
 }
 
-// The number of the word of an element's bar.
+// The index of the word of an element's bar.
 fn word_of(element: usize) -> usize
     ensures { result ≡ word_of element }
 {

@@ -1,4 +1,4 @@
-//! The line to which another one leads, as one number.
+//! The port to which another one leads, encoded as one number.
 
 ghost use Rattle.std.specs.Prelude.{◌≡◌, ◌/◌, ◌^◌, ◌<◌, ◌≤◌, [], length, map, replicate, None, Some, slice_get};
 ghost use Rattle.std.specs.Prelude.{vec_capacity};
@@ -7,57 +7,56 @@ ghost use Rattle.bn_packed.specs.Ends.{nth_line, opposite, narrow_end, wide_end,
 
 use bn_circuits::Line;
 
-/// The number of an element's input lines, and of its output lines.
+/// The number of an element's input ports, and of its output ports.
 pub(crate) const LINES: usize = 4;
 
-/// The number of elements in a block, by which lines are numbered.
+/// The number of elements in a block, by which ports are numbered.
 pub(crate) const BLOCK: usize = 1_024;
 
-/// The greatest number of elements whose lines have numbers of 32 bits, with one number left for
-/// `LOOSE`.
+/// The greatest number of elements whose ports have numbers of 32 bits, with one number reserved for `LOOSE`.
 pub(crate) const NARROW: u32 = 1_073_741_823;
 
-/// What stands for no wire among numbers of 32 bits.
+/// The number of 32 bits that denotes no wire.
 const LOOSE: u32 = 4_294_967_295;
 
-/// What stands for no wire among numbers of 64 bits.
+/// A number of 64 bits that denotes no wire.
 const WIDE_LOOSE: u64 = 18_446_744_073_709_551_615;
 
-/// The greatest number of a line whose element has a number of 32 bits.
+/// The greatest number of a port whose element has a number of 32 bits.
 const WIDE_GREATEST: u64 = 17_179_869_183;
 
-/// A number that tells to which line another one leads, or that there is no wire.
+/// A number that denotes the port to which another one leads, or that there is no wire.
 pub(crate) trait Cell: Copy {
     ghost use Rattle.std.specs.Prelude.{◌≤◌, ℕ, [], Option, map, replicate, None, Some, is_none, false};
     ghost use Rattle.std.specs.Prelude.{vec_capacity};
     ghost use Rattle.bn_circuits.specs.declared.line.Line.{Line};
     ghost use Rattle.bn_packed.specs.Numbers.{line_of};
 
-    /// What it tells.
+    /// The port that the number denotes, or `None` for no wire.
     ghost tells: { Self → Option Line };
 
-    /// The number of elements whose lines it can tell.
+    /// The number of elements whose ports it can denote.
     ghost limit: { ℕ };
 
-    /// What tells the line with this number.
+    /// The value that denotes the port with this number.
     fn of(number: usize) -> Self
         requires { IsLineBelow limit (line_of number) }
         ensures { tells result ≡ Some (line_of number) };
 
-    /// The end that it tells.
+    /// The port that it denotes, or `None` for no wire.
     fn end(self) -> Option<Line>
         ensures { result ≡ tells self };
 
-    /// Whether it tells that there is no wire.
+    /// Whether it denotes that there is no wire.
     fn is_loose(self) -> bool
         ensures { result ≡ is_none (tells self) };
 
-    /// The number of the line that it tells, where there is a wire.
+    /// The number of the port that it denotes, which the contract requires to exist.
     fn number(self) -> usize
         requires { is_none (tells self) ≡ false }
         ensures { tells self ≡ Some (line_of result) };
 
-    /// So many numbers that tell of no wire, in this room, which is empty and great enough.
+    /// A list of `count` values that denote no wire, built in `room`, which is empty and has enough capacity.
     fn loose(room: Vec<Self>, count: usize) -> Vec<Self>
         requires empty { room.items ≡ [] }
         requires room { count ≤ vec_capacity room }
@@ -97,7 +96,7 @@ impl Cell for u32 {
         ensures { map narrow_end result.items ≡ replicate count None }
     {
         let mut cells = room;
-        // There is room. (For the prover: this method's clauses are the trait's, once more.)
+        // The capacity suffices. (For the prover, this method repeats the trait's clauses.)
         cells.resize(count, LOOSE).unwrap();
         cells
     }
@@ -136,14 +135,14 @@ impl Cell for u64 {
         ensures { map wide_end result.items ≡ replicate count None }
     {
         let mut cells = room;
-        // There is room. (For the prover: this method's clauses are the trait's, once more.)
+        // The capacity suffices. (For the prover, this method repeats the trait's clauses.)
         cells.resize(count, WIDE_LOOSE).unwrap();
         cells
     }
 }
 
-/// The number of a line: in blocks of elements, first the north lines of a block, then the east, the south and the west
-/// ones.
+/// The number of a port: in blocks of elements, first the north ports of a block, then the east, the south and the
+/// west ones.
 pub(crate) fn line_number(line: Line) -> usize
     requires { line.line < 4 }
     ensures { result ≡ number_of line }
@@ -153,7 +152,7 @@ pub(crate) fn line_number(line: Line) -> usize
     BLOCK * row + element % BLOCK
 }
 
-/// The line with this number.
+/// The port with this number.
 pub(crate) fn line_of(number: usize) -> Line
     requires { (line_of number).element < 2 ^ 32 }
     ensures { result ≡ line_of number }
@@ -164,14 +163,14 @@ pub(crate) fn line_of(number: usize) -> Line
     }
 }
 
-/// The element of the line with this number.
+/// The element of the port with this number.
 pub(crate) fn element_of(number: usize) -> usize
     ensures { result ≡ (line_of number).element }
 {
     BLOCK * (number / BLOCK / LINES) + number % BLOCK
 }
 
-/// The line in this place among those of all elements, element by element.
+/// The port at this place, counted from 0, in the list of the ports of all elements, element by element.
 pub(crate) fn nth_line(place: usize) -> Line
     requires { place / 4 < 2 ^ 32 }
     ensures { result ≡ nth_line place }
@@ -182,7 +181,7 @@ pub(crate) fn nth_line(place: usize) -> Line
     }
 }
 
-/// The line across the element from this one.
+/// The port across the element from this one.
 pub(crate) fn opposite(line: Line) -> Line
     ensures { result ≡ opposite line }
 {
@@ -192,7 +191,7 @@ pub(crate) fn opposite(line: Line) -> Line
     }
 }
 
-/// What is kept for the line with this number.
+/// The value stored for the port with this number.
 pub(crate) fn cell_at<C: Cell>(cells: &[C], number: usize) -> C
     requires { number < length cells.now }
     ensures { slice_get (map C.tells cells.now) number ≡ Some (C.tells result) }

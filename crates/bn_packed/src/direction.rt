@@ -1,10 +1,10 @@
 //! The directions of runs.
 
-/// In which direction a run makes its steps.
+/// The direction in which a run makes its steps.
 #[derive(Clone, Copy, Debug)]
 pub enum Direction {
-    /// It makes steps.
+    /// The run makes steps.
     Forward,
-    /// It takes steps back.
+    /// The run undoes steps.
     Backward,
 }

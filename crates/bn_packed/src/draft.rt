@@ -1,4 +1,4 @@
-//! Wires of a net that are put in some at a time, before the net is packed.
+//! Wires of a net that are added some at a time, before the net is packed.
 
 ghost use Rattle.std.specs.Prelude.{◌≡◌, ◌<◌, ◌^◌, [], ◌++◌, List, IfOk};
 ghost use Rattle.bn_circuits.specs.declared.line.Wire.{Wire};
@@ -10,9 +10,9 @@ use bn_circuits::{NoMemory, Wire};
 use std::alloc::Global;
 use std::marker::Model;
 
-/// Wires of a net of rotary elements, put in some at a time, in the form in which they are packed: so no list of all of
-/// them need stand in memory. Elements and lines are counted from 0. Clauses see the number of elements, and where
-/// lines lead so far.
+/// Wires of a net of rotary elements, added some at a time and stored in packed form, so that no list of all of them
+/// is needed in memory. Elements and ports are counted from 0. Contracts see the number of elements, and where ports
+/// lead so far.
 #[derive(Debug, Drop)]
 pub struct Draft {
     ends: Ends<u32>,
@@ -27,7 +27,7 @@ impl Model for Draft {
 }
 
 impl Draft {
-    /// A draft of so many elements, fewer than 2 to the power 30, with no wire.
+    /// A draft of this many elements, fewer than 2 to the power 30, with no wire.
     pub fn new(alloc: Global, count: u32) -> Result<Draft, NoMemory>
         requires { count < 2 ^ 30 }
         ensures { IfOk result (AreDrawn count []) }
@@ -37,8 +37,8 @@ impl Draft {
         })
     }
 
-    /// Puts in these wires, each between lines of the draft's elements, behind those put in before. The draft then has
-    /// all of them, as long as no two leave one line or lead to one. Takes no memory.
+    /// Adds these wires, each between ports of the draft's elements, after those added before. The draft then holds
+    /// all of them, if no two leave the same port and no two lead to the same port. Takes no memory.
     pub fn add(&mut self, wires: &[Wire])
         requires fitting { AreFitting self.old.elements wires.now }
         ensures elements { self.new.elements ≡ self.old.elements }
@@ -55,7 +55,7 @@ impl Draft {
         self.ends.elements()
     }
 
-    /// The ends, of which it is packed.
+    /// The ends of the draft, from which the net is packed.
     pub(crate) fn into_ends(self) -> Ends<u32>
         ensures same { result ≡ self }
         ensures few { self.elements < 2 ^ 32 }

@@ -1,4 +1,4 @@
-//! For each input line of the elements another one, in one array.
+//! For each input port of the elements another port, in one array.
 
 ghost use Rattle.std.specs.Prelude.{◌≡◌, ◌+◌, ◌*◌, ◌≤◌, [], length, map, Some, IfOk, slice_get, slice_set};
 ghost use Rattle.std.specs.Prelude.{replicate, None, vec_capacity};
@@ -9,9 +9,9 @@ use bn_circuits::{Line, NoMemory, Wire};
 use std::alloc::Global;
 use std::marker::Model;
 
-/// For each input line of so many elements another one: that to which the signal comes next where it goes straight, or
-/// that from which it came so. They stand by the lines' numbers, in whole blocks. Clauses see the number of elements,
-/// and the list of ends element by element.
+/// For each input port of this many elements another port: the one that the signal enters next if it crosses the
+/// element straight, or the one from which it came, crossing its element straight. The ends are stored by the numbers
+/// of the ports, in whole blocks. Contracts see the number of elements, and the list of ends element by element.
 #[derive(Debug, Drop)]
 pub(crate) struct Ends<C: Cell> {
     elements: u32,
@@ -37,7 +37,7 @@ impl<C: Cell> Ends<C> {
     ghost use Rattle.bn_packed.specs.Numbers.{line_of};
     ghost use Rattle.bn_packed.specs.Ends.{EndList, IsLineBelow, AreTargets, AreReversed, ends_in};
 
-    /// The ends of no element, in no memory.
+    /// The ends of no element. Takes no memory.
     pub(crate) fn empty(alloc: Global) -> Ends<C>
         ensures { result ≡ record { elements = 0; ends = [] } }
     {
@@ -47,7 +47,7 @@ impl<C: Cell> Ends<C> {
         }
     }
 
-    /// Empty room for the ends of so many elements.
+    /// An empty list with capacity for the ends of this many elements.
     pub(crate) fn room(alloc: Global, elements: u32) -> Result<Vec<C>, NoMemory>
         ensures empty { IfOk result (λ v. v.items ≡ []) }
         ensures room { IfOk result (λ v. numbers_for elements ≤ vec_capacity v) }
@@ -56,7 +56,7 @@ impl<C: Cell> Ends<C> {
         Ok(room)
     }
 
-    /// Loose ends alone, for the lines of so many elements.
+    /// The ends of this many elements, all loose: no port leads to another.
     pub(crate) fn loose(alloc: Global, elements: u32) -> Result<Ends<C>, NoMemory>
         requires { elements ≤ C.limit }
         ensures elements { IfOk result (λ m. m.elements ≡ elements) }
@@ -65,7 +65,7 @@ impl<C: Cell> Ends<C> {
         Ok(Ends::loose_in(Ends::room(alloc, elements)?, elements))
     }
 
-    /// The same in this room, which is empty and great enough. Takes no memory.
+    /// The same, built in `room`, which is empty and has enough capacity. Takes no memory.
     pub(crate) fn loose_in(room: Vec<C>, elements: u32) -> Ends<C>
         requires few { elements ≤ C.limit }
         requires empty { room.items ≡ [] }
@@ -77,8 +77,9 @@ impl<C: Cell> Ends<C> {
         Ends { elements, cells }
     }
 
-    /// Writes where these wires lead, which go from and to lines of so many elements. Clauses have it that they stand
-    /// behind those of any list of which the ends were, if they stay apart from them.
+    /// Stores where these wires lead, which are between ports of the elements. If the ends were those of a list of
+    /// wires, they are then those of that list followed by these wires, as long as all of them are distinct at both
+    /// ends.
     pub(crate) fn lead(&mut self, wires: &[Wire])
         requires fitting { AreFitting self.old.elements wires.now }
         ensures elements { self.new.elements ≡ self.old.elements }
@@ -90,7 +91,7 @@ impl<C: Cell> Ends<C> {
         }
     }
 
-    /// Writes to which line this one leads.
+    /// Stores the port to which this one leads.
     pub(crate) fn set(&mut self, line: Line, end: Line)
         requires there { IsLineBelow self.old.elements line }
         requires below { IsLineBelow self.old.elements end }
@@ -100,8 +101,8 @@ impl<C: Cell> Ends<C> {
         self.set_at(line_number(line), line_number(end));
     }
 
-    /// The same ends the other way round, from the lines to which these lead, in this room, which is empty and great
-    /// enough. Takes no memory.
+    /// The inverse of these ends: for each port to which one leads, the port from which it leads. Built in `room`,
+    /// which is empty and has enough capacity. Takes no memory.
     pub(crate) fn inverse_in(&self, room: Vec<C>) -> Ends<C>
         requires targets { AreTargets self.now }
         requires empty { room.items ≡ [] }
@@ -127,7 +128,7 @@ impl<C: Cell> Ends<C> {
         self.elements
     }
 
-    /// To which line this one leads.
+    /// The port to which this one leads.
     pub(crate) fn get(&self, line: Line) -> Option<Line>
         requires { IsLineBelow self.now.elements line }
         ensures { slice_get self.now.ends (4 * line.element + line.line) ≡ Some result }
@@ -135,7 +136,7 @@ impl<C: Cell> Ends<C> {
         self.cell(line).end()
     }
 
-    /// The ends by the lines' numbers.
+    /// The ends, indexed by the numbers of the ports.
     pub(crate) fn as_slice(&self) -> &[C]
         ensures ends { self.now.ends ≡ ends_in (map C.tells result.now) self.now.elements }
         ensures whole { numbers_for self.now.elements ≤ length result.now }
@@ -143,7 +144,7 @@ impl<C: Cell> Ends<C> {
         self.cells.as_slice()
     }
 
-    /// The same ends once more.
+    /// A copy of the ends.
     pub(crate) fn copy(&self, alloc: Global) -> Result<Ends<C>, NoMemory>
         ensures { IfOk result (λ m. m ≡ self.now) }
     {
@@ -157,7 +158,7 @@ impl<C: Cell> Ends<C> {
         })
     }
 
-    // What tells to which line this one leads.
+    // The value that denotes the port to which this one leads.
     fn cell(&self, line: Line) -> C
         requires { IsLineBelow self.now.elements line }
         ensures { slice_get self.now.ends (4 * line.element + line.line) ≡ Some (C.tells result) }
@@ -165,7 +166,7 @@ impl<C: Cell> Ends<C> {
         cell_at(self.cells.as_slice(), line_number(line))
     }
 
-    // Writes that the line with the number `number` leads to that with the number `end`.
+    // Stores that the port with the number `number` leads to the port with the number `end`.
     fn set_at(&mut self, number: usize, end: usize)
         requires there { IsLineBelow self.old.elements (line_of number) }
         requires below { IsLineBelow self.old.elements (line_of end) }
@@ -178,7 +179,7 @@ impl<C: Cell> Ends<C> {
     }
 }
 
-// How many numbers of lines the blocks for so many elements have.
+// The count of port numbers in the blocks for this many elements.
 fn numbers_for(elements: u32) -> usize
     ensures { result ≡ numbers_for elements }
 {

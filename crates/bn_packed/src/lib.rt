@@ -1,5 +1,4 @@
-//! Packed netlists: a net of rotary elements and a configuration of it, kept so that a step waits for
-//! memory once.
+//! Packed netlists: a net of rotary elements and a configuration of it, stored so that a step waits for memory once.
 #![tactic(auto)]
 
 mod bars;

@@ -29,11 +29,11 @@ use bn_element::Rotary;
 use std::alloc::Global;
 use std::marker::Model;
 
-/// A net of rotary elements with a configuration of it, packed: one bit a bar, and for each line one number that tells
-/// where a signal goes on from it; once a signal has gone back, another one that tells where it came from, in room that
-/// is taken with the rest. They have 32 bits in nets of fewer than 2 to the power 30 elements, and 64 in larger ones.
-/// The lines are numbered in blocks of 1,024 elements, so that lines of one name lie side by side. Elements and lines
-/// are counted from 0. Clauses see the net and the configuration.
+/// A net of rotary elements with a configuration of it, packed: one bit per bar, and for each port one number that
+/// denotes where a signal goes from it. After the first step back, each port has another number that denotes where the
+/// signal came from; its memory is reserved with the rest. The numbers have 32 bits in nets of fewer than 2 to the
+/// power 30 elements, and 64 in larger ones. The ports are numbered in blocks of 1,024 elements, so that ports of one
+/// direction lie side by side. Elements and ports are counted from 0. Contracts see the net and the configuration.
 #[derive(Debug, Drop)]
 pub struct Packed {
     wires: Wires,
@@ -70,7 +70,7 @@ impl Packed {
         })
     }
 
-    /// Packs the net of a draft, in this configuration. The states go as soon as the bars are packed.
+    /// Packs the net of a draft, in this configuration. The memory of the states is freed once the bars are packed.
     pub fn from_draft(alloc: Global, draft: Draft, config: Config) -> Result<Packed, NoMemory>
         requires drawn { (ws : List Wire) × AreDrawn draft.elements ws draft }
         requires good { (ws : List Wire) (net : Parts Rotary) → AreDrawn draft.elements ws draft
@@ -109,7 +109,7 @@ impl Packed {
         })
     }
 
-    /// The number of elements. Its contract also tells what all packed netlists keep.
+    /// The number of elements. Its contract also states the invariant of all packed netlists.
     pub fn len(&self) -> u32
         ensures number { result ≡ length self.now.net.elements }
         ensures circuit { IsCircuit (rotary_circuit self.now.net) }
@@ -141,8 +141,8 @@ impl Packed {
         self.bars.get(element as usize)
     }
 
-    /// The input line to which the wire of this output line leads, `None` exactly where no wire
-    /// leaves it. Its contract also tells what all packed netlists keep.
+    /// The input port to which the wire of this output port leads, `None` exactly where no wire leaves it. Its
+    /// contract also states the invariant of all packed netlists.
     pub fn target(&self, from: Line) -> Option<Line>
         requires { IsOutputOf (rotary_circuit self.now.net).tables from }
         ensures line { result ≡ target self.now.net.wires from }
@@ -151,7 +151,7 @@ impl Packed {
         self.wires.target(from)
     }
 
-    /// Gives an element's bar this state, as a leap over many steps does. Takes no memory.
+    /// Sets an element's bar to this state, for a move over many steps at once. Takes no memory.
     pub fn set_bar(&mut self, element: u32, state: u32)
         requires element { element < length self.old.net.elements }
         requires state { state < 2 }
@@ -162,7 +162,7 @@ impl Packed {
         self.bars.put(element as usize, state);
     }
 
-    /// Puts the signal where it is once it has come out by this output line, with so many steps more counted. Takes no
+    /// Puts the signal where it is after leaving by this output port, and adds `steps` to the count of steps. Takes no
     /// memory.
     pub fn send(&mut self, from: Line, steps: u64)
         requires from { IsOutputOf (rotary_circuit self.old.net).tables from }
@@ -187,7 +187,7 @@ impl Packed {
         };
     }
 
-    /// The same packed netlist once more.
+    /// A copy of the packed netlist.
     pub fn copy(&self, alloc: Global) -> Result<Packed, NoMemory>
         ensures { IfOk result (λ p. p ≡ self.now) }
     {
@@ -200,8 +200,8 @@ impl Packed {
         })
     }
 
-    /// Makes one element step. `false` exactly where none can be made, and then nothing changed: the
-    /// signal has left, or the steps are `CLOCK`. Takes no memory.
+    /// Makes one element step. Returns `false`, and changes nothing, exactly if no step can be made: the signal has
+    /// left, or the steps are `CLOCK`. Takes no memory.
     pub fn step(&mut self) -> bool
         ensures net { self.new.net ≡ self.old.net }
         ensures made { OnTrue result (Goes (rotary_circuit self.old.net) self.old.config self.new.config) }
@@ -212,8 +212,8 @@ impl Packed {
         self.run(1) == 1
     }
 
-    /// Takes one element step back. `false` exactly where no step led here, and then nothing
-    /// changed: the steps are 0, or no wire feeds the input line. Takes no memory.
+    /// Undoes one element step. Returns `false`, and changes nothing, exactly if no step led to this configuration:
+    /// the steps are 0, or no wire feeds the input port. Takes no memory.
     pub fn back_step(&mut self) -> bool
         ensures net { self.new.net ≡ self.old.net }
         ensures made { OnTrue result (Goes (rotary_circuit self.old.net) self.new.config self.old.config) }
@@ -224,8 +224,8 @@ impl Packed {
         self.run_back(1) == 1
     }
 
-    /// Makes at most `e` element steps and answers how many: fewer only where none can be made from
-    /// where it ends. Takes no memory.
+    /// Makes at most `e` element steps and returns how many: fewer only if no further step can be made. Takes no
+    /// memory.
     pub fn run(&mut self, e: u64) -> u64
         ensures net { self.new.net ≡ self.old.net }
         ensures ran { IsLongestRun Direction.Forward (rotary_circuit self.old.net) e result self.old.config
@@ -234,8 +234,8 @@ impl Packed {
         self.run_watched(e, &mut Quiet)
     }
 
-    /// Takes at most `e` element steps back and answers how many: fewer only where no step led to
-    /// where it ends. Takes no memory.
+    /// Undoes at most `e` element steps and returns how many: fewer only if no further step can be undone. Takes no
+    /// memory.
     pub fn run_back(&mut self, e: u64) -> u64
         ensures net { self.new.net ≡ self.old.net }
         ensures ran { IsLongestRun Direction.Backward (rotary_circuit self.old.net) e result self.old.config
@@ -244,8 +244,8 @@ impl Packed {
         self.run_back_watched(e, &mut Quiet)
     }
 
-    /// Makes at most `e` element steps, as `run` does, and tells the watch the place after each.
-    /// Takes no memory.
+    /// Makes at most `e` element steps, as `run` does, reports the place after each step to the watch, and returns how
+    /// many it made. Takes no memory.
     pub fn run_watched<W: Watch>(&mut self, e: u64, watch: &mut W) -> u64
         ensures net { self.new.net ≡ self.old.net }
         ensures ran { IsLongestRun Direction.Forward (rotary_circuit self.old.net) e result self.old.config
@@ -259,8 +259,8 @@ impl Packed {
         self.signal.steps - before
     }
 
-    /// Makes at most `e` element steps in this direction, as `run_watched` and `run_back_watched` do, tells the watch
-    /// the place after each, and answers how many. Takes no memory.
+    /// Makes at most `e` element steps in this direction, as `run_watched` and `run_back_watched` do, reports the
+    /// place after each step to the watch, and returns how many it made. Takes no memory.
     pub fn run_along<W: Watch>(&mut self, direction: Direction, e: u64, watch: &mut W) -> u64
         ensures net { self.new.net ≡ self.old.net }
         ensures ran { IsLongestRun direction (rotary_circuit self.old.net) e result self.old.config self.new.config }
@@ -273,8 +273,8 @@ impl Packed {
         }
     }
 
-    /// Makes at most `e` element steps, as `run_watched` does, but stops after a step where the signal is about to
-    /// enter a line of `stop`, and answers how many it made. Takes no memory.
+    /// Makes at most `e` element steps, as `run_watched` does, but stops after a step if the signal is about to enter
+    /// a port of `stop`, and returns how many it made. Takes no memory.
     pub fn run_until<S: Stop, W: Watch>(&mut self, e: u64, stop: &S, watch: &mut W) -> u64
         ensures net { self.new.net ≡ self.old.net }
         ensures ran { IsStoppedRun (rotary_circuit self.old.net) (S.stops stop.now) e result self.old.config
@@ -291,8 +291,8 @@ impl Packed {
         self.signal.steps - before
     }
 
-    /// Takes at most `e` element steps back, as `run_back` does, and tells the watch the place after
-    /// each. Takes no memory.
+    /// Undoes at most `e` element steps, as `run_back` does, reports the place after each step to the watch, and
+    /// returns how many it undid. Takes no memory.
     pub fn run_back_watched<W: Watch>(&mut self, e: u64, watch: &mut W) -> u64
         ensures net { self.new.net ≡ self.old.net }
         ensures ran { IsLongestRun Direction.Backward (rotary_circuit self.old.net) e result self.old.config

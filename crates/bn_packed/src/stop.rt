@@ -1,23 +1,23 @@
-//! Where a run may stop on its way.
+//! Input ports at which a run stops early.
 
 ghost use Rattle.std.specs.Prelude.{◌≡◌};
 
 use bn_circuits::Line;
 
-/// Input lines at which a run stops.
+/// Input ports at which a run stops.
 pub trait Stop {
     ghost use Rattle.std.specs.Prelude.{Bool};
     ghost use Rattle.bn_circuits.specs.declared.line.Line.{Line};
 
-    /// The lines.
+    /// The ports at which the run stops.
     ghost stops: { Self → Line → Bool };
 
-    /// Whether a run stops where the signal is about to enter this line.
+    /// Whether a run stops when the signal is about to enter this port.
     fn stops(&self, at: Line) -> bool
         ensures { result ≡ stops self.now at };
 }
 
-/// No line: a run goes on to its end.
+/// No port: a run goes on to its end.
 #[derive(Clone, Copy, Debug)]
 pub struct Nowhere;
 

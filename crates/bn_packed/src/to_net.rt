@@ -1,4 +1,4 @@
-//! A packed net as a net again.
+//! Unpacking: a packed net as a net.
 
 ghost use Rattle.std.specs.Prelude.{◌≡◌, ◌+◌, ◌*◌, ◌<◌, ◌≤◌, length, IfOk, OnOk};
 ghost use Rattle.bn_circuits.specs.Circuits.{IsCircuit};
@@ -14,8 +14,8 @@ use bn_element::Rotary;
 use std::alloc::Global;
 
 impl Packed {
-    /// The net, not packed, whose wires are in the order of the output lines that they leave (this project's own
-    /// profile). Elements and lines are counted from 0.
+    /// The net, unpacked. Its wires are in the order of the output ports that they leave (this project's own profile).
+    /// Elements and ports are counted from 0.
     pub fn to_net(&self, alloc: Global) -> Result<Net<Rotary>, NoMemory>
         requires order { AreInOrder self.now.net.wires }
         requires few { length self.now.net.elements ≤ MOST_ELEMENTS }
@@ -28,7 +28,7 @@ impl Packed {
     }
 }
 
-// The wires of a packed net, one for each output line from which one leads, in the order of these lines.
+// The wires of a packed net, one for each output port that has a wire, in the order of these ports.
 fn wires_of(alloc: Global, packed: &Packed) -> Result<Vec<Wire>, NoMemory>
     ensures wires { IfOk result (λ v. AreWiresOf (IsTargetBefore packed.now.net.wires
         (length packed.now.net.elements) 0) v.items) }
@@ -41,7 +41,7 @@ fn wires_of(alloc: Global, packed: &Packed) -> Result<Vec<Wire>, NoMemory>
     Ok(wires)
 }
 
-// Adds those that leave an element, after those from earlier ones.
+// Adds the wires that leave an element, after those that leave earlier ones.
 fn push_element(wires: &mut Vec<Wire>, packed: &Packed, element: u32) -> Result<(), NoMemory>
     requires circuit { IsCircuit (rotary_circuit packed.now.net) }
     requires element { element < length packed.now.net.elements }
@@ -55,7 +55,7 @@ fn push_element(wires: &mut Vec<Wire>, packed: &Packed, element: u32) -> Result<
     Ok(())
 }
 
-// Adds the wire that leaves an output line, if one does.
+// Adds the wire that leaves an output port, if one does.
 fn push_line(wires: &mut Vec<Wire>, packed: &Packed, from: Line) -> Result<(), NoMemory>
     requires circuit { IsCircuit (rotary_circuit packed.now.net) }
     requires element { from.element < length packed.now.net.elements }

@@ -1,4 +1,4 @@
-//! Steps of the signal, one after another, with no test of the clock among them.
+//! Steps of the signal, one after another, without a check of the clock at each.
 
 ghost use Rattle.std.specs.Prelude.{◌≡◌, ◌⊎◌, ◌+◌, ◌-◌, ◌<◌, ◌≤◌, true};
 ghost use Rattle.bn_circuits.specs.Circuits.{IsCircuit, IsConfig, IsStuck, IsFirst, clock};
@@ -15,8 +15,7 @@ use crate::stop::{Nowhere, Stop};
 use crate::wiring::Wiring;
 use bn_circuits::{Line, Place, Watch};
 
-/// Makes at most `count` steps, for which the clock has room, and tells the watch the place after
-/// each.
+/// Makes at most `count` steps, which the clock admits, and reports the place after each step to the watch.
 pub(crate) fn walk<C: Cell, W: Watch>(
     wiring: &Wiring<C>,
     bars: &mut Bars,
@@ -37,8 +36,8 @@ pub(crate) fn walk<C: Cell, W: Watch>(
     walk_until(wiring, bars, signal, count, &Nowhere, watch)
 }
 
-/// Makes at most `count` steps, for which the clock has room, and tells the watch the place after
-/// each; it ends early where the signal is about to enter a line of `stop`.
+/// Makes at most `count` steps, which the clock admits, and reports the place after each step to the watch. The walk
+/// ends early if the signal is about to enter a port of `stop`.
 pub(crate) fn walk_until<C: Cell, S: Stop, W: Watch>(
     wiring: &Wiring<C>,
     bars: &mut Bars,
@@ -96,8 +95,8 @@ pub(crate) fn walk_until<C: Cell, S: Stop, W: Watch>(
     }
 }
 
-/// Takes at most `count` steps back, which have been counted, and tells the watch the place after
-/// each. The way back has to be made already.
+/// Undoes at most `count` steps, no more than the signal has made, and reports the place after each step to the watch.
+/// The ends behind (`Wiring::behind`) must be built.
 pub(crate) fn walk_back<C: Cell, W: Watch>(
     wiring: &Wiring<C>,
     bars: &mut Bars,
@@ -136,7 +135,7 @@ pub(crate) fn walk_back<C: Cell, W: Watch>(
     }
 }
 
-// The same from the place where the signal is about to enter this line, after so many steps.
+// The same, for a signal that is about to enter this port after this many steps.
 fn walk_back_from<C: Cell, W: Watch>(
     wiring: &Wiring<C>,
     bars: &mut Bars,
@@ -176,7 +175,7 @@ fn walk_back_from<C: Cell, W: Watch>(
     }
 }
 
-// The signal is about to enter this line.
+// The signal is about to enter this port.
 fn entering(to: Line) -> Place
     ensures { result ≡ Enter to.element to.line }
 {
@@ -186,7 +185,7 @@ fn entering(to: Line) -> Place
     }
 }
 
-// The signal has left by this line.
+// The signal has left by this port.
 fn left_by(from: Line) -> Place
     ensures { result ≡ Left from.element from.line }
 {

@@ -1,4 +1,4 @@
-//! The wires of a net in numbers of the size that its lines need.
+//! The wires of a net, in numbers of the size that its ports need.
 
 ghost use Rattle.std.specs.Prelude.{◌≡◌, ◌⊎◌, ◌+◌, ◌-◌, ◌<◌, ◌≤◌, true, List, length, IfOk};
 ghost use Rattle.bn_circuits.specs.Circuits.{IsCircuit, IsConfig, IsOutputOf, IsStuck, IsFirst, target, clock};
@@ -23,7 +23,7 @@ use bn_circuits::{Line, Net, NoMemory, Watch, Wire};
 use bn_element::Rotary;
 use std::alloc::Global;
 
-/// The wires of a net of rotary elements, in 32 bits a line where these are enough, or else in 64.
+/// The wires of a net of rotary elements, with numbers of 32 bits if these suffice, and of 64 otherwise.
 #[derive(Debug, Drop)]
 pub(crate) enum Wires {
     Narrow(Wiring<u32>),
@@ -55,7 +55,7 @@ impl Wires {
         Ok(Wires::Narrow(wiring))
     }
 
-    /// The number of elements. Its contract also tells what all wires keep.
+    /// The number of elements. Its contract also states the invariant of all wires.
     pub(crate) fn len(&self) -> u32
         ensures number { result ≡ length (net_in self.now).elements }
         ensures circuit { IsCircuit (rotary_circuit (net_in self.now)) }
@@ -66,7 +66,7 @@ impl Wires {
         }
     }
 
-    /// The input line to which the wire of this output line leads.
+    /// The input port to which the wire of this output port leads.
     pub(crate) fn target(&self, from: Line) -> Option<Line>
         requires { IsOutputOf (rotary_circuit (net_in self.now)).tables from }
         ensures { result ≡ target (net_in self.now).wires from }
@@ -77,7 +77,7 @@ impl Wires {
         }
     }
 
-    /// The same wires once more.
+    /// A copy of the wires.
     pub(crate) fn copy(&self, alloc: Global) -> Result<Wires, NoMemory>
         ensures { IfOk result (λ w. net_in w ≡ net_in self.now) }
     {
@@ -87,8 +87,7 @@ impl Wires {
         }
     }
 
-    /// Makes at most `count` steps, for which the clock has room, and tells the watch the place after
-    /// each.
+    /// Makes at most `count` steps, which the clock admits, and reports the place after each step to the watch.
     pub(crate) fn walk<W: Watch>(
         &self,
         bars: &mut Bars,
@@ -112,8 +111,8 @@ impl Wires {
         }
     }
 
-    /// Makes at most `count` steps, for which the clock has room, and tells the watch the place after
-    /// each; it ends early where the signal is about to enter a line of `stop`.
+    /// Makes at most `count` steps, which the clock admits, and reports the place after each step to the watch. The
+    /// walk ends early if the signal is about to enter a port of `stop`.
     pub(crate) fn walk_until<S: Stop, W: Watch>(
         &self,
         bars: &mut Bars,
@@ -144,8 +143,8 @@ impl Wires {
         }
     }
 
-    /// Takes at most `count` steps back, which have been counted, and tells the watch the place after
-    /// each.
+    /// Undoes at most `count` steps, no more than the signal has made, and reports the place after each step to the
+    /// watch.
     pub(crate) fn walk_back<W: Watch>(
         &mut self,
         bars: &mut Bars,

@@ -1,4 +1,4 @@
-//! The wires of a net of rotary elements, kept both ways, or only ahead.
+//! The wires of a net of rotary elements, stored in both directions or only ahead.
 
 ghost use Rattle.std.specs.Prelude.{◌≡◌, ◌<◌, ◌≤◌, ◌^◌, false, true, length, map, IfOk};
 ghost use Rattle.bn_circuits.specs.Circuits.{IsCircuit, IsOutputOf, target};
@@ -15,15 +15,16 @@ use bn_element::Rotary;
 use std::alloc::Global;
 use std::marker::Model;
 
-/// The wires of a net of rotary elements: for each input line the one to which the signal comes next where it crosses
-/// the element straight, and the one from which it came so. So a signal that crosses an element straight keeps its
-/// number. The way back is made of the way ahead when steps back are first made, but the room for it is taken at
-/// once, so that going back takes no memory. Clauses see the net, and whether the way back is made.
+/// The wires of a net of rotary elements: for each input port the one that the signal enters next if it crosses the
+/// element straight (`ahead`), and the one from which it came, crossing its element straight (`behind`). Therefore a
+/// signal that crosses an element straight keeps its number. `behind` is built from `ahead` at the first step back,
+/// but its memory is reserved at the start, so that going back takes no memory. Contracts see the net, and whether
+/// `behind` is built.
 #[derive(Debug, Drop)]
 pub(crate) struct Wiring<C: Cell> {
     ahead: Ends<C>,
     behind: Ends<C>,
-    // where `behind` will stand, as long as it isn't made
+    // the memory for `behind`, as long as `behind` is not built
     room: Option<Vec<C>>,
 }
 
@@ -50,7 +51,7 @@ impl<C: Cell> Wiring<C> {
         Wiring::from_ahead(alloc, ahead_of(alloc, net)?)
     }
 
-    /// The wires by which lines lead on so.
+    /// The wiring with these ends ahead.
     pub(crate) fn from_ahead(alloc: Global, ahead: Ends<C>) -> Result<Wiring<C>, NoMemory>
         requires { AreTargets ahead }
         ensures wires { IfOk result (λ w. w ≡ record { net = net_of (targets_by ahead); goes_back = false }) }
@@ -64,7 +65,7 @@ impl<C: Cell> Wiring<C> {
         })
     }
 
-    /// The number of elements. Its contract also tells what all wirings keep.
+    /// The number of elements. Its contract also states the invariant of all wirings.
     pub(crate) fn len(&self) -> u32
         ensures number { result ≡ length self.now.net.elements }
         ensures circuit { IsCircuit (rotary_circuit self.now.net) }
@@ -72,7 +73,7 @@ impl<C: Cell> Wiring<C> {
         self.ahead.elements()
     }
 
-    /// The input line to which the wire of this output line leads.
+    /// The input port to which the wire of this output port leads.
     pub(crate) fn target(&self, from: Line) -> Option<Line>
         requires { IsOutputOf (rotary_circuit self.now.net).tables from }
         ensures { result ≡ target self.now.net.wires from }
@@ -80,8 +81,8 @@ impl<C: Cell> Wiring<C> {
         self.ahead.get(opposite(from))
     }
 
-    /// Where the signal comes next from each input line where it goes straight, by the lines' numbers. Its contract
-    /// also tells what all wirings keep.
+    /// The port that the signal enters next from each input port if it crosses the element straight, indexed by the
+    /// numbers of the ports. Its contract also states the invariant of all wirings.
     pub(crate) fn ahead(&self) -> &[C]
         ensures ends { HasEnds (ahead self.now.net.wires) (length self.now.net.elements) (map C.tells result.now) }
         ensures circuit { IsCircuit (rotary_circuit self.now.net) }
@@ -90,7 +91,7 @@ impl<C: Cell> Wiring<C> {
         self.ahead.as_slice()
     }
 
-    /// Makes the way back, if it isn't made yet. Takes no memory.
+    /// Builds the ends behind, if they are not built yet. Takes no memory.
     pub(crate) fn make_way_back(&mut self)
         ensures net { self.new.net ≡ self.old.net }
         ensures made { self.new.goes_back ≡ true }
@@ -101,8 +102,8 @@ impl<C: Cell> Wiring<C> {
         }
     }
 
-    /// From where it came to each input line where it went straight, by the lines' numbers, once the way back is made.
-    /// Its contract also tells what all wirings keep.
+    /// The port from which the signal came to each input port, crossing its element straight, indexed by the numbers
+    /// of the ports. The ends behind must be built. Its contract also states the invariant of all wirings.
     pub(crate) fn behind(&self) -> &[C]
         requires { self.now.goes_back ≡ true }
         ensures ends { HasEnds (behind self.now.net.wires) (length self.now.net.elements) (map C.tells result.now) }
@@ -112,7 +113,7 @@ impl<C: Cell> Wiring<C> {
         self.behind.as_slice()
     }
 
-    /// The same wires once more, with the way back, if it is made.
+    /// A copy of the wiring, with the ends behind, if they are built.
     pub(crate) fn copy(&self, alloc: Global) -> Result<Wiring<C>, NoMemory>
         ensures { IfOk result (λ w. w ≡ self.now) }
     {
@@ -128,7 +129,7 @@ impl<C: Cell> Wiring<C> {
     }
 }
 
-// Where the signal comes next in the net: the ends of which it is made.
+// The ends ahead in the net, from which its wiring is built.
 fn ahead_of<C: Cell>(alloc: Global, net: &Net<Rotary>) -> Result<Ends<C>, NoMemory>
     requires { length net.now.elements ≤ C.limit }
     ensures targets { IfOk result AreTargets }

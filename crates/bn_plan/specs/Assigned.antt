@@ -1,4 +1,4 @@
--- The tracks of wires as a function: it computes what a plan is (this project's own profile).
+-- The tracks of wires as a function, which computes the plan of a list of wires (this project's own profile).
 use Rattle.std.specs.Prelude.{ℕ, zero, suc, Bool, true, cond, eqb, ltb, not, ◌||◌, ◌&&◌, List, [], ◌∷◌}
 use Rattle.bn_circuits.specs.declared.line.Wire.{Wire}
 use Rattle.bn_plan.specs.declared.tracked.Tracked.{Tracked}
@@ -15,7 +15,7 @@ abbrev pub first_free : List Tracked → Wire → ℕ → ℕ → ℕ
 first_free earlier w zero n = n
 first_free earlier w (suc fuel) n = cond (is_free earlier n w) n (first_free earlier w fuel (suc n))
 
--- the wire on its least free track; behind the greatest all tracks are free
+-- the wire on its least free track; all tracks above the greatest used one are free
 abbrev pub tracked : List Tracked → Wire → Tracked
 tracked earlier w = record { from = w.from; to = w.to; track = first_free earlier w (tracks_of earlier) 1 }
 

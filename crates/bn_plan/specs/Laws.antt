@@ -1,4 +1,4 @@
--- What the laws of this crate say, each a field of `Laws`.
+-- The statements of the laws of this crate, each a field of `Laws`.
 use Rattle.std.specs.Prelude.{◌≡◌, ◌↔◌, ℕ, ◌<◌, ◌≤◌, List, [], ◌∷◌, length, map}
 use Rattle.bn_circuits.specs.Circuits.{Circuit, IsCircuit, inputs_of, outputs_of}
 use Rattle.bn_circuits.specs.declared.line.Wire.{Wire}
@@ -11,48 +11,50 @@ use Rattle.bn_plan.specs.Assigned.{assigned}
 use Rattle.bn_plan.specs.declared.positions.TheConstants.{MOST_PLANNED}
 use Rattle.std.specs.Prelude.{◌^◌}
 
--- the wires of a circuit of elements with at most four lines each way have a floor plan, and only one, in whatever
--- order they are listed
+-- the wires of a circuit of elements with at most four inputs and four outputs have exactly one floor plan, for every
+-- order of their list
 abbrev pub HasOneFloorPlan : Type 0
 HasOneFloorPlan = ((ws : List Wire) → (f : FloorPlan) × IsFloorPlan ws f)
     × ((ws vs : List Wire) (f g : FloorPlan) → AreRotary ws → AreRotary vs → ((w : Wire) → Has ws w ↔ Has vs w)
     → IsFloorPlan ws f → IsFloorPlan vs g → f ≡ g)
 
--- wires of one track fit
+-- wires on one track do not overlap
 abbrev pub PlansFit : Type 0
 PlansFit = (ws : List Wire) (f : FloorPlan) → IsFloorPlan ws f → TracksFit f.wires
 
--- any assignment in which wires of one track fit has at least as many tracks as wires cover a position
+-- any assignment in which wires on one track do not overlap has at least as many tracks as the number of wires that
+-- cover any one position
 abbrev pub TracksAreNeeded : Type 0
 TracksAreNeeded = (ws : List Wire) (ts : List Tracked) (used : List ℕ) (p : ℕ) → IsAssignment ws ts → HasTracks used ts
     → density ws p ≤ length used
 
--- so none has fewer than the plan
+-- no such assignment has fewer tracks than the plan
 abbrev pub NoneHasFewer : Type 0
 NoneHasFewer = (ws : List Wire) (f : FloorPlan) (ts : List Tracked) (used : List ℕ) → IsFloorPlan ws f
     → IsAssignment ws ts → HasTracks used ts → f.tracks ≤ length used
 
--- a plan has as many tracks as wires cover its densest position, and it uses those tracks and no others
+-- the number of tracks of a plan is the number of wires that cover its densest position, and the plan uses exactly the
+-- tracks from 1 to this number
 abbrev pub TracksAreTheDensity : Type 0
 TracksAreTheDensity = (ws : List Wire) (f : FloorPlan) → IsFloorPlan ws f
     → (density ws f.densest ≡ f.tracks)
     × ((t : Tracked) → Has f.wires t → (0 < t.track) × (t.track ≤ f.tracks))
     × ((n : ℕ) → 0 < n → n ≤ f.tracks → (t : Tracked) × Has f.wires t × (t.track ≡ n))
 
--- without wires there are no tracks, and the densest position is the first
+-- without wires there are no tracks, and the densest position is 0
 abbrev pub NoWiresNoTracks : Type 0
 NoWiresNoTracks = (f : FloorPlan) → IsFloorPlan [] f → (f.tracks ≡ 0) × (f.densest ≡ 0)
 
--- a plan is what the function makes of its wires
+-- a plan is the value of the function `assigned` for its wires
 abbrev pub PlansCompute : Type 0
 PlansCompute = (ws : List Wire) (plan : List Tracked) → IsPlan ws plan → plan ≡ assigned [] (wires_of plan)
 
--- the wires of a circuit of elements with at most four lines each way are as the laws above ask
+-- the wires of a circuit of elements with at most four inputs and four outputs satisfy the condition of the laws above
 abbrev pub CircuitsAreRotary : Type 0
 CircuitsAreRotary = (k : Circuit) (ws : List Wire) → IsCircuit k
     → ((e : ℕ) → (inputs_of k.tables e ≤ 4) × (outputs_of k.tables e ≤ 4)) → AreWiresOf k.wires ws → AreRotary ws
 
--- a wire from a line of one element to a line of another
+-- a wire from an output port of one element to an input port of another
 abbrev pub joins : ℕ → ℕ → ℕ → ℕ → Wire
 joins from output to input =
     record { from = record { element = from; line = output }; to = record { element = to; line = input } }
@@ -90,24 +92,25 @@ BankExample = (map (λ (t : Tracked). t.track) (assigned [] bank_wires)
 -- ---- the laws
 
 pub record Laws : Type 0 where
-  -- The wires of a circuit of rotary elements have a floor plan, and only one.
+  -- The wires of a circuit of rotary elements have exactly one floor plan, for every order of their list.
   pub floor_plan_is_one : HasOneFloorPlan
-  -- Wires of one track fit.
+  -- Wires on one track do not overlap.
   pub wires_of_one_track_fit : PlansFit
-  -- An assignment in which wires of one track fit has at least as many tracks as wires cover any
-  -- position.
+  -- An assignment in which wires on one track do not overlap has at least as many tracks as the number of wires that
+  -- cover any position.
   pub tracks_are_needed : TracksAreNeeded
-  -- No assignment in which wires of one track fit has fewer tracks than the plan.
+  -- No assignment in which wires on one track do not overlap has fewer tracks than the plan.
   pub none_has_fewer : NoneHasFewer
-  -- The plan uses as many tracks as the greatest density says.
+  -- The number of tracks of a plan is its greatest density, and the plan uses exactly the tracks from 1 to this
+  -- number.
   pub tracks_are_the_density : TracksAreTheDensity
   -- Without wires there are no tracks, and the densest position is 0.
   pub no_wires_no_tracks : NoWiresNoTracks
-  -- A plan is what the function of its wires computes.
+  -- A plan is the value of the function `assigned` for its wires.
   pub plans_compute : PlansCompute
-  -- The wires of a circuit of rotary elements are as the laws on tracks ask.
+  -- The wires of a circuit of rotary elements satisfy the condition of the laws on tracks.
   pub circuits_are_rotary : CircuitsAreRotary
-  -- The plan of the wires of a bank of six elements: its tracks, and its densest position.
+  -- The plan of the wires of a bank of six elements has 8 tracks, assigned as listed, and its densest position is 10.
   pub bank_example : BankExample
   -- At most 2^22 elements have a floor plan.
   pub most_planned_is_stated : MOST_PLANNED ≡ 2 ^ 22

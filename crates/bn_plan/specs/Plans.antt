@@ -19,25 +19,25 @@ wires_of ts = map untracked ts
 abbrev pub IsFree : List Tracked → ℕ → ℕ → Type 0
 IsFree ts n p = (t : Tracked) → Has ts t → t.track ≡ n → greater (untracked t) < p
 
--- the wire is on the least track, from 1, on which each earlier wire ends before it
+-- the wire is on the least track, counted from 1, on which each earlier wire ends before this wire begins
 pub record TakesLeast (earlier : List Tracked) (t : Tracked) : Type 0 where
   pub counted : 0 < t.track
   pub free : IsFree earlier t.track (lesser (untracked t))
   pub least : (n : ℕ) → 0 < n → n < t.track → IsFree earlier n (lesser (untracked t)) → ⊥
 
--- so is each of these wires, one after another
+-- each of these wires, one after another, is on such a least track
 abbrev pub TakeLeast : List Tracked → List Tracked → Type 0
 TakeLeast earlier [] = ⊤
 TakeLeast earlier (t ∷ ts) = TakesLeast earlier t × TakeLeast (t ∷ earlier) ts
 
--- The plan of some wires: they stand in the order of their lesser ends, and each takes the least track on which every
--- earlier wire ends before it.
+-- The plan of some wires: they are in the order of their lesser ends, and each takes the least track on which every
+-- earlier wire ends before it begins.
 pub record IsPlan (ws : List Wire) (plan : List Tracked) : Type 0 where
   pub all : IsPermutation ws (wires_of plan)
   pub order : Pairwise (λ (s t : Tracked). lesser (untracked s) ≤ lesser (untracked t)) plan
   pub tracks : TakeLeast [] plan
 
--- the greatest track, 0 where there are no wires
+-- the greatest track, 0 if there are no wires
 abbrev pub tracks_of : List Tracked → ℕ
 tracks_of [] = 0
 tracks_of (t ∷ ts) = max t.track (tracks_of ts)
@@ -48,22 +48,22 @@ pub record FloorPlan : Type 0 where
   pub tracks : ℕ
   pub densest : ℕ
 
--- It is the plan of these wires. Its number of tracks is the greatest track of a wire, and the greatest density too,
--- and its position is the least of that density.
+-- The floor plan is that of these wires. Its number of tracks is the greatest track of a wire and also the greatest
+-- density, and its position is the least with that density.
 pub record IsFloorPlan (ws : List Wire) (f : FloorPlan) : Type 0 where
   pub plan : IsPlan ws f.wires
   pub tracks : tracks_of f.wires ≡ f.tracks
   pub densest : IsDensest ws f.tracks f.densest
 
--- wires of one track fit
+-- wires on one track do not overlap
 abbrev pub TracksFit : List Tracked → Type 0
 TracksFit ts = Pairwise (λ (s t : Tracked). s.track ≡ t.track → Fit (untracked s) (untracked t)) ts
 
--- any way to give the wires tracks so that those of one track fit
+-- an assignment of tracks to the wires such that wires on one track do not overlap
 pub record IsAssignment (ws : List Wire) (ts : List Tracked) : Type 0 where
   pub all : IsPermutation ws (wires_of ts)
   pub fit : TracksFit ts
 
--- the list has every track that is used
+-- the list contains every track that is used
 abbrev pub HasTracks : List ℕ → List Tracked → Type 0
 HasTracks used ts = (t : Tracked) → Has ts t → Has used t.track

@@ -1,4 +1,4 @@
--- How far a plan has come, where the positions are gone along from 0: what is kept of the wires that have begun.
+-- The progress of a plan in a sweep over the positions from 0: the stored state of the wires that have begun.
 use Rattle.std.specs.Prelude.{◌≡◌, ◌≢◌, ◌↔◌, ◌⊎◌, ℕ, ◌+◌, ◌<◌, ◌≤◌, List, [], ◌∷◌, Option, Some, None, get_or, length}
 use Rattle.std.specs.List.Sorted.{IsPermutation}
 use Rattle.bn_circuits.specs.declared.line.Wire.{Wire}
@@ -8,8 +8,9 @@ use Rattle.bn_lists.specs.Lists.{Has}
 use Rattle.bn_plan.specs.Wires.{lesser, greater}
 use Rattle.bn_plan.specs.Plans.{FloorPlan, untracked, wires_of, IsFree, TakeLeast, tracks_of}
 
--- the wires that have begun; the tracks up to the greatest that are free; for each position the track of the wire that
--- has begun and ends there, or none; the greatest track, and the position at which the first wire begins that has it
+-- the wires that have begun; the free tracks among those up to the greatest; for each position, the track of the wire
+-- that has begun and ends there, or none; the greatest track; and the position at which the first wire with that track
+-- begins
 pub record Swept : Type 0 where
   pub wires : List Tracked
   pub free : List ℕ
@@ -17,7 +18,7 @@ pub record Swept : Type 0 where
   pub tracks : ℕ
   pub densest : ℕ
 
--- a wire of the greatest track begins at this position, and none before it
+-- a wire on the greatest track begins at this position, and each wire that begins before has a lesser track
 pub record IsWidest (ts : List Tracked) (n p : ℕ) : Type 0 where
   pub first : Tracked
   pub stands : Has ts first
@@ -25,9 +26,9 @@ pub record IsWidest (ts : List Tracked) (n p : ℕ) : Type 0 where
   pub begins : lesser (untracked first) ≡ p
   pub before : (t : Tracked) → Has ts t → lesser (untracked t) < p → t.track < n
 
--- This is kept before position p of the wires that begin before it. They stand in order, each on its least track; the
--- free tracks are those whose wires all end before p, each there once; and at each position from p on the track is kept
--- of the wire that ends there.
+-- The state before position p, for the wires that begin before p. The wires are in order, each on its least track. The
+-- free tracks are those whose wires all end before p, each listed once. For each position from p on, the track of the
+-- wire that ends there is stored.
 pub record IsSwept (ws : List Wire) (p : ℕ) (s : Swept) : Type 0 where
   pub order : Pairwise (λ (t u : Tracked). lesser (untracked t) < lesser (untracked u)) s.wires
   pub least : TakeLeast [] s.wires
@@ -42,18 +43,18 @@ pub record IsSwept (ws : List Wire) (p : ℕ) (s : Swept) : Type 0 where
       (t : Tracked) × Has s.wires t × (greater (untracked t) ≡ q)
   pub densest : ((s.tracks ≡ 0) × (s.densest ≡ 0)) ⊎ IsWidest s.wires s.tracks s.densest
 
--- this wire of the list begins at this position, or none does
+-- this wire of the list begins at this position, and below, none does
 abbrev pub BeginsAt : List Wire → ℕ → Wire → Type 0
 BeginsAt ws p w = Has ws w × (lesser w ≡ p)
 
--- the least free track, which is then free no more
+-- the least free track is taken, and is then no longer free
 pub record TakesFree (old : Swept) (track : ℕ) (new : Swept) : Type 0 where
   pub taken : IsPermutation old.free (track ∷ new.free)
   pub least : (n : ℕ) → Has old.free n → track ≤ n
   pub tracks : new.tracks ≡ old.tracks
   pub densest : new.densest ≡ old.densest
 
--- a track more
+-- a new track is taken, one above the greatest
 pub record TakesNew (old : Swept) (p track : ℕ) (new : Swept) : Type 0 where
   pub none_free : old.free ≡ []
   pub none_left : new.free ≡ []
@@ -61,7 +62,7 @@ pub record TakesNew (old : Swept) (p track : ℕ) (new : Swept) : Type 0 where
   pub tracks : new.tracks ≡ track
   pub densest : new.densest ≡ p
 
--- A wire that begins at this position takes the least free track, or, where none is free, one that is new.
+-- A wire that begins at this position takes the least free track, or a new one if none is free.
 pub record TakesTrack (old : Swept) (p track : ℕ) (new : Swept) : Type 0 where
   pub wires : new.wires ≡ old.wires
   pub ending : new.ending ≡ old.ending
@@ -71,6 +72,6 @@ pub record TakesTrack (old : Swept) (p track : ℕ) (new : Swept) : Type 0 where
 abbrev pub placed : Wire → ℕ → Tracked
 placed w n = record { from = w.from; to = w.to; track = n }
 
--- the floor plan when all positions are behind
+-- the floor plan, once all positions have been passed
 abbrev pub floor_of : Swept → FloorPlan
 floor_of s = record { wires = s.wires; tracks = s.tracks; densest = s.densest }

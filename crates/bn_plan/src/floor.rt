@@ -5,9 +5,8 @@ ghost use Rattle.std.specs.Prelude.{◌≡◌};
 use crate::tracked::Tracked;
 use std::marker::Model;
 
-/// The floor plan of some wires: the elements stand in one line, and each wire has a track. Clauses
-/// see the wires with their tracks, the number of tracks, and the densest position. (This project's
-/// own profile.)
+/// The floor plan of some wires: the elements lie side by side, and each wire has a track. Contracts see the wires
+/// with their tracks, the number of tracks, and the densest position. (This project's own profile.)
 #[derive(Debug, Drop)]
 pub struct Plan {
     pub(crate) wires: Vec<Tracked>,
@@ -24,16 +23,16 @@ impl Model for Plan {
 }
 
 impl Plan {
-    /// The number of tracks, 0 where there are no wires. It is the greatest density, too: the number
-    /// of wires that cover the densest position.
+    /// The number of tracks, 0 if there are no wires. It equals the greatest density, which is the number of wires
+    /// that cover the densest position.
     pub fn tracks(&self) -> u32
         ensures { result ≡ self.now.tracks }
     {
         self.tracks
     }
 
-    /// The densest position, from 0: the least of those that the most wires cover, 0 where there are
-    /// no wires.
+    /// The densest position, counted from 0: the least of the positions that the greatest number of wires cover, and 0
+    /// if there are no wires.
     pub fn densest(&self) -> u32
         ensures { result ≡ self.now.densest }
     {

@@ -1,4 +1,4 @@
-//! The tracks that are free, of which the least is wanted next.
+//! The tracks that are free, from which the least is taken next.
 
 ghost use Rattle.std.specs.Prelude.{◌≡◌, ◌≤◌, ℕ, [], ◌∷◌, IfSome, IfNone, OnOk};
 ghost use Rattle.bn_lists.specs.Lists.{Has};
@@ -10,7 +10,7 @@ use std::cmp::Reverse;
 use std::collections::BinaryHeap;
 use std::marker::Model;
 
-/// Some tracks, in no order that is seen.
+/// A collection of tracks, whose order contracts do not see.
 #[derive(Drop)]
 pub(crate) struct FreeTracks {
     tracks: BinaryHeap<Reverse<u32>>,
@@ -29,7 +29,7 @@ impl Model for FreeTracks {
 }
 
 impl FreeTracks {
-    /// No tracks.
+    /// The empty collection.
     pub(crate) fn new(alloc: Global) -> FreeTracks
         ensures { result ≡ [] }
     {
@@ -46,7 +46,7 @@ impl FreeTracks {
         Ok(())
     }
 
-    /// Takes the least track out, `None` where there is none.
+    /// Removes the least track and returns it; `None` if there is none.
     pub(crate) fn take_least(&mut self) -> Option<u32>
         ensures taken { IfSome result (λ n. IsPermutation self.old (n ∷ self.new)) }
         ensures least { IfSome result (λ n. (m : ℕ) → Has self.old m → n ≤ m) }

@@ -1,5 +1,5 @@
-//! Floor plans of circuits of rotary elements: the elements in one line, each wire on a track, and the
-//! least number of tracks.
+//! Floor plans of circuits of rotary elements: the elements side by side, each wire on a track, and the least number
+//! of tracks.
 #![tactic(auto)]
 
 mod floor;

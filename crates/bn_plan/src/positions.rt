@@ -1,4 +1,4 @@
-//! Positions of lines, and the wire that begins at a position.
+//! The positions of ports, and the wire that begins at a position.
 
 ghost use Rattle.std.specs.Prelude.{◌≡◌, ◌↔◌, ◌*◌, ◌^◌, ◌<◌, ◌≤◌, length, map, IfSome, IfNone, IsTrue};
 ghost use Rattle.bn_circuits.specs.Circuits.{IsCircuit, IsInputOf, IsOutputOf};
@@ -15,13 +15,13 @@ use bn_element::Rotary;
 /// The greatest number of elements of a circuit that has a floor plan.
 pub const MOST_PLANNED: u32 = 4_194_304;
 
-/// The number of positions that an element takes: its outputs, and then its inputs.
+/// The number of positions that an element takes: for its outputs, and then for its inputs.
 pub(crate) const POSITIONS: u32 = 8;
 
-// The number of output lines of a rotary element.
+// The number of output ports of a rotary element.
 const OUTPUTS: u32 = 4;
 
-/// The position of an output line.
+/// The position of an output port.
 pub(crate) fn output_position(line: Line) -> u32
     requires element { line.element < MOST_PLANNED }
     requires line { line.line < 4 }
@@ -30,7 +30,7 @@ pub(crate) fn output_position(line: Line) -> u32
     POSITIONS * line.element + line.line
 }
 
-/// The position of an input line.
+/// The position of an input port.
 pub(crate) fn input_position(line: Line) -> u32
     requires element { line.element < MOST_PLANNED }
     requires line { line.line < 4 }
@@ -39,8 +39,8 @@ pub(crate) fn input_position(line: Line) -> u32
     POSITIONS * line.element + OUTPUTS + line.line
 }
 
-/// The wire that begins at this position: its lesser end stands there. `None` where none does. Its contract also tells
-/// what every net keeps.
+/// The wire that begins at this position, which is its lesser end; `None` if no wire does. Its contract also states
+/// the invariant of every net.
 pub(crate) fn wire_from(net: &Net<Rotary>, position: u32) -> Option<Wire>
     requires few { length net.now.elements ≤ MOST_PLANNED }
     requires position { position < 8 * length net.now.elements }
@@ -59,7 +59,7 @@ pub(crate) fn wire_from(net: &Net<Rotary>, position: u32) -> Option<Wire>
     }
 }
 
-// The wire that begins at this output line.
+// The wire that begins at this output port.
 fn wire_out_of(net: &Net<Rotary>, from: Line) -> Option<Wire>
     requires few { length net.now.elements ≤ MOST_PLANNED }
     requires output { IsOutputOf (map (λ _. rotary) net.now.elements) from }
@@ -77,7 +77,7 @@ fn wire_out_of(net: &Net<Rotary>, from: Line) -> Option<Wire>
     }
 }
 
-// The wire that begins at this input line.
+// The wire that begins at this input port.
 fn wire_into(net: &Net<Rotary>, to: Line) -> Option<Wire>
     requires few { length net.now.elements ≤ MOST_PLANNED }
     requires input { IsInputOf (map (λ _. rotary) net.now.elements) to }
@@ -95,7 +95,7 @@ fn wire_into(net: &Net<Rotary>, to: Line) -> Option<Wire>
     }
 }
 
-// Whether the wire begins at its output line: that has the lesser position.
+// Whether the wire begins at its output port: that is, the output port has the lesser position.
 fn begins_at_output(wire: Wire) -> bool
     requires from { wire.from.element < MOST_PLANNED }
     requires to { wire.to.element < MOST_PLANNED }

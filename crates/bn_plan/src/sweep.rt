@@ -1,4 +1,4 @@
-//! A way along all positions, on which each wire takes its track.
+//! A sweep over all positions in order, in which each wire takes its track.
 
 ghost use Rattle.std.specs.Prelude.{◌≡◌, ◌+◌, ◌*◌, ◌<◌, ◌≤◌, ◌^◌, [], List, length, replicate, IfOk, OnOk};
 ghost use Rattle.bn_circuits.specs.declared.line.Wire.{Wire};
@@ -15,12 +15,12 @@ use bn_element::Rotary;
 use std::alloc::Global;
 use std::marker::Model;
 
-/// What is kept of the wires that begin before a position.
+/// The state of the sweep before a position: the wires that begin earlier, and their tracks.
 #[derive(Drop)]
 pub(crate) struct Sweep {
     wires: Vec<Tracked>,
     free: FreeTracks,
-    // For each position the track of the wire that ends there, once it has begun.
+    // For each position, the track of the wire that ends there, once that wire has begun.
     ending: Vec<Option<u32>>,
     tracks: u32,
     densest: u32,
@@ -41,7 +41,7 @@ impl Model for Sweep {
 }
 
 impl Sweep {
-    /// What is kept before the first of so many positions.
+    /// The state before the first of this many positions.
     pub(crate) fn new(alloc: Global, positions: u32) -> Result<Sweep, NoMemory>
         ensures positions { IfOk result (λ s. length s.ending ≡ positions) }
         ensures swept { IfOk result (λ s. (ws : List Wire) → IsSwept ws 0 s) }
@@ -56,7 +56,7 @@ impl Sweep {
         })
     }
 
-    /// Goes past a position of a net.
+    /// Passes a position of a net.
     pub(crate) fn go_past(&mut self, net: &Net<Rotary>, position: u32) -> Result<(), NoMemory>
         requires few { length net.now.elements ≤ MOST_PLANNED }
         requires position { position < 8 * length net.now.elements }
@@ -71,7 +71,7 @@ impl Sweep {
         }
     }
 
-    /// The floor plan, when all positions are behind.
+    /// The floor plan, once all positions have been passed.
     pub(crate) fn into_plan(self) -> Plan
         ensures { result ≡ floor_of self }
     {
@@ -82,7 +82,7 @@ impl Sweep {
         }
     }
 
-    // Goes past a position at which no wire begins: the track of the wire that ends there is free.
+    // Passes a position at which no wire begins. If a wire ends there, its track becomes free.
     fn end(&mut self, position: u32) -> Result<(), NoMemory>
         requires { position < length self.old.ending }
         ensures positions { OnOk result (length self.new.ending ≡ length self.old.ending) }
@@ -95,7 +95,7 @@ impl Sweep {
         }
     }
 
-    // Goes past the position at which this wire begins.
+    // Passes the position at which this wire begins.
     fn begin(&mut self, wire: Wire) -> Result<(), NoMemory>
         requires from { wire.from.element < MOST_PLANNED }
         requires to { wire.to.element < MOST_PLANNED }
@@ -115,8 +115,8 @@ impl Sweep {
         Ok(())
     }
 
-    // The track for a wire that begins at this position: the least that is free, or else a new one.
-    // Where a track is new, no position before was covered by as many wires.
+    // The track for a wire that begins at this position: the least free track, or a new one if none is free. If the
+    // track is new, no earlier position is covered by as many wires.
     fn take_track(&mut self, position: u32) -> u32
         requires { self.old.tracks + 1 < 2 ^ 32 }
         ensures { TakesTrack self.old position result self.new }

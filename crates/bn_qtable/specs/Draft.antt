@@ -1,4 +1,4 @@
--- What a table that is being read has come to.
+-- A table that is being read.
 use Rattle.std.specs.Prelude.{◌≡◌, ℕ, ◌<◌, ◌-◌, ◌^◌, List, [], ◌∷◌, Some, length, map, slice_get, bytes_eq}
 use Rattle.std.proofs.lemmas.Slice.Eq.{bytes_eq-Decides}
 use Rattle.bn_csv.specs.Numbering.{with_name}
@@ -18,12 +18,12 @@ names_of d = d.lists
 abbrev pub drafted : Draft → List (List (List ℕ))
 drafted d = quadruple_rows_by (names_of d) (rules_of d.quads.items)
 
--- the draft's names are those of its entries, and each quadruple is its rule as it is kept
+-- the draft's names are those of its entries, and each stored quadruple (`Quad`) is that of its `Rule`
 pub record IsDraft (d : Draft) : Type 0 where
   pub spelled : SpellsQuadruples (names_of d) (rules_of d.quads.items) (drafted d)
   pub kept : map quad_of (rules_of d.quads.items) ≡ d.quads.items
 
--- the deed is what is said, by these names
+-- the deed is that of this part of an entry, by these names
 abbrev pub Stands : List (List ℕ) → Deed → Says → Type 0
 Stands names (Rewrite read written) (Rewrites r w) = (slice_get names read ≡ Some r)
     × (slice_get names written ≡ Some w)
@@ -31,12 +31,12 @@ Stands names (Rewrite read written) (Moves t) = ⊥
 Stands names (Move s) (Rewrites r w) = ⊥
 Stands names (Move s) (Moves t) = s ≡ t
 
--- the names of a tape's symbols with those that are said
+-- the names of a tape's symbols and those that this part of an entry adds
 abbrev pub with_says : List (List ℕ) → Says → List (List ℕ)
 with_says names (Rewrites read written) = with_name (with_name names read) written
 with_says names (Moves s) = names
 
--- the rule r says s, and the names are those of before with the ones that s has
+-- the entry s is that of the quadruple r, and n2 contains the names of n and the new ones of s
 pub record Adds (n : Naming) (s : SaidQuadruple) (r : Rule ℕ) (n2 : Naming) : Type 0 where
   pub states_after : n2.states ≡ with_name (with_name n.states s.state) s.next
   pub one_after : n2.one ≡ with_says n.one s.one
@@ -49,18 +49,18 @@ pub record Adds (n : Naming) (s : SaidQuadruple) (r : Rule ℕ) (n2 : Naming) : 
   pub to : slice_get n2.states r.to ≡ Some s.next
   pub forms : HasForms s
 
--- no names of states, and on each tape the blank alone
+-- no names of states, and on each tape only the blank
 abbrev pub blanks_alone : Naming
 blanks_alone = naming_of [] (blank_name ∷ []) (blank_name ∷ []) (blank_name ∷ [])
 
--- each kind of names has room for two more
+-- there is room for two more names of each kind
 pub record HasRoom (n : Naming) : Type 0 where
   pub states : length n.states < 2 ^ 32 - 2
   pub one : length n.one < 2 ^ 32 - 2
   pub two : length n.two < 2 ^ 32 - 2
   pub three : length n.three < 2 ^ 32 - 2
 
--- no name stands twice among those of its kind
+-- no name occurs twice among those of its kind
 pub record AreListed (n : Naming) : Type 0 where
   pub states : AreApart bytes_eq bytes_eq-Decides n.states
   pub one : AreApart bytes_eq bytes_eq-Decides n.one

@@ -12,15 +12,15 @@ use Rattle.bn_qtable.specs.declared.refusal.QuadTableRefusal.TheVariants as refu
 abbrev pub is_read : List ℕ → Bool
 is_read read = bytes_eq read slash || is_symbol read
 
--- an act is a shift where the read of its tape is `/`, else a symbol
+-- an action is a shift if the read of its tape is `/`, otherwise a symbol
 abbrev pub is_act : List ℕ → List ℕ → Bool
 is_act read act = if bytes_eq read slash then is_shift act else is_symbol act
 
--- the fault of an act that isn't so
+-- the fault of an action that is not
 abbrev pub act_fault : ℕ → ℕ → List ℕ → QuadTableRefusal
 act_fault entry field read = if bytes_eq read slash then refusal.Shift entry field else refusal.Symbol entry field
 
--- the first field, in order, that isn't of its form: a state's name, three reads, three acts, a state's name
+-- the first field, in order, that does not have its form: a state's name, three reads, three actions, a state's name
 abbrev pub quadruple_field_fault : ℕ → List ℕ → List ℕ → List ℕ → List ℕ → List ℕ → List ℕ → List ℕ → List ℕ
     → Option QuadTableRefusal
 quadruple_field_fault entry state read1 read2 read3 act1 act2 act3 next =
@@ -34,16 +34,16 @@ quadruple_field_fault entry state read1 read2 read3 act1 act2 act3 next =
     else if not (is_state_name next) then Some (refusal.Name entry 8)
     else None
 
--- the fault of an entry's fields: there are not eight, or one isn't of its form
+-- the fault of an entry's fields: there are not eight, or one does not have its form
 abbrev pub quadruple_form_fault : ℕ → List (List ℕ) → Option QuadTableRefusal
 quadruple_form_fault entry (state ∷ read1 ∷ read2 ∷ read3 ∷ act1 ∷ act2 ∷ act3 ∷ next
     ∷ []) = quadruple_field_fault entry state read1 read2 read3 act1 act2 act3 next
 quadruple_form_fault entry fields = Some (refusal.FieldCount entry)
 
--- the first fault of the entry with this number: it comes after as many as a table may have, or its fields have a fault
+-- the first fault of the entry with this number: there are too many entries, or its fields have a fault
 abbrev pub quadruple_entry_fault : ℕ → List (List ℕ) → Option QuadTableRefusal
 quadruple_entry_fault entry fields = limited MOST_ENTRIES refusal.TooMany quadruple_form_fault entry fields
 
--- the fault of a table's entries: there is none, or the first faulty entry's first fault
+-- the fault of a table's entries: the table is empty, or the first fault of the first faulty entry
 abbrev pub quadruple_table_fault : List (List (List ℕ)) → Option QuadTableRefusal
 quadruple_table_fault entries = first_fault refusal.Empty quadruple_entry_fault entries

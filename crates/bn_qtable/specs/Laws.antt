@@ -6,9 +6,9 @@ use Rattle.std.specs.Prelude.{◌≡◌}
 pub record Laws : Type 0 where
   -- The most entries are 20,000.
   pub most_entries_are_stated : MOST_ENTRIES ≡ 20000
-  -- Bytes are read as one table at most.
+  -- Bytes are read as at most one table.
   pub bytes_have_one_reading : OneReading
-  -- Bytes have a reading exactly where their entries have no fault.
+  -- Bytes have a reading exactly if their entries have no fault.
   pub bytes_have_a_reading_or_a_fault : ReadingOrFault
-  -- A table that bytes are read as can be written, and what is written is read as it again.
+  -- If bytes are read as a table, the table can be written, and the text is read as the same table.
   pub tables_that_are_read_can_be_written : ReadTablesAreNamed

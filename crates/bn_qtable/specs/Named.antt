@@ -1,4 +1,4 @@
--- Names for what is written, and names as they are gathered.
+-- The names that a table needs to be written, and names that are collected tape by tape.
 use Rattle.std.specs.Prelude.{◌≡◌, ℕ, zero, suc, ◌<◌, List, Bool, true, Some, slice_get, ⊤}
 use Rattle.bn_csv.specs.Forms.{is_state_name, is_symbol}
 use Rattle.bn_lists.specs.Lists.{nth}
@@ -13,7 +13,7 @@ IsNamed form names n = (name : List ℕ) × (slice_get names n ≡ Some name) ×
 pub record AreNamed (form : List ℕ → Bool) (names : List (List ℕ)) (count : ℕ) : Type 0 where
   pub each : (n : ℕ) → n < count → IsNamed form names n
 
--- every state and every symbol of the machine has a name, in its form
+-- every state and every symbol of the machine has a name with its form
 pub record HasNames (p : Quadruples) (names : Naming) : Type 0 where
   pub states : AreNamed is_state_name names.states p.states
   pub one : (z : ℕ) → nth p.symbols 1 ≡ Some z → AreNamed is_symbol names.one z
@@ -33,7 +33,7 @@ pub record RuleIsNamed (names : Naming) (r : Rule ℕ) : Type 0 where
   pub three : DeedIsNamed names.three r.three
   pub to : IsNamed is_state_name names.states r.to
 
--- the names with these for the symbols of a tape, counted from 1
+-- the naming with these names for the symbols of a tape, counted from 1
 abbrev pub on_tape : Naming → ℕ → List (List ℕ) → Naming
 on_tape n zero names = n
 on_tape n (suc zero) names = naming_of n.states names n.two n.three

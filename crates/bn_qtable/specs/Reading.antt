@@ -5,19 +5,19 @@ use Rattle.bn_qtable.specs.Faults.{quadruple_table_fault}
 use Rattle.bn_qtable.specs.Named.{HasNames}
 use Rattle.bn_qtable.specs.Rows.{IsTable, IsQuadTableOf, QuadTable}
 
--- the bytes read as this table: it has the bytes' entries
+-- the bytes are read as this table: it has the entries of the bytes
 abbrev pub ReadsQuadruples : List ℕ → QuadTable → Type 0
 ReadsQuadruples bytes t = IsQuadTableOf (entries_of bytes) t
 
--- bytes read as one table at most
+-- bytes are read as at most one table
 abbrev pub OneReading : Type 0
 OneReading = (bytes : List ℕ) (t u : QuadTable) → ReadsQuadruples bytes t → ReadsQuadruples bytes u → t ≡ u
 
--- bytes have a reading exactly where their entries have no fault
+-- bytes have a reading exactly if their entries have no fault
 abbrev pub ReadingOrFault : Type 0
 ReadingOrFault = (bytes : List ℕ)
     → (quadruple_table_fault (entries_of bytes) ≡ None) ↔ ((t : QuadTable) × ReadsQuadruples bytes t)
 
--- a table that bytes are read as has names for its states and symbols, and is the table of its own entries
+-- if bytes are read as a table, its states and symbols have names, and it is the table of its own entries
 abbrev pub ReadTablesAreNamed : Type 0
 ReadTablesAreNamed = (bytes : List ℕ) (t : QuadTable) → ReadsQuadruples bytes t → HasNames t.machine t.names × IsTable t

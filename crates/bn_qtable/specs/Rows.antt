@@ -18,12 +18,12 @@ pub record QuadTable : Type 0 where
 abbrev pub table_of : Quadruples → Naming → QuadTable
 table_of p names = record { machine = p; names = names }
 
--- what an entry says of a tape, by the names of the tape's symbols
+-- the part of an entry for one tape, by the names of the tape's symbols
 abbrev pub said_deed : List (List ℕ) → Deed → Says
 said_deed names (Rewrite read written) = Rewrites (slice_index_or names read []) (slice_index_or names written [])
 said_deed names (Move s) = Moves s
 
--- what a quadruple's entry says
+-- the content of the entry of a quadruple
 abbrev pub said_of_quadruple : Naming → Rule ℕ → SaidQuadruple
 said_of_quadruple names r = record {
   state = slice_index_or names.states r.from [];
@@ -45,7 +45,7 @@ rows_of t = quadruple_rows_by t.names t.machine.rules
 abbrev pub state_names_in : List (List (List ℕ)) → List (List ℕ)
 state_names_in entries = flat_map (λ fields. field_at fields 0 ∷ field_at fields 7 ∷ []) entries
 
--- the symbols of a tape, counted from 1, in an entry: none where it isn't read, else the one read, then the one written
+-- the symbols of a tape, counted from 1, in an entry: none if it is not read, else the one read, then the one written
 abbrev pub symbols_at : ℕ → List (List ℕ) → List (List ℕ)
 symbols_at tape fields = if bytes_eq (field_at fields tape) slash then [] else field_at fields tape
     ∷ field_at fields (tape + 3) ∷ []
@@ -62,8 +62,8 @@ blank_name = 95 ∷ []
 abbrev pub counts_of : Naming → List ℕ
 counts_of names = length names.one ∷ length names.two ∷ length names.three ∷ []
 
--- these quadruples have these entries, where the states' names, and on each tape the symbols' names, are numbered by
--- their first appearance in the entries, the blank's before all others of its tape
+-- these quadruples have these entries; the names of the states, and on each tape the names of the symbols, are numbered
+-- by their first appearance in the entries, with the blank before all others of its tape
 pub record SpellsQuadruples (names : Naming) (rules : List (Rule ℕ)) (entries : List (List (List ℕ))) : Type 0 where
   pub rows : quadruple_rows_by names rules ≡ entries
   pub in_range : All (IsRuleInRange (length names.states) (counts_of names)) rules
@@ -76,7 +76,7 @@ pub record SpellsQuadruples (names : Naming) (rules : List (Rule ℕ)) (entries 
   pub two_form : list_all is_symbol names.two ≡ true
   pub three_form : list_all is_symbol names.three ≡ true
 
--- a table has these entries, of which there is one at least, and as many at most as a table may have
+-- the table has these entries, at least one and at most `MOST_ENTRIES`
 pub record IsQuadTableOf (entries : List (List (List ℕ))) (t : QuadTable) : Type 0 where
   pub spelled : SpellsQuadruples t.names t.machine.rules entries
   pub some : 0 < length entries
@@ -84,6 +84,6 @@ pub record IsQuadTableOf (entries : List (List (List ℕ))) (t : QuadTable) : Ty
   pub states : t.machine.states ≡ length t.names.states
   pub symbols : t.machine.symbols ≡ counts_of t.names
 
--- a table with the entries of its own quadruples: its names are numbered by first appearance
+-- the table of the entries of its own quadruples: its names are numbered by first appearance
 abbrev pub IsTable : QuadTable → Type 0
 IsTable t = IsQuadTableOf (rows_of t) t

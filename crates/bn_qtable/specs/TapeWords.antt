@@ -5,12 +5,12 @@ use Rattle.bn_qtable.specs.declared.tape_word.TapeWord.TheVariants as variants
 use Rattle.bn_qtable.specs.declared.tape_word.TapeWords as declared_words
 use Rattle.bn_qtable.specs.declared.tape_word.TapeWords.TheVariants as words
 
--- a word on one tape: bytes that are each the name of a symbol, or names with commas between
+-- a word on one tape: bytes that are each the name of a symbol, or names separated by commas
 pub data TapeWord : Type 0 where
   Letters : List ℕ → TapeWord
   Names : List ℕ → TapeWord
 
--- a word on tape 1 alone, or one on each tape, tape 1 first
+-- a word on tape 1 only, or one on each tape, tape 1 first
 pub data TapeWords : Type 0 where
   One : TapeWord → TapeWords
   Three : TapeWord → TapeWord → TapeWord → TapeWords
@@ -32,7 +32,7 @@ names_between [] = [] ∷ []
 names_between (byte ∷ bytes) =
     if byte == comma then [] ∷ names_between bytes else begin_first byte (names_between bytes)
 
--- the names of a word's symbols, in order; where names are given, no byte at all is the empty word
+-- the names of a word's symbols, in order; for `Names`, no bytes at all are the empty word
 abbrev pub names_of_word : TapeWord → List (List ℕ)
 names_of_word (Letters bytes) = map (λ byte. byte ∷ []) bytes
 names_of_word (Names []) = []
@@ -47,7 +47,7 @@ names_on (Three first second third) (suc (suc zero)) = names_of_word second
 names_on (Three first second third) (suc (suc (suc zero))) = names_of_word third
 names_on (Three first second third) _ = []
 
--- ---- what the program's own words are
+-- ---- the words of the program
 
 abbrev pub tape_word_of : declared.TapeWord → TapeWord
 tape_word_of (variants.Letters bytes) = Letters bytes.now

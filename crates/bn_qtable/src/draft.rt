@@ -22,7 +22,7 @@ pub struct Draft {
     quads: Vec<Quad>,
 }
 
-/// A draft of no entries: each tape has the blank alone.
+/// A draft without entries: each tape has only the blank.
 pub fn new_draft(alloc: Global) -> Result<Draft, NoMemory>
     ensures { IfOk result (λ d. IsDraft d × (drafted d ≡ [])) }
 {
@@ -78,7 +78,7 @@ impl TableDraft for Draft {
     }
 }
 
-/// The machine of a draft, which has an entry, with its names; else `Empty`.
+/// The machine of a draft, with its names. The error is `Empty` if the draft has no entry.
 pub fn into_table(alloc: Global, draft: Draft) -> Result<(QuadMachine, QuadNames), QuadTableRefusal>
     requires draft { IsDraft draft }
     requires few { length (drafted draft) ≤ MOST_ENTRIES }

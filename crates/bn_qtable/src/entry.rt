@@ -15,7 +15,7 @@ use bn_machine::{Shift, shift_of};
 /// The most entries of a table.
 pub const MOST_ENTRIES: u32 = 20000;
 
-/// What an entry says of a tape.
+/// The part of an entry that belongs to one tape: the symbols read and written, or a shift.
 #[derive(Clone, Copy)]
 pub enum TapeText<'a> {
     /// The symbol that is read, and the one that is written.
@@ -24,7 +24,7 @@ pub enum TapeText<'a> {
     Move(Shift),
 }
 
-/// What an entry says.
+/// The content of an entry.
 #[derive(Clone, Copy)]
 pub struct Fields<'a> {
     pub state: &'a [u8],
@@ -34,7 +34,7 @@ pub struct Fields<'a> {
     pub next: &'a [u8],
 }
 
-// Whether a field is `/`, the read of a tape that isn't read.
+// Whether a field is `/`, which marks a tape that is not read.
 fn is_slash(field: &[u8]) -> bool
     ensures { result ≡ bytes_eq field.now slash }
 {
@@ -48,7 +48,7 @@ fn is_read(field: &[u8]) -> bool
     is_slash(field) || is_symbol(field)
 }
 
-// What a read and an act say of their tape, where the act fits the read.
+// The content of a read and an action on one tape, or `None` if the action does not fit the read.
 fn tape_text<'a>(read: &'a [u8], act: &'a [u8]) -> Option<TapeText<'a>>
     requires { fault.is_read read.now ≡ true }
     ensures none { IfNone result (fault.is_act read.now act.now ≡ false) }
@@ -68,7 +68,7 @@ fn tape_text<'a>(read: &'a [u8], act: &'a [u8]) -> Option<TapeText<'a>>
     }
 }
 
-// The fault of an act that doesn't fit its read.
+// The fault of an action that does not fit its read.
 fn act_fault(entry: u32, field: u32, read: &[u8]) -> QuadTableRefusal
     ensures { result ≡ fault.act_fault entry field read.now }
 {
@@ -79,7 +79,7 @@ fn act_fault(entry: u32, field: u32, read: &[u8]) -> QuadTableRefusal
     }
 }
 
-// What eight fields say, or their first fault.
+// The content of eight fields, or their first fault.
 fn eight_fields<'a>(
     entry: u32,
     state: &'a [u8],
@@ -130,7 +130,7 @@ fn eight_fields<'a>(
     })
 }
 
-/// What an entry says, or the first fault of its fields. The number is the entry's own, counted from 1.
+/// The content of an entry, or the first fault of its fields. `number` is the entry's number, counted from 1.
 pub fn read_fields<'a>(entry: &'a Entry, number: u32) -> Result<Fields<'a>, QuadTableRefusal>
     ensures says { IfOk result (λ f. quadruple_entry (said f) ≡ entry.now) }
     ensures forms { IfOk result (λ f. HasForms (said f)) }

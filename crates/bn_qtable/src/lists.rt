@@ -1,4 +1,4 @@
-//! Names as they are numbered while a table is read.
+//! The names that are numbered while a table is read.
 
 ghost use Rattle.std.specs.Prelude.{◌≡◌, ◌≤◌, ◌<◌, ◌-◌, ◌^◌, [], OnOk, IfOk, length, bytes_eq};
 ghost use Rattle.std.proofs.lemmas.Slice.Eq.{bytes_eq-Decides};
@@ -15,7 +15,7 @@ use bn_quad::{Act, Quad, QuadNames};
 use std::alloc::Global;
 use std::marker::Model;
 
-/// The names of the states, and of each tape's symbols, each kind numbered in the order in which they came.
+/// The names of the states and of each tape's symbols, each kind numbered by first appearance.
 pub struct Lists {
     states: Names,
     one: Names,
@@ -23,7 +23,7 @@ pub struct Lists {
     three: Names,
 }
 
-// Written out, so that a function that holds lists drops them by one call: each proof is shorter by far.
+// Written out: a function that owns lists drops them with one call, which makes each proof much shorter.
 impl Drop for Lists {
     fn drop(self) {
         let Lists {
@@ -50,7 +50,7 @@ impl Lists {
     ghost use Rattle.bn_qtable.specs.Fields.{said};
     ghost use Rattle.bn_qtable.specs.Rows.{counts_of};
 
-    /// The names before the first entry: each tape has the blank alone.
+    /// The names before the first entry: each tape has only the blank.
     pub fn new(alloc: Global) -> Result<Lists, NoMemory>
         ensures { IfOk result (λ l. l ≡ blanks_alone) }
     {
@@ -80,7 +80,7 @@ impl Lists {
         [self.one.len(), self.two.len(), self.three.len()]
     }
 
-    /// The quadruple of what an entry says. Names that are new are added, in the order in which they stand there.
+    /// The quadruple of an entry. New names are added in the order in which they appear in the entry.
     pub fn number(&mut self, fields: &Fields) -> Result<Quad, NoMemory>
         requires room { HasRoom self.old }
         requires forms { HasForms (said fields.now) }
@@ -100,7 +100,7 @@ impl Lists {
         })
     }
 
-    /// The names of a machine, numbered as they are here.
+    /// The same names, with the same numbers, as the names of a machine.
     pub fn gather(&self, alloc: Global) -> Result<QuadNames, NoMemory>
         requires { AreListed self.now }
         ensures { IfOk result (λ names. names ≡ self.now) }
@@ -114,7 +114,7 @@ impl Lists {
     }
 }
 
-// What is read and done on a tape, by the numbers of its symbols, which are added at the end where they are new.
+// The read and the action on a tape, by the numbers of its symbols. New symbols are added at the end.
 fn number_text(symbols: &mut Names, text: &TapeText) -> Result<(Option<u32>, Act), NoMemory>
     requires { length symbols.old < 2 ^ 32 - 2 }
     ensures symbols { OnOk result (symbols.new ≡ with_says symbols.old (says text.now)) }
@@ -131,7 +131,7 @@ fn number_text(symbols: &mut Names, text: &TapeText) -> Result<(Option<u32>, Act
     }
 }
 
-// Gives the states their names.
+// Adds the names of the states.
 fn gather_states(names: &mut QuadNames, list: &Names) -> Result<(), NoMemory>
     requires none { names.old.states ≡ [] }
     requires apart { AreApart bytes_eq bytes_eq-Decides list.now }
@@ -143,7 +143,7 @@ fn gather_states(names: &mut QuadNames, list: &Names) -> Result<(), NoMemory>
     Ok(())
 }
 
-// Gives the symbols of a tape from 1 to 3 their names.
+// Adds the names of the symbols of a tape from 1 to 3.
 fn gather_symbols(names: &mut QuadNames, tape: u32, list: &Names) -> Result<(), NoMemory>
     requires first { 1 ≤ tape }
     requires last { tape ≤ 3 }

@@ -2,19 +2,19 @@
 
 use bn_csv::NoMemory;
 
-/// Why some bytes are no table of quadruples. Entries and fields are counted from 1; the first faulty entry is
-/// named, with its first fault in this order: too many entries, the count of fields, the fields from 1 to 8.
+/// Why some bytes are not a table of quadruples. Entries and fields are counted from 1. The refusal names the first
+/// faulty entry, with its first fault in this order: too many entries, the count of fields, the fields from 1 to 8.
 #[derive(Clone, Copy, PartialEq, Eq, Debug)]
 pub enum QuadTableRefusal {
-    /// The entry has not eight fields.
+    /// The entry does not have eight fields.
     FieldCount { entry: u32 },
-    /// The field, 1 or 8, is no state's name.
+    /// The field, 1 or 8, is not a state's name.
     Name { entry: u32, field: u32 },
-    /// The field is no symbol: a read, 2 to 4, that isn't `/` either, or an act, 5 to 7, of a tape that is read.
+    /// The field is not a symbol: a read, 2 to 4, that is not `/` either, or an action, 5 to 7, on a tape that is read.
     Symbol { entry: u32, field: u32 },
-    /// The field, 5 to 7, is the act of a tape that isn't read, and is none of `-`, `0` and `+`.
+    /// The field, 5 to 7, is the action on a tape that is not read, and is none of `-`, `0` and `+`.
     Shift { entry: u32, field: u32 },
-    /// The entry comes after `MOST_ENTRIES` others.
+    /// The entry is preceded by `MOST_ENTRIES` others.
     TooMany { entry: u32 },
     /// There is no entry.
     Empty,

@@ -1,11 +1,11 @@
-//! Words on the tapes of a machine of quadruples, as they are asked for.
+//! Input words on the tapes of a machine of quadruples.
 
 /// A word on one tape, by the names of its symbols (this project's own profile).
 #[derive(Clone, Copy, Debug)]
 pub enum TapeWord<'a> {
     /// Each byte is the name of a symbol.
     Letters(&'a [u8]),
-    /// The names of the symbols, with a comma between two. No byte at all is the empty word.
+    /// The names of the symbols, separated by commas. No bytes at all are the empty word.
     Names(&'a [u8]),
 }
 

@@ -21,10 +21,10 @@ use bn_machine::{Shift, text_of_shift};
 use bn_quad::{Act, Quad, QuadMachine, QuadNames};
 use std::alloc::Global;
 
-/// Reads the bytes of a table: csv records without a header, each with a state's name, what is read on the three
-/// tapes, `/` where nothing is, what is done there, a shift `-`, `0` or `+` where nothing is read and else the symbol
-/// written, and the next state's name. It answers the bytes' one reading, where they have one, which `write_quads`
-/// can write; each refusal but `NoMemory` comes exactly where it is the entries' first fault.
+/// Reads the bytes of a table: csv records without a header. Each has a state's name, the reads on the three tapes (`/`
+/// if the tape is not read), the actions there (a shift `-`, `0` or `+` if the tape is not read, and otherwise the
+/// symbol to write), and the next state's name. Returns the only reading of the bytes, which `write_quads` can write.
+/// Each refusal but `NoMemory` is the first fault of the entries.
 pub fn read_quads(alloc: Global, bytes: &[u8]) -> Result<(QuadMachine, QuadNames), QuadTableRefusal>
     ensures ok { IfOk result (λ t. ReadsQuadruples bytes.now (table_of t.0 t.1)) }
     ensures named { IfOk result (λ t. HasNames t.0 t.1) }
@@ -34,7 +34,7 @@ pub fn read_quads(alloc: Global, bytes: &[u8]) -> Result<(QuadMachine, QuadNames
     into_table(alloc, draft)
 }
 
-// The fields of what is read and done on a tape.
+// The two fields of a read and an action on a tape.
 fn fields_on<'a>(
     names: &'a QuadNames,
     tape: u32,
@@ -74,8 +74,9 @@ fn write_quad(writer: &mut EntryWriter, names: &QuadNames, quad: &Quad) -> Resul
     writer.write_entry(&[state, read1, read2, read3, act1, act2, act3, next])
 }
 
-/// The text of a table: for each quadruple a line with its eight fields, in order. Reading it gives the table, where
-/// the names are numbered by first appearance. Every state and every symbol of the machine has a name in its form.
+/// The text of a table: for each quadruple a line with its eight fields, in order. Every state and every symbol of the
+/// machine must have a name in its form. If the names are numbered by first appearance, reading the text gives the
+/// table.
 pub fn write_quads(
     alloc: Global,
     machine: &QuadMachine,

@@ -4,14 +4,14 @@ use Rattle.bn_lists.specs.Lists.{nth, IsLeast}
 use Rattle.bn_quad.specs.Quadruples.{Rule}
 use Rattle.bn_quad.specs.declared.state_index.StateIndex.{StateIndex}
 
--- quadruple n, counted from 1, stands behind the m-th, and leaves the state
+-- quadruple n, counted from 1, comes after the m-th, and leaves the state
 pub record LeavesBehind (rs : List (Rule ℕ)) (state m n : ℕ) : Type 0 where
   pub behind : m < n
   pub rule : Rule ℕ
   pub stands : nth rs n ≡ Some rule
   pub from : rule.from ≡ state
 
--- the next quadruple behind the m-th that leaves the state, or that there is none; where m is 0, the first of all
+-- the next quadruple after the m-th that leaves the state, or `None` if there is none; for m = 0, the first of all
 abbrev pub IsNextLeaving : List (Rule ℕ) → ℕ → ℕ → Option ℕ → Type 0
 IsNextLeaving rs state m None = (n : ℕ) → LeavesBehind rs state m n → ⊥
 IsNextLeaving rs state m (Some n) = IsLeast (LeavesBehind rs state m) n

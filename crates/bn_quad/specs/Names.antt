@@ -1,7 +1,7 @@
 -- Names of the states and of the symbols of a quadruple machine (this project's own profile).
 use Rattle.std.specs.Prelude.{◌≡◌, ℕ, zero, suc, ◌<◌, ◌^◌, List, [], ◌∷◌, ◌++◌, length, slice_get, Some}
 
--- no two numbers have one name
+-- no two numbers have the same name
 pub record AreApart (names : List (List ℕ)) : Type 0 where
   pub same : (name : List ℕ) (m n : ℕ) → slice_get names m ≡ Some name → slice_get names n ≡ Some name → m ≡ n
 
@@ -31,7 +31,7 @@ symbols_on n (suc zero) = n.one
 symbols_on n (suc (suc zero)) = n.two
 symbols_on n (suc (suc (suc tape))) = n.three
 
--- one state more, and one symbol more on a tape
+-- the naming with one more state, and with one more symbol on a tape
 abbrev pub with_state : Naming → List ℕ → Naming
 with_state n name = naming_of (n.states ++ name ∷ []) n.one n.two n.three
 

@@ -1,5 +1,5 @@
--- The local tests on quadruples: overlap in domain and in range (Bennett 1973), and uniform tapes by state (this
--- project's own profile).
+-- The local tests on quadruples (`Rule`): overlap in domain and in range (Bennett 1973), and uniformity (this project's
+-- own profile).
 use Rattle.std.specs.Prelude.{◌≡◌, ℕ, ◌<◌, List, [], ◌∷◌, Some, ⊤}
 use Rattle.bn_lists.specs.Lists.{nth, HasNone, IsFirstWith}
 use Rattle.bn_quad.specs.declared.clash.Clash.{Clash}
@@ -9,14 +9,14 @@ use Rattle.bn_quad.specs.declared.clash.Flaw.TheVariants.{Silent, Enters, Leaves
 use Rattle.bn_machine.specs.declared.quint.Shift.TheVariants.{Stay}
 use Rattle.bn_quad.specs.Quadruples.{Deed, Rewrite, Move, Rule, deeds_of, initial_of, final_state_of}
 
--- the deeds of two quadruples on one tape can start from one tape: they read the same symbol, or one doesn't read
+-- the deeds of two quadruples on a tape can apply to the same tape: they read the same symbol, or one does not read
 abbrev pub MeetsInDomain : Deed → Deed → Type 0
 MeetsInDomain (Rewrite read written) (Rewrite read' written') = read ≡ read'
 MeetsInDomain (Rewrite read written) (Move s) = ⊤
 MeetsInDomain (Move s) (Rewrite read written) = ⊤
 MeetsInDomain (Move s) (Move s') = ⊤
 
--- they can come to one tape: they write the same symbol, or one shifts
+-- the deeds can produce the same tape: they write the same symbol, or one shifts
 abbrev pub MeetsInRange : Deed → Deed → Type 0
 MeetsInRange (Rewrite read written) (Rewrite read' written') = written ≡ written'
 MeetsInRange (Rewrite read written) (Move s) = ⊤
@@ -39,17 +39,17 @@ OnEachTape R (d ∷ ds) (e ∷ es) = R d e × OnEachTape R ds es
 
 -- ---- two quadruples
 
--- they leave the same state, and on each tape they can start from one tape
+-- they leave the same state, and on each tape they can apply to the same tape
 pub record OverlapsInDomain {Q : Type 0} (r s : Rule Q) : Type 0 where
   pub from : r.from ≡ s.from
   pub tapes : OnEachTape MeetsInDomain (deeds_of r) (deeds_of s)
 
--- they lead to the same state, and on each tape they can come to one tape
+-- they lead to the same state, and on each tape they can produce the same tape
 pub record OverlapsInRange {Q : Type 0} (r s : Rule Q) : Type 0 where
   pub to : r.to ≡ s.to
   pub tapes : OnEachTape MeetsInRange (deeds_of r) (deeds_of s)
 
--- they read, and so write, the same tapes
+-- they read, and therefore write, the same tapes
 abbrev pub HaveSameTapes : {Q : Type 0} → Rule Q → Rule Q → Type 0
 HaveSameTapes r s = OnEachTape IsAlike (deeds_of r) (deeds_of s)
 
@@ -65,8 +65,8 @@ pub record DiffersInWrites {Q : Type 0} (r s : Rule Q) : Type 0 where
 
 -- ---- pairs of a list
 
--- Two quadruples clash: they overlap in domain, they overlap in range, or with one state before, or after, they read,
--- or write, different tapes.
+-- Two quadruples clash: they overlap in domain; they overlap in range; they leave the same state and read different
+-- tapes; or they lead to the same state and write different tapes.
 abbrev pub QuadruplesClash : {Q : Type 0} → Clash → Rule Q → Rule Q → Type 0
 QuadruplesClash Domain r s = OverlapsInDomain r s
 QuadruplesClash Range r s = OverlapsInRange r s
@@ -86,7 +86,7 @@ pub record IsClash {Q : Type 0} (clash : Clash) (rs : List (Rule Q)) (i j : ℕ)
 pub record HasNoClash {Q : Type 0} (clash : Clash) (rs : List (Rule Q)) : Type 0 where
   pub none : (i j : ℕ) → IsClash clash rs i j → ⊥
 
--- i is the least quadruple that clashes with a later one, and j the least later one with which it clashes
+-- quadruple i is the first that clashes with a later one, and j is the first later one with which it clashes
 pub record IsLeastClash {Q : Type 0} (clash : Clash) (rs : List (Rule Q)) (i j : ℕ) : Type 0 where
   pub holds : IsClash clash rs i j
   pub least_first : (m n : ℕ) → m < i → IsClash clash rs m n → ⊥
@@ -101,12 +101,12 @@ IsReversible rs = HasNoClash Range rs
 
 -- ---- single quadruples
 
--- the tape isn't read, and its head stays
+-- the tape is not read, and its head stays
 abbrev pub IsIdle : Deed → Type 0
 IsIdle (Rewrite read written) = ⊥
 IsIdle (Move s) = s ≡ Stay
 
--- it reads no tape and shifts no tape left or right
+-- the quadruple reads no tape and shifts no tape left or right
 pub record IsSilent {Q : Type 0} (r : Rule Q) : Type 0 where
   pub one : IsIdle r.one
   pub two : IsIdle r.two
@@ -133,8 +133,9 @@ initial_flaw rs = Enters (initial_of rs)
 abbrev pub final_flaw : List (Rule ℕ) → Flaw
 final_flaw rs = Leaves (final_state_of rs)
 
--- Uniform: quadruples of one state read the same tapes, those that lead to one state write the same tapes, each reads a
--- tape or moves a head, none leads to the initial state, and none leaves the final one.
+-- Uniform: quadruples that leave the same state read the same tapes; quadruples that lead to the same state write the
+-- same tapes; each quadruple reads a tape or moves a head; none leads to the initial state, and none leaves the final
+-- one.
 pub record IsUniform (rs : List (Rule ℕ)) : Type 0 where
   pub reads : HasNoClash Reads rs
   pub writes : HasNoClash Writes rs

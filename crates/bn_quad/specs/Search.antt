@@ -9,6 +9,6 @@ use Rattle.bn_lists.specs.Lists.{IsLeast}
 pub record HasNoPartner (clash : Clash) (rs : List (Rule ℕ)) (i : ℕ) : Type 0 where
   pub none : (j : ℕ) → IsClash clash rs i j → ⊥
 
--- j is the least with which quadruple i clashes
+-- quadruple j is the first later one with which quadruple i clashes
 abbrev pub IsLeastPartner : Clash → List (Rule ℕ) → ℕ → ℕ → Type 0
 IsLeastPartner clash rs i = IsLeast (IsClash clash rs i)

@@ -1,4 +1,4 @@
-//! What the tests look for in a pair of quadruples, and in a single one.
+//! The properties that the tests search for in a pair of quadruples, and in a single one.
 ghost use Rattle.std.specs.Prelude.{◌≡◌, ◌↔◌, IsTrue};
 ghost use Rattle.bn_quad.specs.Kept.{ReadsMeet, ActsMeet, ActsAreAlike, IsStaying, QuadsMeetInDomain, QuadsMeetInRange};
 ghost use Rattle.bn_quad.specs.Kept.{QuadsAreAlike, QuadIsSilent, IsUnmixed, rule_of};
@@ -7,7 +7,7 @@ ghost use Rattle.bn_quad.specs.Overlap.{QuadruplesClash, IsFlawed};
 use crate::quad::{Act, Quad};
 use bn_machine::Shift;
 
-/// What a test looks for in two quadruples.
+/// A property of two quadruples that a test searches for.
 #[derive(Clone, Copy)]
 pub enum Clash {
     /// They overlap in domain.
@@ -20,7 +20,7 @@ pub enum Clash {
     Writes,
 }
 
-/// What a test looks for in a single quadruple.
+/// A property of a single quadruple that a test searches for.
 #[derive(Clone, Copy)]
 pub enum Flaw {
     /// It reads no tape and shifts none left or right.
@@ -31,7 +31,7 @@ pub enum Flaw {
     Leaves(u32),
 }
 
-// Whether two reads of a tape can be met by one symbol.
+// Whether two reads of a tape fit the same scanned symbol.
 fn reads_meet(first: Option<u32>, second: Option<u32>) -> bool
     ensures { IsTrue result ↔ ReadsMeet first second }
 {
@@ -41,7 +41,7 @@ fn reads_meet(first: Option<u32>, second: Option<u32>) -> bool
     }
 }
 
-// Whether two acts on a tape can leave one symbol.
+// Whether two actions on a tape can leave the same symbol.
 fn acts_meet(first: Act, second: Act) -> bool
     ensures { IsTrue result ↔ ActsMeet first second }
 {
@@ -51,7 +51,7 @@ fn acts_meet(first: Act, second: Act) -> bool
     }
 }
 
-// Whether two acts on a tape both write, or both shift.
+// Whether two actions on a tape both write, or both shift.
 fn acts_are_alike(first: Act, second: Act) -> bool
     ensures { IsTrue result ↔ ActsAreAlike first second }
 {
@@ -90,7 +90,7 @@ fn are_alike(first: &Quad, second: &Quad) -> bool
         && acts_are_alike(first.act[2], second.act[2])
 }
 
-/// Whether two quadruples, each with the tapes that it reads and writes the same, clash so.
+/// Whether two quadruples have this property. Each must read exactly the tapes that it writes.
 pub fn is_clash(clash: Clash, first: &Quad, second: &Quad) -> bool
     requires first_unmixed { IsUnmixed first.now }
     requires second_unmixed { IsUnmixed second.now }
@@ -104,7 +104,7 @@ pub fn is_clash(clash: Clash, first: &Quad, second: &Quad) -> bool
     }
 }
 
-// Whether an act shifts the head nowhere.
+// Whether an action is the shift that does not move the head.
 fn is_staying(act: Act) -> bool
     ensures { IsTrue result ↔ IsStaying act }
 {
@@ -114,14 +114,14 @@ fn is_staying(act: Act) -> bool
     }
 }
 
-// Whether a quadruple shifts each tape nowhere.
+// Whether a quadruple writes no tape and moves no head.
 fn is_silent(quad: &Quad) -> bool
     ensures { IsTrue result ↔ QuadIsSilent quad.now }
 {
     is_staying(quad.act[0]) && is_staying(quad.act[1]) && is_staying(quad.act[2])
 }
 
-/// Whether a quadruple that reads and writes the same tapes has the flaw.
+/// Whether a quadruple has this property. It must read exactly the tapes that it writes.
 pub fn is_flawed(flaw: Flaw, quad: &Quad) -> bool
     requires { IsUnmixed quad.now }
     ensures { IsTrue result ↔ IsFlawed flaw (rule_of quad.now) }

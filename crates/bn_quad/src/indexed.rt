@@ -8,8 +8,8 @@ use bn_lists::NoMemory;
 use std::alloc::Global;
 use std::marker::Model;
 
-/// A machine of quadruples with an index of them by the state that they leave, made once: a step finds its quadruple
-/// among those of its state, with no search from the front of the list. Callers see the machine.
+/// A machine of quadruples with an index by the state that they leave, made once. A step finds its quadruple among
+/// those of its state, without a search from the beginning of the list. Contracts see the machine.
 #[derive(Drop)]
 pub struct IndexedMachine<'a> {
     machine: &'a QuadMachine,
@@ -38,10 +38,10 @@ impl<'a> IndexedMachine<'a> {
         Ok(IndexedMachine { machine, index })
     }
 
-    /// One step of the machine from `state` on `tapes`, as `QuadMachine::step` makes it: `Final` exactly where the
-    /// state is the final one; else `Stuck` exactly where no quadruple applies; else the first that applies is taken,
-    /// `Left` exactly where it would take a head out of its window, with the least such tape and nothing changed. It
-    /// takes no memory.
+    /// One step of the machine from `state` on `tapes`, with the same result as `QuadMachine::step`: `Final` exactly if
+    /// the state is the final one, and otherwise `Stuck` exactly if no quadruple applies. Otherwise the first quadruple
+    /// that applies is taken: the result is `Left`, with the least such tape and nothing changed, exactly if it would
+    /// move a head out of its window, and else `Moved`. Allocates no memory.
     pub fn step(&self, state: &mut u32, tapes: &mut Tapes) -> QuadTurn
         ensures { IsQuadTurn self.now result state.old tapes.old state.new tapes.new }
     {

@@ -1,7 +1,7 @@
-//! Laws on the answers of a quadruple machine. The function does nothing: its contract is the laws.
+//! Laws on quadruple machines. The function does nothing: its contract is the laws.
 ghost use Rattle.bn_quad.specs.Laws.{Laws};
 
-/// Laws on the answers of a quadruple machine, a named field each.
+/// Laws on quadruple machines, a named field each.
 pub fn quad_laws()
     ensures { Laws }
 {}

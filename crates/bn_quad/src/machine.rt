@@ -13,8 +13,8 @@ use bn_lists::NoMemory;
 use std::alloc::{AllocError, Global};
 use std::marker::Model;
 
-/// A machine of three tapes given by quadruples (Bennett 1973): its quadruples in order, how many states it has, and
-/// how many symbols each tape has. Callers see these. There is at least one quadruple, there are fewer than 2^32, and
+/// A machine of three tapes given by quadruples (Bennett 1973): its quadruples in order, its number of states, and the
+/// number of symbols of each tape. Contracts see these. There is at least one quadruple, there are fewer than 2^32, and
 /// all their numbers are in range.
 #[derive(Drop)]
 pub struct QuadMachine {
@@ -42,9 +42,10 @@ impl QuadMachine {
     ghost use Rattle.bn_quad.specs.Kept.{quad_of, rule_of, IsSound, IsUnmixed};
     ghost use Rattle.bn_quad.specs.Calls.{IsMadeOf, IsQuadRefusal, IsNotUniform, StepsBack, IsQuadTurn, configuration};
 
-    /// The machine of these quadruples with `states` states and on each tape, tape 1 first, so many symbols. It takes
-    /// no memory. `Empty` comes exactly where there is no quadruple; else on the first faulty quadruple `Range`
-    /// exactly where a number of it is out of range, and `Mixed` where only its reads and acts don't fit.
+    /// The machine of these quadruples with `states` states and `symbols` symbols on each tape, tape 1 first. The error
+    /// is `Empty` exactly if there is no quadruple. Otherwise it names the first faulty quadruple: `Range` if a number
+    /// of it is out of range, and else `Mixed`, if it shifts a tape that it reads or writes one that it does not read.
+    /// Allocates no memory.
     pub fn try_new(
         quads: Vec<Quad>,
         states: u32,
@@ -110,8 +111,8 @@ impl QuadMachine {
         self.quads[self.quads.len() - 1].next
     }
 
-    /// Whether no two quadruples overlap in domain. `Err` comes exactly where two do, with the least `i` that overlaps
-    /// with a later one and the least such `j`, both counted from 1. It takes no memory.
+    /// Tests that no two quadruples overlap in domain. The result is `Err` exactly if two do, with the least `i` that
+    /// overlaps with a later one and the least such `j`, both counted from 1. Allocates no memory.
     pub fn check_deterministic(&self) -> Result<(), (u32, u32)>
         ensures ok { OnOk result (IsDeterministic self.now.rules) }
         ensures least { IfErr result (λ p. IsLeastClash Clash.Domain self.now.rules p.0 p.1) }
@@ -123,9 +124,9 @@ impl QuadMachine {
         }
     }
 
-    /// Whether no two quadruples overlap in range. `Err` comes exactly where two do, with the least `i` that overlaps
-    /// with a later one and the least such `j`, both counted from 1. For a deterministic machine that is exactly where
-    /// two configurations have one successor (Bennett 1973). It takes no memory.
+    /// Tests that no two quadruples overlap in range. The result is `Err` exactly if two do, with the least `i` that
+    /// overlaps with a later one and the least such `j`, both counted from 1. For a deterministic machine, it is `Err`
+    /// exactly if two configurations have the same successor (Bennett 1973). Allocates no memory.
     pub fn check_reversible(&self) -> Result<(), (u32, u32)>
         ensures ok { OnOk result (IsReversible self.now.rules) }
         ensures least { IfErr result (λ p. IsLeastClash Clash.Range self.now.rules p.0 p.1) }
@@ -137,8 +138,8 @@ impl QuadMachine {
         }
     }
 
-    /// Whether the machine is uniform. `Err` comes exactly where it isn't, with the first of the five demands that it
-    /// doesn't meet. It takes no memory.
+    /// Tests that the machine is uniform. The result is `Err` exactly if it is not, with the first of the five
+    /// conditions that fails. Allocates no memory.
     pub fn check_uniform(&self) -> Result<(), NotUniform>
         ensures ok { OnOk result (IsUniform self.now.rules) }
         ensures refused { IfErr result (IsNotUniform self.now.rules) }
@@ -162,8 +163,8 @@ impl QuadMachine {
         Ok(())
     }
 
-    /// The machine backward: its list in the opposite order, in each quadruple the states exchanged, the symbols that
-    /// are read and written exchanged, and the shifts turned round.
+    /// The inverse machine: its list in the opposite order, and in each quadruple the two states exchanged, the symbols
+    /// that are read and written exchanged, and the shifts reversed.
     pub fn inverse(&self, alloc: Global) -> Result<QuadMachine, NoMemory>
         ensures turned { IfOk result (λ m. m ≡ inverse_of self.now) }
         ensures valid { IfOk result IsQuadMachine }
@@ -179,9 +180,10 @@ impl QuadMachine {
         })
     }
 
-    /// One step of the machine from `state` on `tapes`: `Final` exactly where the state is the final one; else `Stuck`
-    /// exactly where no quadruple applies; else the first that applies is taken, `Left` exactly where it would take a
-    /// head out of its window, with the least such tape and nothing changed. It takes no memory.
+    /// One step of the machine from `state` on `tapes`. The result is `Final` exactly if the state is the final one,
+    /// and otherwise `Stuck` exactly if no quadruple applies. Otherwise the first quadruple that applies is taken:
+    /// the result is `Left`, with the least such tape and nothing changed, exactly if it would move a head out of its
+    /// window, and else `Moved`. Allocates no memory.
     pub fn step(&self, state: &mut u32, tapes: &mut Tapes) -> QuadTurn
         ensures { IsQuadTurn self.now result state.old tapes.old state.new tapes.new }
     {
@@ -189,7 +191,7 @@ impl QuadMachine {
         self.step_by(found, state, tapes)
     }
 
-    /// The step by the first quadruple that applies, which comes with its number, or where none applies.
+    /// The step by `found`, the first quadruple that applies with its number, or `None` if none applies.
     pub(crate) fn step_by(
         &self,
         found: Option<(u32, Quad)>,
@@ -216,7 +218,7 @@ impl QuadMachine {
     }
 }
 
-// The quadruples in the opposite order, each turned round.
+// The inverses of the quadruples, in the opposite order.
 fn turned_quads(alloc: Global, quads: &[Quad]) -> Result<Vec<Quad>, AllocError>
     ensures { IfOk result (λ v. v.items ≡ map turned_quad (reverse quads.now)) }
 {

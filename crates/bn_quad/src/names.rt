@@ -46,7 +46,7 @@ impl NameList {
         self.names[number as usize].as_slice()
     }
 
-    // The number of a name, `None` exactly where it isn't among these.
+    // The number of a name, or `None` exactly if the list does not contain it.
     fn find(&self, name: &[u8]) -> Option<u32>
         ensures found { IfSome result (λ number. slice_get self.now number ≡ Some name.now) }
         ensures none { IfNone result (¬ Contains self.now name.now) }
@@ -72,9 +72,9 @@ impl NameList {
     }
 }
 
-/// Names of the states of a quadruple machine, and of the symbols of its three tapes. The states have different
-/// names, and so have the symbols of a tape. A name is a run of bytes, and its number, counted from 0, is its place
-/// among the names of its kind; there are fewer than 2^32 of a kind. Callers see the four lists of names.
+/// Names of the states of a quadruple machine, and of the symbols of its three tapes. The states have different names,
+/// and the symbols of each tape have different names. A name is a run of bytes, and its number, counted from 0, is its
+/// place among the names of its kind; there are fewer than 2^32 of a kind. Contracts see the four lists of names.
 #[derive(Drop)]
 pub struct QuadNames {
     states: NameList,
@@ -94,7 +94,7 @@ impl Model for QuadNames {
 impl QuadNames {
     ghost use Rattle.bn_quad.specs.Names.{Naming, AreApart, nameless, symbols_on, with_state, with_symbol};
 
-    /// No names. It takes no memory.
+    /// A naming without names. Allocates no memory.
     pub fn empty(alloc: Global) -> QuadNames
         ensures { result ≡ nameless }
     {
@@ -139,7 +139,7 @@ impl QuadNames {
         self.on(tape).get(number)
     }
 
-    /// The number of the state with a name, counted from 0. `None` comes exactly where no state has the name.
+    /// The number of the state with a name, counted from 0, or `None` exactly if no state has the name.
     pub fn find_state(&self, name: &[u8]) -> Option<u32>
         ensures found { IfSome result (λ number. slice_get self.now.states number ≡ Some name.now) }
         ensures none { IfNone result (¬ Contains self.now.states name.now) }
@@ -147,7 +147,7 @@ impl QuadNames {
         self.states.find(name)
     }
 
-    /// Gives the next state number to a name that no state has. After `NoMemory` the names are as before.
+    /// Gives the next state number to a name that no state has. On `NoMemory` the names are unchanged.
     pub fn add_state(&mut self, name: &[u8]) -> Result<(), NoMemory>
         requires new { ¬ Contains self.old.states name.now }
         requires room { length self.old.states < 2 ^ 32 - 1 }
@@ -157,8 +157,8 @@ impl QuadNames {
         self.states.add(name)
     }
 
-    /// Gives the next symbol number of a tape from 1 to 3 to a name that no symbol of the tape has. After `NoMemory`
-    /// the names are as before.
+    /// Gives the next symbol number of a tape from 1 to 3 to a name that no symbol of the tape has. On `NoMemory` the
+    /// names are unchanged.
     pub fn add_symbol(&mut self, tape: u32, name: &[u8]) -> Result<(), NoMemory>
         requires first { 1 ≤ tape }
         requires last { tape ≤ 3 }

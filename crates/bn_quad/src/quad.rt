@@ -1,4 +1,4 @@
-//! Quadruples as the program keeps them.
+//! Quadruples as the program stores them.
 
 ghost use Rattle.std.specs.Prelude.{◌≡◌};
 ghost use Rattle.bn_machine.specs.Tape.{opposite};
@@ -16,14 +16,14 @@ pub enum Act {
     Shift(Shift),
 }
 
-/// A quadruple of three tapes (Bennett 1973): in `state`, where on each tape with a symbol in `read` the head scans
-/// that symbol, it does the acts, the first on tape 1, and goes on in `next`. A tape without a symbol in `read`
-/// isn't read. States and symbols are counted from 0.
+/// A quadruple of three tapes (Bennett 1973): in `state`, if the head scans the symbol in `read` on each tape that has
+/// one, it does its actions, the first on tape 1, and goes to `next`. A tape without a symbol in `read` is not read.
+/// States and symbols are counted from 0.
 #[derive(Clone, Copy, PartialEq, Eq, Debug)]
 pub struct Quad {
     /// The state in which it applies.
     pub state: u32,
-    /// What each tape's head scans, where that tape is read, tape 1 first.
+    /// The symbol that the head of each tape scans, if that tape is read, tape 1 first.
     pub read: [Option<u32>; 3],
     /// What it does on each tape, tape 1 first.
     pub act: [Act; 3],
@@ -31,7 +31,7 @@ pub struct Quad {
     pub next: u32,
 }
 
-// The shift that takes another one back.
+// The shift that undoes another one.
 fn opposite(shift: Shift) -> Shift
     ensures { result ≡ opposite shift }
 {
@@ -42,7 +42,7 @@ fn opposite(shift: Shift) -> Shift
     }
 }
 
-// What is read, and what is done, on a tape by a quadruple that is turned round. A tape that is read is written.
+// The read and the action on a tape of the inverse of a quadruple. A tape that is read is written.
 fn turned_tape(read: Option<u32>, act: Act) -> (Option<u32>, Act)
     ensures reads { result.0 ≡ read_of (turned_deed (deed_of read act)) }
     ensures acts { result.1 ≡ act_of (turned_deed (deed_of read act)) }
@@ -56,8 +56,8 @@ fn turned_tape(read: Option<u32>, act: Act) -> (Option<u32>, Act)
     }
 }
 
-/// The quadruple turned round: its states exchanged, the symbols that it reads and writes exchanged, and its shifts
-/// the other way.
+/// The inverse of a quadruple: its states exchanged, the symbols that it reads and writes exchanged, and its shifts
+/// reversed.
 pub fn turned(quad: &Quad) -> Quad
     ensures { result ≡ turned_quad quad.now }
 {

@@ -1,20 +1,20 @@
-//! Why quadruples make no machine, and why a machine isn't uniform.
+//! Why quadruples are not a machine, and why a machine is not uniform.
 
-/// Why quadruples make no machine.
+/// Why quadruples are not a machine.
 #[derive(Clone, Copy, PartialEq, Eq, Debug)]
 pub enum QuadRefusal {
     /// There is no quadruple.
     Empty,
-    /// Quadruple `i`, counted from 1, is the first faulty one, and a state or a symbol of it is out of range.
+    /// Quadruple `i`, counted from 1, is the first faulty one, and one of its states or symbols is out of range.
     Range { i: u32 },
     /// Quadruple `i`, counted from 1, is the first faulty one. All its numbers are in range, but it shifts a tape that
     /// it reads, or writes one that it doesn't read.
     Mixed { i: u32 },
 }
 
-/// Why a machine isn't uniform (this project's own profile): the first of five demands, in this order, that it
-/// doesn't meet. Quadruples are counted from 1; a pair is the least `i` that is at fault with a later one, and then
-/// the least such `j`; a single one is the least.
+/// Why a machine is not uniform (this project's own profile): the first of five conditions, in this order, that fails.
+/// Quadruples are counted from 1. A pair is the least `i` that fails the condition with a later one, and the least such
+/// `j`. A single quadruple is the least that fails it.
 #[derive(Clone, Copy, PartialEq, Eq, Debug)]
 pub enum NotUniform {
     /// Quadruples `i` and `j` have the same state and read different tapes.
@@ -29,13 +29,13 @@ pub enum NotUniform {
     FinalLeft { i: u32 },
 }
 
-/// Why a machine isn't deterministic, reversible and uniform: the first of the three, in this order, that fails.
+/// Why a machine is not deterministic, reversible and uniform: the first of the three, in this order, that fails.
 #[derive(Clone, Copy, PartialEq, Eq, Debug)]
 pub enum UniformRefusal {
     /// These two quadruples, counted from 1, overlap in domain: the least pair.
     Domain(u32, u32),
     /// These two quadruples, counted from 1, overlap in range: the least pair.
     Range(u32, u32),
-    /// The machine isn't uniform.
+    /// The machine is not uniform.
     Mask(NotUniform),
 }

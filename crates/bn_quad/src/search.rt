@@ -11,7 +11,7 @@ use crate::clash::{Clash, Flaw, is_clash, is_flawed};
 use crate::quad::Quad;
 use crate::tapes::{Tapes, applies};
 
-// The least quadruple behind number `i`, counted from 1, with which it clashes.
+// The first quadruple after number `i` with which quadruple `i` clashes; both are counted from 1.
 fn first_partner(quads: &[Quad], clash: Clash, i: u32) -> Option<u32>
     requires few { length quads.now < 2 ^ 32 }
     requires unmixed { All IsUnmixed quads.now }
@@ -29,7 +29,7 @@ fn first_partner(quads: &[Quad], clash: Clash, i: u32) -> Option<u32>
     None
 }
 
-/// The least quadruple that clashes with a later one, counted from 1, and the least such later one.
+/// The first quadruple that clashes with a later one, counted from 1, and the first such later one.
 pub fn first_clash(quads: &[Quad], clash: Clash) -> Option<(u32, u32)>
     requires few { length quads.now < 2 ^ 32 }
     requires unmixed { All IsUnmixed quads.now }

@@ -1,11 +1,11 @@
-//! Which quadruples a machine can keep.
+//! The quadruples that a machine may contain: in range, and each tape either read and written or only shifted.
 ghost use Rattle.std.specs.Prelude.{◌≡◌, ◌↔◌, ◌<◌, ◌^◌, ℕ, IsTrue, IfSome, IfNone, All, length, slice_index_or};
 ghost use Rattle.bn_quad.specs.Kept.{IsReadInRange, IsActInRange, IsTapeInRange, IsQuadInRange, Agree, IsUnmixed};
 ghost use Rattle.bn_quad.specs.Kept.{IsSound, IsFirstFault, read_at, act_at};
 
 use crate::quad::{Act, Quad};
 
-// Whether a symbol that is read is one of so many.
+// Whether the symbol that is read, if any, is below `symbols`.
 fn is_read_in_range(symbols: u32, read: Option<u32>) -> bool
     ensures { IsTrue result ↔ IsReadInRange symbols read }
 {
@@ -15,7 +15,7 @@ fn is_read_in_range(symbols: u32, read: Option<u32>) -> bool
     }
 }
 
-// Whether a symbol that is written is one of so many.
+// Whether the symbol that is written, if any, is below `symbols`.
 fn is_act_in_range(symbols: u32, act: Act) -> bool
     ensures { IsTrue result ↔ IsActInRange symbols act }
 {
@@ -45,7 +45,7 @@ pub fn is_in_range(quad: &Quad, states: u32, symbols: &[u32; 3]) -> bool
         && is_tape_in_range(symbols, quad, 2)
 }
 
-// Whether a tape with this read and this act is read and written, or unread and shifted.
+// Whether a tape with this read and this action is read and written, or unread and shifted.
 fn agree(read: Option<u32>, act: Act) -> bool
     ensures { IsTrue result ↔ Agree read act }
 {
@@ -73,7 +73,7 @@ fn is_sound(quad: &Quad, states: u32, symbols: &[u32; 3]) -> bool
     is_in_range(quad, states, symbols) && is_unmixed(quad)
 }
 
-// The number, counted from 1, of the first quadruple that isn't sound, and the quadruple.
+// The number, counted from 1, of the first quadruple that is not sound, and the quadruple.
 pub fn first_fault(quads: &[Quad], states: u32, symbols: &[u32; 3]) -> Option<(u32, Quad)>
     requires { length quads.now < 2 ^ 32 }
     ensures fault { IfSome result (λ f. IsFirstFault states symbols.now quads.now f.0 f.1) }

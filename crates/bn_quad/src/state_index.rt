@@ -10,18 +10,18 @@ use crate::tapes::{Tapes, applies};
 use bn_lists::NoMemory;
 use std::alloc::Global;
 
-/// For each state the quadruples that leave it, in the order of the list: the first one, and behind each the next one.
+/// For each state, the quadruples that leave it in the order of the list: the first one, and for each one the next.
 /// Quadruples are counted from 1.
 #[derive(Drop)]
 pub(crate) struct StateIndex {
     // The first quadruple of each state.
     first: Vec<Option<u32>>,
-    // Behind each quadruple the next one of its state.
+    // The next quadruple of the same state after each quadruple.
     next: Vec<Option<u32>>,
 }
 
 impl StateIndex {
-    /// The index of these quadruples, of so many states.
+    /// The index of these quadruples, which have `states` states.
     pub(crate) fn try_new(
         alloc: Global,
         quads: &[Quad],

@@ -1,4 +1,4 @@
-//! Three tapes in windows, and what a quadruple does on them.
+//! Three tapes in windows, and the actions of a quadruple on them.
 ghost use Rattle.std.specs.Prelude.{◌≡◌, ◌↔◌, IsTrue, MatchOption};
 ghost use Rattle.bn_machine.specs.Window.{with_tape};
 ghost use Rattle.bn_quad.specs.Kept.{IsUnmixed, rule_of, Reads, ActLeaves, ActStays, acted};
@@ -16,7 +16,7 @@ pub struct Tapes {
     pub three: Tape,
 }
 
-/// What one step of a quadruple machine came to.
+/// The result of one step of a quadruple machine.
 #[derive(Clone, Copy, PartialEq, Eq, Debug)]
 pub enum QuadTurn {
     /// The state is the final one.
@@ -39,7 +39,7 @@ fn is_read(read: Option<u32>, tape: &Tape) -> bool
     }
 }
 
-/// Whether a quadruple that reads and writes the same tapes applies.
+/// Whether a quadruple applies. It must read exactly the tapes that it writes.
 pub fn applies(quad: &Quad, state: u32, tapes: &Tapes) -> bool
     requires { IsUnmixed quad.now }
     ensures { IsTrue result ↔ AppliesTo (rule_of quad.now) (configuration state tapes.now) }
@@ -50,7 +50,7 @@ pub fn applies(quad: &Quad, state: u32, tapes: &Tapes) -> bool
         && is_read(quad.read[2], &tapes.three)
 }
 
-// The end of the window at which an act would take the head out of it.
+// The end of the window at which an action would move the head out, if it would.
 fn leaving(act: Act, tape: &Tape) -> Option<Side>
     ensures { MatchOption result (ActStays act tape.now) (λ side. ActLeaves act tape.now side) }
 {
@@ -62,7 +62,8 @@ fn leaving(act: Act, tape: &Tape) -> Option<Side>
     }
 }
 
-/// The least tape whose head a quadruple that reads and writes the same tapes would take out of its window.
+/// The least tape, counted from 1, whose head the quadruple would move out of its window, and the end. The quadruple
+/// must read exactly the tapes that it writes.
 pub fn first_leaving(quad: &Quad, tapes: &Tapes) -> Option<(u32, Side)>
     requires { IsUnmixed quad.now }
     ensures { MatchOption result (AreAllowed (rooms_of tapes.now)
@@ -94,7 +95,7 @@ fn perform(act: Act, tape: &mut Tape)
     }
 }
 
-/// Does on each tape what a quadruple that reads and writes the same tapes does.
+/// Performs the actions of a quadruple on the three tapes. It must read exactly the tapes that it writes.
 pub fn perform_all(quad: &Quad, tapes: &mut Tapes)
     requires unmixed { IsUnmixed quad.now }
     requires stays { AreAllowed (rooms_of tapes.old)

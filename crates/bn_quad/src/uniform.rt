@@ -5,7 +5,7 @@ use crate::machine::QuadMachine;
 use crate::refusal::UniformRefusal;
 use std::marker::Model;
 
-/// A machine that is deterministic, reversible and uniform. Callers see the machine.
+/// A machine that is deterministic, reversible and uniform. Contracts see the machine.
 #[derive(Drop)]
 pub struct Uniform {
     machine: QuadMachine,
@@ -25,7 +25,7 @@ impl Model for Uniform {
 impl Uniform {
     ghost use Rattle.bn_quad.specs.Calls.{IsUniformMachine};
 
-    /// A machine of which it is known that it is deterministic, reversible and uniform: nothing is tested. It takes no
+    /// The machine as one that is known to be deterministic, reversible and uniform. Nothing is tested. Allocates no
     /// memory.
     pub fn new(machine: QuadMachine) -> Uniform
         requires { IsUniformMachine machine }
@@ -46,8 +46,8 @@ impl Uniform {
 impl QuadMachine {
     ghost use Rattle.bn_quad.specs.Calls.{IsUniformMachine, IsUniformRefusal};
 
-    /// The machine as one that is deterministic, reversible and uniform. `Err` comes exactly where it isn't, with the
-    /// machine and the first of the three tests that refuses. It takes no memory.
+    /// The machine as one that is deterministic, reversible and uniform. The result is `Err` exactly if it is not, with
+    /// the machine and the first of the three tests that fails. Allocates no memory.
     pub fn into_uniform(self) -> Result<Uniform, (QuadMachine, UniformRefusal)>
         ensures made { IfOk result (λ u. u ≡ self) }
         ensures uniform { OnOk result (IsUniformMachine self) }

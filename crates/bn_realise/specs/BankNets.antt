@@ -1,4 +1,4 @@
--- Moves of banks in nets, and the net that is one bank.
+-- Moves of banks in nets, and a net that is one bank.
 use Rattle.std.specs.Prelude.{◌≡◌, ℕ, ◌+◌, ◌*◌, ◌^◌, ◌<◌, ◌≤◌, Bool, true, length, replicate, Some, slice_set}
 use Rattle.bn_lists.specs.Runs.{Reaches, Passes}
 use Rattle.bn_element.specs.Tables.{Table, IsReversible}
@@ -18,23 +18,23 @@ use Rattle.bn_realise.specs.Banks.{IsWithinBank, moved}
 use Rattle.bn_realise.specs.declared.refusal.BankRefusal.{BankRefusal}
 use Rattle.bn_realise.specs.declared.refusal.BankRefusal.TheVariants.{Elements, NoMemory}
 
--- A table that makes a bank from element `first` on: it has a state and a line, as many lines out as in, and the bank's
--- last element is below 2^32.
+-- A table of which a bank can begin at element `first`: it has at least one state and one input port, as many output
+-- ports as input ports, and the number of the bank's last element is below 2^32.
 pub record HasRoom (first : ℕ) (t : Table) : Type 0 where
   pub some_states : 0 < t.states
   pub some_lines : 0 < t.inputs
   pub square : t.outputs ≡ t.inputs
   pub fits : column_at first t.inputs t.states ≤ 2 ^ 32
 
--- the bank can make a move from where the signal is: it is at rest in a state, the signal enters an input line, and the
--- clock has room for the cost
+-- the bank can make a move from this configuration: it is at rest in a state, the signal enters an input port, and the
+-- clock admits the cost
 pub record CanMove (b : ℕ) (t : Table) (c : Config) : Type 0 where
   pub state : ℕ
   pub line : ℕ
   pub entering : IsBankEntering b t state line c
   pub in_time : c.steps + table_cost t state line ≤ clock
 
--- So many steps, the last of which ends the move; and each test that holds of what is within the move holds strictly
+-- A move of this many steps, the last of which ends it; each test that holds of what is within the move holds strictly
 -- between.
 pub record IsMove (k : Circuit) (b : ℕ) (t : Table) (q i steps : ℕ) (c d : Config) : Type 0 where
   pub cost : steps ≡ table_cost t q i
@@ -50,7 +50,7 @@ pub record IsBankNet (net : Parts Rotary) (t : Table) : Type 0 where
   pub bank : IsBank (rotary_circuit net) 0 t
   pub no_others : (from to : Line) → target net.wires from ≡ Some to → IsBankWire 0 t from to
 
--- a bank by itself: its net, and its numbers of states and lines
+-- a net that is one bank, and the numbers of its states and ports
 pub record Banked : Type 0 where
   pub net : Parts Rotary
   pub states : ℕ
@@ -62,15 +62,15 @@ pub record IsBankOf (v : Banked) (t : Table) : Type 0 where
   pub lines : v.lines ≡ t.inputs
   pub net : IsBankNet v.net t
 
--- it is the bank of some table
+-- this is the bank of some table
 pub record IsSomeBank (v : Banked) : Type 0 where
   pub table : Table
   pub reversible : IsReversible table
   pub square : table.outputs ≡ table.inputs
   pub is_bank : IsBankOf v table
 
--- The bank is at rest in a state, the signal enters an input line, and the clock has room for the cost, whichever table
--- it is the bank of.
+-- The bank is at rest in a state, the signal enters an input port, and the clock admits the cost for every table whose
+-- bank this is.
 pub record IsReadyBank (v : Banked) (c : Config) : Type 0 where
   pub state : ℕ
   pub line : ℕ
@@ -81,20 +81,21 @@ pub record IsReadyBank (v : Banked) (c : Config) : Type 0 where
   pub in_time : (t : Table) → IsReversible t → t.outputs ≡ t.inputs → IsBankOf v t
       → c.steps + table_cost t state line ≤ clock
 
--- the signal has left by this line
+-- the signal has left by this port
 abbrev pub HasLeft : Place → Line → Type 0
 HasLeft place exit = place ≡ Left exit.element exit.line
 
--- the elements of a machine's bank
+-- the number of elements of a machine's bank
 abbrev pub bank_elements : Machine → ℕ
 bank_elements m = m.states * (m.lines + 1)
 
--- a refusal for the number of elements names that number
+-- a refusal for the number of elements returns that number
 abbrev pub IsCounted : ℕ → BankRefusal → Type 0
 IsCounted count (Elements n) = n ≡ count
 IsCounted count NoMemory = Unit {0}
 
--- the bank with n columns of k rows at rest in state q, with the signal at input line i
+-- the bank with n columns of k rows at rest in state q, with the signal about to enter input port i, and no step
+-- counted
 abbrev pub start_at : ℕ → ℕ → ℕ → ℕ → Config
 start_at n k q i = record {
   states = slice_set (replicate (n * (k + 1)) vertical) (bottom_at 0 k q) horizontal;

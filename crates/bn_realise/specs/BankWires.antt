@@ -7,7 +7,7 @@ use Rattle.bn_column.specs.Columns.{IsInner}
 use Rattle.bn_circuits.specs.Circuits.{line_at}
 use Rattle.bn_realise.specs.Banks.{column_at}
 
--- the numbers of a bank's own wire: both ends are lines of the bank
+-- the range of a bank's own wire: both ends are ports of the bank
 pub record IsWithinLines (b : ℕ) (t : Table) (from to : Line) : Type 0 where
   pub from_low : b ≤ from.element
   pub from_high : from.element < column_at b t.inputs t.states
@@ -16,7 +16,7 @@ pub record IsWithinLines (b : ℕ) (t : Table) (from to : Line) : Type 0 where
   pub to_high : to.element < column_at b t.inputs t.states
   pub to_line : to.line < 4
 
--- the wires that a row adds: on to the next column, where there is one, and across, where there is a move
+-- the wires that a row adds: to the next column, if there is one, and across, if there is a move
 pub data IsRowWire (b : ℕ) (t : Table) (j i : ℕ) (from to : Line) : Type 0 where
   onward : j + 1 < t.states → from ≡ line_at (column_at b t.inputs j + i) east
       → to ≡ line_at (column_at b t.inputs (j + 1) + i) west → IsRowWire b t j i from to
@@ -28,13 +28,14 @@ pub data IsEarlier (b : ℕ) (t : Table) (j : ℕ) (from to : Line) : Type 0 whe
   inside : (x : ℕ) → x < j → IsInner (column_at b t.inputs x) t.inputs from to → IsEarlier b t j from to
   in_row : (x y : ℕ) → x < j → y < t.inputs → IsRowWire b t x y from to → IsEarlier b t j from to
 
--- these, the inner wires of column j, and what its first i rows add
+-- the wires that leave earlier columns, the inner wires of column j, and the wires that the first i rows of column j
+-- add
 pub data IsStage (b : ℕ) (t : Table) (j i : ℕ) (from to : Line) : Type 0 where
   earlier : IsEarlier b t j from to → IsStage b t j i from to
   inside_it : IsInner (column_at b t.inputs j) t.inputs from to → IsStage b t j i from to
   above : (y : ℕ) → y < i → IsRowWire b t j y from to → IsStage b t j i from to
 
--- these, and the wire of row i on to the next column
+-- these, and the wire of row i to the next column
 pub data IsHalf (b : ℕ) (t : Table) (j i : ℕ) (from to : Line) : Type 0 where
   before : IsStage b t j i from to → IsHalf b t j i from to
   beside : j + 1 < t.states → from ≡ line_at (column_at b t.inputs j + i) east

@@ -1,4 +1,4 @@
-//! What a move of a bank costs.
+//! The cost of a move of a bank.
 ghost use Rattle.std.specs.Prelude.{◌≡◌, ◌<◌, ◌≤◌};
 ghost use Rattle.bn_circuits.specs.Circuits.{clock};
 ghost use Rattle.bn_rsm.specs.Machines.{machine_table};
@@ -9,8 +9,8 @@ use bn_circuits::MOST_ELEMENTS;
 use bn_element::Element;
 use bn_rsm::Rsm;
 
-/// The element steps of the machine's bank from this state and input line, both counted from 0, to the
-/// output line of the move, or to the loose line where the pair has no move. It takes no memory.
+/// The element steps of the machine's bank from this state and input port, both counted from 0, to the output port of
+/// the move, or to the loose output if the pair has no move. The call takes no memory.
 pub fn bank_cost(rsm: &Rsm, state: u32, line: u32) -> u64
     requires some_states { 0 < rsm.now.states }
     requires some_lines { 0 < rsm.now.lines }
@@ -28,8 +28,8 @@ pub fn bank_cost(rsm: &Rsm, state: u32, line: u32) -> u64
     )
 }
 
-/// The element steps of a bank with so many states and lines from this state and line, by where its
-/// table leads.
+/// The element steps of a bank with this many states and ports from this state and port, given the entry of its table
+/// for the pair.
 pub(crate) fn steps_of(
     states: u32,
     lines: u32,
@@ -50,7 +50,7 @@ pub(crate) fn steps_of(
     }
 }
 
-// The element steps past one column that isn't marked, along this row, counted from 0.
+// The element steps of passing one unmarked column along this row, counted from 0.
 fn past(lines: u32, row: u32) -> u64
     ensures { result ≡ pass_cost lines row }
 {

@@ -9,9 +9,9 @@ use crate::cost::steps_of;
 use bn_circuits::{Config, Net, Place};
 use bn_element::{Element, HORIZONTAL, Rotary};
 
-/// Makes the move of the bank of `machine` whose first element is `first`, from its state and the
-/// input line that the signal enters, and answers the number of element steps made: to the output
-/// line, or to the loose line where the pair has no move. It takes no memory.
+/// Makes the move of the bank of `machine` whose first element is `first`, from its state and the input port that the
+/// signal enters, and returns the number of element steps made, up to the output port, or to the loose output if the
+/// pair has no move. The call takes no memory.
 pub fn cross_bank_in<E: Element>(
     net: &Net<Rotary>,
     config: &mut Config,

@@ -1,4 +1,5 @@
-//! Banks: sequential machines as columns of rotary elements, and their moves in exactly counted steps.
+//! Banks: reversible sequential machines as arrays of columns of rotary elements, and their moves in exactly counted
+//! steps.
 #![tactic(auto)]
 
 mod cost;

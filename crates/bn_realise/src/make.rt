@@ -1,4 +1,4 @@
-//! Banks are made here.
+//! Construction of banks.
 ghost use Rattle.std.specs.Prelude.{◌≡◌, ◌↔◌, ◌<◌, IfOk, IfErr};
 ghost use Rattle.bn_rsm.specs.Machines.{machine_table};
 ghost use Rattle.bn_realise.specs.BankNets.{IsBankOf, bank_elements, IsCounted};
@@ -11,7 +11,7 @@ use bn_element::Element;
 use bn_rsm::Rsm;
 use std::alloc::Global;
 
-/// The bank of a machine. `Elements` comes exactly where it would have more than `MOST_ELEMENTS` elements.
+/// The bank of a machine. Returns `Elements` exactly if the bank would have more than `MOST_ELEMENTS` elements.
 pub fn bank(alloc: Global, rsm: &Rsm) -> Result<Bank, BankRefusal>
     requires some_states { 0 < rsm.now.states }
     requires some_lines { 0 < rsm.now.lines }

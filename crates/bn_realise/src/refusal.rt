@@ -1,16 +1,17 @@
-//! What the calls of this crate refuse.
+//! Refusals of the calls of this crate.
 
 use bn_lists::NoMemory;
 
-/// Why no bank was made.
+/// Why a bank was not made.
 #[derive(Clone, Copy, PartialEq, Eq, Debug)]
 pub enum BankRefusal {
     /// The bank would have more than 4,194,304 elements.
     Elements {
-        /// How many it would have: the machine's states times one more than its lines.
+        /// The number of elements that the bank would have: the number of states of the machine, times one more than
+        /// its number of input ports.
         count: u64,
     },
-    /// There was no memory.
+    /// Memory ran out.
     NoMemory,
 }
 

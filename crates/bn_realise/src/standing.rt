@@ -1,4 +1,4 @@
-//! A bank by itself.
+//! A net that is one bank and nothing else.
 ghost use Rattle.std.specs.Prelude.{◌≡◌, ℕ, ◌+◌, ◌*◌, ◌<◌, ◌≤◌, length, replicate, slice_set, IfOk};
 ghost use Rattle.bn_realise.specs.Banks.{bottom_at};
 ghost use Rattle.bn_element.specs.Tables.{Table, IsReversible};
@@ -11,7 +11,7 @@ use bn_lists::NoMemory;
 use std::alloc::Global;
 use std::marker::Model;
 
-/// A net that is the bank of one machine. Clauses see the net and the numbers of states and lines.
+/// A net that is the bank of one machine. Contracts see the net and the numbers of states and ports.
 #[derive(Debug, Drop)]
 pub struct Bank {
     net: Net<Rotary>,
@@ -40,7 +40,7 @@ impl Bank {
     ghost use Rattle.bn_realise.specs.Banks.{IsBankEntering, exit_after};
     ghost use Rattle.bn_realise.specs.BankNets.{Banked, IsBankOf, IsSomeBank, IsReadyBank, IsMove, HasLeft, start_at};
 
-    // The bank with this net and these numbers of states and lines.
+    // The bank with this net and these numbers of states and ports.
     pub(crate) fn of(net: Net<Rotary>, states: u32, lines: u32) -> Bank
         requires elements { length net.elements ≡ states * (lines + 1) }
         requires few { states * (lines + 1) ≤ MOST_ELEMENTS }
@@ -51,8 +51,8 @@ impl Bank {
         Bank { net, states, lines }
     }
 
-    /// The bank's net: the columns one after another from element 0 on, each with its bottom last. It is
-    /// the bank of some table.
+    /// The bank's net: its columns are consecutive from element 0 on, each with its bottom last. The contract states
+    /// that the net is the bank of some table.
     pub fn net(&self) -> &Net<Rotary>
         ensures net { result.now ≡ self.now.net }
         ensures some_bank { IsSomeBank self.now }
@@ -60,7 +60,7 @@ impl Bank {
         &self.net
     }
 
-    /// Hands out the bank's net. It takes no memory. Its contract also tells what every net keeps.
+    /// Returns the bank's net. The call takes no memory. Its contract also states the invariant of every net.
     pub fn into_net(self) -> Net<Rotary>
         ensures net { result ≡ self.net }
         ensures circuit { IsCircuit (rotary_circuit result) }
@@ -73,8 +73,8 @@ impl Bank {
         net
     }
 
-    /// The bank at rest in this state, with the signal about to enter this input line; both are counted
-    /// from 0. No step is made yet, and the move can be made.
+    /// The bank at rest in this state, with the signal about to enter this input port; both are counted from 0. The
+    /// count of steps is 0, and the move can be made.
     pub fn start(&self, alloc: Global, state: u32, line: u32) -> Result<Config, NoMemory>
         requires state { state < self.now.states }
         requires line { line < self.now.lines }
@@ -94,9 +94,9 @@ impl Bank {
         })
     }
 
-    /// Makes the bank's move from its state and the input line that the signal enters, and answers the
-    /// number of element steps made: to the output line, or to the loose line where the pair has no
-    /// move, by which the signal has left. It takes no memory.
+    /// Makes the bank's move from its state and the input port that the signal enters, and returns the number of
+    /// element steps made, up to the output port, or to the loose output if the pair has no move. The signal has then
+    /// left by that port. The call takes no memory.
     pub fn cross(&self, config: &mut Config) -> u64
         requires good { IsConfig (rotary_circuit self.now.net) config.old }
         requires entering { IsReadyBank self.now config.old }
@@ -111,7 +111,7 @@ impl Bank {
     }
 }
 
-// The bars of a bank at rest in this state: all vertical but for the bottom of the state's column.
+// The bars of a bank at rest in this state: all vertical except the bar of the bottom of the state's column.
 fn resting(alloc: Global, states: u32, lines: u32, state: u32) -> Result<Vec<u32>, NoMemory>
     requires few { states * (lines + 1) ≤ MOST_ELEMENTS }
     requires state { state < states }

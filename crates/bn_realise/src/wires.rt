@@ -51,7 +51,7 @@ fn push_column<E: Element>(
     Ok(())
 }
 
-// The wire from a row on to the next column, where there is one.
+// The wire from a row to the next column, if there is one.
 fn push_onward<E: Element>(
     wires: &mut Vec<Wire>,
     machine: &E,
@@ -76,7 +76,8 @@ fn push_onward<E: Element>(
     Ok(())
 }
 
-// The wire from where a row's signal is turned back to where it goes out, where there is a move.
+// The wire from where the signal of a row is turned back to where it leaves, if the pair of the column and the row has
+// a move.
 fn push_turned<E: Element>(
     wires: &mut Vec<Wire>,
     machine: &E,

@@ -1,5 +1,5 @@
--- Machines of quadruples that are written with names and read again, and machines with other numbers. `Laws` at the end
--- is the contract of this crate's one function.
+-- Machines of quadruples that are written with names and read again, and renumbered machines. `Laws` at the end is
+-- the contract of `renumbering_laws`.
 use Rattle.std.specs.Prelude.{◌≡◌, ℕ, ◌≤◌, List, length}
 use Rattle.bn_csv.specs.Lines.{lines_of}
 use Rattle.bn_quad.specs.Names.{Naming}
@@ -18,7 +18,7 @@ use Rattle.bn_erase.specs.Printed.{names_of}
 use Rattle.bn_renumbering.specs.Renumbering.{AreTableNames, Renumbering, IsRenumbering, ReadsBack, IsConfigurationOf}
 use Rattle.bn_renumbering.specs.Renumbering.{IsRenumbered}
 
--- ---- machines with other numbers
+-- ---- renumbered machines
 
 abbrev pub RenumberingsPassTests : Type 0
 RenumberingsPassTests = (k : Renumbering) (p m : Quadruples) → IsRenumbering k p m
@@ -29,7 +29,7 @@ RenumberingsAreUniform =
     (k : Renumbering) (p m : Quadruples) → IsQuadMachine p → IsRenumbering k p m → IsUniformMachine m
     → IsUniformMachine p
 
--- from the configuration c of p, which with the new numbers is x
+-- runs from the configuration c of p, which is x with the new numbers
 abbrev pub RenumberingsRunAlike : Type 0
 RenumberingsRunAlike =
     (k : Renumbering) (p m : Quadruples) → IsQuadMachine p → IsRenumbering k p m → IsDeterministic m.rules
@@ -41,7 +41,7 @@ RenumberingsRunAlike =
 
 -- ---- machines that are written and read
 
--- the bytes have no other reading
+-- the text is read as a table, and its machine is the one that was written, up to the numbers
 abbrev pub WrittenMachinesReadBack : Type 0
 WrittenMachinesReadBack =
     (m : Quadruples) (names : Naming) (text : List ℕ) → IsQuadMachine m → HasNames m names → AreTableNames names
@@ -67,20 +67,19 @@ InversesAreTables =
 -- ---- the laws
 
 pub record Laws : Type 0 where
-  -- A machine is deterministic, or reversible, where it is so with other numbers.
+  -- A machine is deterministic if its renumbered machine is, and reversible if its renumbered machine is.
   pub renumberings_pass_tests : RenumberingsPassTests
-  -- A machine is uniform where it is so with other numbers.
+  -- A machine is uniform if its renumbered machine is.
   pub renumberings_are_uniform : RenumberingsAreUniform
-  -- Where a machine runs in rooms to an exit, it does so with other numbers, in as many steps, to the same exit, and to
-  -- the final configuration with the new numbers; and the other way round.
+  -- A machine and its deterministic renumbered machine have the same runs in any rooms: as many steps, the same exit,
+  -- and final configurations that differ only in the numbers.
   pub renumberings_run_alike : RenumberingsRunAlike
-  -- What is written of a machine of at most 20,000 quadruples with names in their forms, of which none stands twice, is
-  -- read as a table, whose machine is the one that was written but for the numbers, each name kept.
+  -- The text of a machine of at most 20,000 quadruples, with well-formed distinct names, is read as a table of that
+  -- machine, up to the numbers, with every name kept.
   pub written_machines_read_back : WrittenMachinesReadBack
-  -- What is written of an erasing machine of at most 20,000 quadruples is read as a table, whose machine is that one
-  -- but for the numbers; it is uniform where both machines are in standard form.
+  -- The text of an erasing machine of at most 20,000 quadruples is read as a table of it, up to the numbers, uniform
+  -- if both machines are in standard form.
   pub erasings_are_tables : ErasingsAreTables
-  -- What is written of the inverse of a table's machine, with the table's names, is read as a table, whose machine is
-  -- that inverse but for the numbers; it is deterministic where the table's machine is reversible, reversible where
-  -- that one is deterministic, and uniform where that one is.
+  -- With its names, the inverse of a table's machine is read back up to the numbers: deterministic if the machine is
+  -- reversible, reversible if it is deterministic, uniform if it is uniform.
   pub inverses_are_tables : InversesAreTables

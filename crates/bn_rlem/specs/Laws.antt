@@ -1,4 +1,4 @@
--- The laws of this crate, a named field each. `Laws` is the contract of `rlem_laws`.
+-- The laws of this crate, each a named field. `Laws` is the contract of `rlem_laws`.
 use Rattle.std.specs.Prelude.{◌≡◌, ℕ, ◌*◌, ◌<◌, List, length}
 use Rattle.std.specs.List.{AllPairs}
 use Rattle.bn_rsm.specs.Machines.{AreSound}
@@ -6,13 +6,13 @@ use Rattle.bn_rsm.specs.declared.rsm_move.RsmMove.{RsmMove}
 use Rattle.bn_rlem.specs.Permutations.{ComesBefore, IsPermutation, factorial}
 use Rattle.bn_rlem.specs.Elements.{IsElement, IsLineCount}
 
--- each number below the factorial of their count is that of one permutation
+-- each number below the factorial of the number of entries is that of exactly one permutation
 abbrev pub PermutationsAreNumbered : Type 0
 PermutationsAreNumbered =
     ((xs : List ℕ) (n : ℕ) → n < factorial (length xs) → (p : List ℕ) × IsPermutation xs n p)
     × ((xs : List ℕ) (n : ℕ) (p q : List ℕ) → IsPermutation xs n p → IsPermutation xs n q → p ≡ q)
 
--- of two permutations of a list in rising order the one with the less number comes first in lexicographic order
+-- of two permutations of a list in rising order, the one with the lesser number comes first in lexicographic order
 abbrev pub PermutationsAreOrdered : Type 0
 PermutationsAreOrdered =
     (xs : List ℕ) → AllPairs (λ x y. x < y) xs → (m n : ℕ) (p q : List ℕ) → IsPermutation xs m p
@@ -23,9 +23,9 @@ abbrev pub ElementsAreReversible : Type 0
 ElementsAreReversible = (k n : ℕ) (moves : List RsmMove) → IsLineCount k → IsElement k n moves → AreSound 2 k moves
 
 pub record Laws : Type 0 where
-  -- Each number below the factorial of the number of entries is that of one permutation, and only one.
+  -- Each number below the factorial of the number of entries is that of exactly one permutation.
   pub permutations_are_numbered : PermutationsAreNumbered
-  -- Permutations are numbered in lexicographic order.
+  -- The permutations of a list in rising order are numbered in lexicographic order.
   pub permutations_are_ordered : PermutationsAreOrdered
   -- A numbered element is a reversible sequential machine with two states.
   pub elements_are_reversible : ElementsAreReversible

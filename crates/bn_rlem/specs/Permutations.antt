@@ -2,13 +2,14 @@
 use Rattle.std.specs.Prelude.{◌≡◌, ℕ, zero, suc, ◌+◌, ◌*◌, ◌<◌, ◌⊎◌, List, [], ◌∷◌, length, Some, slice_get}
 use Rattle.std.specs.List.{remove}
 
--- how many permutations n entries have
+-- the number of permutations of n entries
 abbrev pub factorial : ℕ → ℕ
 factorial zero = 1
 factorial (suc n) = suc n * factorial n
 
--- A permutation with number n begins with x: the entry at some place of the list, which has n = place · m! + left with
--- left < m!, where m entries are left; and it goes on with a permutation of those, with the number that is left.
+-- A permutation with number n begins with x. The entry x is at position `place` of the list, and n = place · m! + left
+-- with left < m!, where m is the number of the other entries. The rest of the permutation is that of the other entries
+-- with number `left`.
 pub record BeginsWith (xs : List ℕ) (n x m : ℕ) (Rest : List ℕ → ℕ → Type 0) : Type 0 where
   pub place : ℕ
   pub left : ℕ
@@ -17,12 +18,13 @@ pub record BeginsWith (xs : List ℕ) (n x m : ℕ) (Rest : List ℕ → ℕ →
   pub low : left < factorial m
   pub goes_on : Rest (remove xs place) left
 
--- p is the permutation with number n of the entries of a list in rising order
+-- p is the permutation with number n of the entries of a list; if the list is in rising order, the numbers follow
+-- lexicographic order
 abbrev pub IsPermutation : List ℕ → ℕ → List ℕ → Type 0
 IsPermutation xs n [] = (xs ≡ []) × (n ≡ 0)
 IsPermutation xs n (x ∷ p) = BeginsWith xs n x (length p) (λ ys m. IsPermutation ys m p)
 
--- lexicographic order: at the first place where two lists differ, the first has the lesser entry
+-- lexicographic order: at the first place where the two lists differ, the first has the lesser entry
 abbrev pub ComesBefore : List ℕ → List ℕ → Type 0
 ComesBefore (x ∷ p) (y ∷ q) = (x < y) ⊎ ((x ≡ y) × ComesBefore p q)
 ComesBefore _ _ = ⊥

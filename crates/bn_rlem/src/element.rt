@@ -9,10 +9,11 @@ use bn_lists::NoMemory;
 use bn_rsm::RsmMove;
 use std::alloc::Global;
 
-/// The most lines of an element that has a number here: 20! is less than 2^62.
+/// The greatest number of ports of an element that has a number here: 20! is less than 2^62.
 pub const MOST_LINES: u32 = 10;
 
-/// How many elements with so many lines there are: (2k)! for k lines, numbered from 0.
+/// The number of elements with this many input ports and as many output ports: (2k)! for k ports. Their numbers are
+/// counted from 0.
 pub fn element_count(lines: u32) -> u64
     requires { IsLineCount lines }
     ensures { result ≡ permutations.factorial (2 * lines) }
@@ -20,8 +21,8 @@ pub fn element_count(lines: u32) -> u64
     factorial(2 * lines)
 }
 
-/// The moves of the element with so many lines and this number, counted from 0 (Morita 2017): from each pair of a state
-/// and a line, in rising order.
+/// The moves of the element with this many ports and this number, counted from 0 (Morita 2017): one from each pair of
+/// a state and a port, in rising order of the pairs.
 pub fn element_moves(alloc: Global, lines: u32, number: u64) -> Result<Vec<RsmMove>, NoMemory>
     requires lines { IsLineCount lines }
     requires number { number < permutations.factorial (2 * lines) }
@@ -31,7 +32,7 @@ pub fn element_moves(alloc: Global, lines: u32, number: u64) -> Result<Vec<RsmMo
     moves_of(alloc, lines, pairs.as_slice())
 }
 
-// Adds a move at the end.
+// Appends a move.
 fn add(moves: &mut Vec<RsmMove>, step: RsmMove) -> Result<(), NoMemory>
     ensures { OnOk result (moves.new.items ≡ moves.old.items ++ step ∷ []) }
 {
@@ -39,7 +40,7 @@ fn add(moves: &mut Vec<RsmMove>, step: RsmMove) -> Result<(), NoMemory>
     Ok(())
 }
 
-// The move from a pair to a pair, by their numbers.
+// The move from one pair to another, given by their numbers.
 fn move_between(lines: u32, from: u32, to: u32) -> RsmMove
     requires { IsLineCount lines }
     ensures { moves_from lines from (to ∷ []) ≡ result ∷ [] }
@@ -52,7 +53,7 @@ fn move_between(lines: u32, from: u32, to: u32) -> RsmMove
     }
 }
 
-// The moves of the pairs with the numbers to which they lead.
+// The moves of all pairs in rising order; `pairs` has the number of the pair to which each leads.
 fn moves_of(alloc: Global, lines: u32, pairs: &[u32]) -> Result<Vec<RsmMove>, NoMemory>
     requires count { IsLineCount lines }
     requires few { length pairs.now ≤ 20 }

@@ -8,7 +8,7 @@ ghost use Rattle.bn_rlem.specs.Permutations as numbers;
 use bn_lists::NoMemory;
 use std::alloc::Global;
 
-// How many permutations so many entries have.
+// The number of permutations of this many entries.
 pub(crate) fn factorial(count: u32) -> u64
     requires { count ≤ 20 }
     ensures { result ≡ numbers.factorial count }
@@ -20,7 +20,7 @@ pub(crate) fn factorial(count: u32) -> u64
     product
 }
 
-// Adds an entry at the end.
+// Appends an entry.
 fn add(entries: &mut Vec<u32>, entry: u32) -> Result<(), NoMemory>
     ensures { OnOk result (entries.new.items ≡ entries.old.items ++ entry ∷ []) }
 {

@@ -1,9 +1,9 @@
--- Moves as they are gathered.
+-- Moves collected from entries.
 use Rattle.std.specs.Prelude.{◌≡◌, All}
 use Rattle.bn_rsm.specs.Entry.{IsMove, states_named, lines_named}
 use Rattle.bn_rsm.specs.declared.draft.Draft.{Draft}
 
--- the draft's moves may stand in a table, and it counts the states and lines that they name
+-- the moves of the draft may be entries of a table, and its counts are those of the states and ports that they name
 pub record IsDraft (d : Draft) : Type 0 where
   pub within : All IsMove d.moves.items
   pub states : d.states ≡ states_named d.moves.items

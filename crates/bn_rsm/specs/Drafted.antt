@@ -1,4 +1,4 @@
--- What a draft of moves stands for.
+-- The entries that a draft of moves represents.
 use Rattle.std.specs.Prelude.{◌≡◌, ℕ, List, [], ⊤}
 use Rattle.bn_rsm.specs.Faults as moves
 use Rattle.bn_rsm.specs.declared.rsm_move.RsmMove.{RsmMove}
@@ -8,11 +8,11 @@ use Rattle.bn_rsm.specs.declared.draft.Draft.{Draft}
 use Rattle.bn_rsm.specs.declared.table_refusal.RsmTableRefusal.{RsmTableRefusal}
 use Rattle.bn_rsm.specs.declared.table_refusal.RsmTableRefusal.TheVariants as refusal
 
--- its entries
+-- the entries of a draft
 abbrev pub drafted : Draft → List (List (List ℕ))
 drafted d = entries_by d.moves.items
 
--- what a refusal says of moves that make no machine
+-- what a refusal asserts about moves that do not form a machine; out of memory asserts nothing
 abbrev pub IsTold : List RsmMove → RsmTableRefusal → Type 0
 IsTold ms (refusal.SameDomain i j) = moves.IsMoveRefusal (states_named ms) (lines_named ms) ms (clash.SameDomain i j)
 IsTold ms (refusal.SameRange i j) = moves.IsMoveRefusal (states_named ms) (lines_named ms) ms (clash.SameRange i j)

@@ -1,4 +1,4 @@
--- The laws of this crate, a named field each. `Laws` is the contract of `rsm_laws`.
+-- The laws of this crate, each a named field. `Laws` is the contract of `rsm_laws`.
 use Rattle.bn_rsm.specs.Costs.{loose_cost, move_cost}
 use Rattle.bn_rsm.specs.Faults.{IsMoveRefusal}
 use Rattle.bn_rsm.specs.Machines.{AreSound}
@@ -20,7 +20,7 @@ SoundMovesAreTaken =
     (states lines : ℕ) (moves : List RsmMove) (a : RsmRefusal) → AreSound states lines moves
     → IsMoveRefusal states lines moves a → a ≡ NoMemory
 
--- moves make a machine, or they have a first fault
+-- moves form a machine, or they have a first fault
 abbrev pub MovesAreSoundOrRefused : Type 0
 MovesAreSoundOrRefused =
     (states lines : ℕ) (moves : List RsmMove)
@@ -35,21 +35,21 @@ CostsAreBounded =
 -- ---- the laws
 
 pub record Laws : Type 0 where
-  -- Moves have one refusal at most, beside want of memory.
+  -- Moves have at most one refusal, apart from running out of memory.
   pub refusals_are_one : RefusalsAreOne
-  -- Moves that make a machine have no refusal, beside want of memory.
+  -- Moves that form a machine have no refusal, apart from running out of memory.
   pub sound_moves_are_taken : SoundMovesAreTaken
-  -- Moves make a machine, or they have a refusal beside want of memory.
+  -- Moves form a machine, or they have a refusal apart from running out of memory.
   pub moves_are_sound_or_refused : MovesAreSoundOrRefused
-  -- A move costs at most four times the elements of the bank, and so does the way to a loose line.
+  -- A move costs at most four times the elements of the bank, and so does the way to a loose output.
   pub costs_are_bounded : CostsAreBounded
-  -- The most entries are 2^16.
+  -- A table has at most 2^16 entries.
   pub most_entries_are_stated : MOST_ENTRIES ≡ 2 ^ 16
-  -- Bytes are read as one list of moves at most.
+  -- Bytes are read as at most one list of moves.
   pub bytes_have_one_reading : OneReading
-  -- Bytes are read as moves exactly where their entries have no fault.
+  -- Bytes are read as moves exactly if their entries have no fault.
   pub bytes_have_a_reading_or_a_fault : ReadingOrFault
-  -- Bytes read as a machine, or they have a refusal beside want of memory; and not both.
+  -- Bytes are read as a machine, or they have a refusal apart from running out of memory, and not both.
   pub bytes_are_read_or_refused : MachineOrRefusal × MachinesAreNotRefused
-  -- Bytes read as one machine at most, and have one refusal at most, beside want of memory.
+  -- Bytes are read as at most one machine, and have at most one refusal, apart from running out of memory.
   pub bytes_have_one_answer : OneMachine × OneRefusal

@@ -1,6 +1,6 @@
 -- Reversible sequential machines by their moves (Morita 2017): partial one-to-one functions from pairs of state and
--- line to pairs of state and line. That a pair may have no move is this project's own profile. Numbers are counted from
--- 0.
+-- input port to pairs of state and output port. That a pair may have no move is this project's own profile. Numbers
+-- are counted from 0.
 use Rattle.std.specs.Prelude.{◌≡◌, ℕ, List, [], ◌∷◌, map, Option, refl}
 use Rattle.std.specs.Coded.{Coded, Coded-set, coded_ℕ, coded_list, coded_option, coded×, code_by, Unit-prop, le_prop}
 use base.Stored.{coded_via}
@@ -10,16 +10,17 @@ use Rattle.bn_element.specs.Tables.{Table, IsReversible, Move, AreOneToOne, AreW
 use Rattle.bn_element.specs.Reversible.{table_by-IsReversible}
 use Rattle.bn_rsm.specs.declared.rsm_move.RsmMove.{RsmMove}
 
--- the move in the words of tables
+-- the move as a move of a table
 abbrev pub move_of : RsmMove → Move
 move_of m = record { state = m.state; input = m.line; next = m.next; output = m.out }
 
--- No two of the moves leave one pair of state and line, no two lead to one pair, and all their numbers are in range.
+-- No two of the moves leave the same pair of state and port, no two lead to the same pair, and all their numbers are
+-- in range.
 pub record AreSound (states lines : ℕ) (moves : List RsmMove) : Type 0 where
   pub one_to_one : AreOneToOne (map move_of moves)
   pub within : AreWithin states lines lines (map move_of moves)
 
--- a machine: so many states, so many lines both ways, and its moves in order
+-- a machine: its number of states, its number of ports each way (`lines`), and its moves in order
 pub record Machine : Type 0 where
   pub states : ℕ
   pub lines : ℕ
@@ -34,18 +35,18 @@ pub machine_table-IsReversible : (m : Machine) → IsReversible (machine_table m
 machine_table-IsReversible m =
     table_by-IsReversible m.states m.lines m.lines (map move_of m.moves) m.sound.one_to_one m.sound.within
 
--- this machine has so many states and lines and these moves
+-- this machine has n states, k ports each way and these moves
 pub record IsMadeOf (m : Machine) (n k : ℕ) (ms : List RsmMove) : Type 0 where
   pub states : m.states ≡ n
   pub lines : m.lines ≡ k
   pub moves : m.moves ≡ ms
 
--- the second machine goes where the first comes from, and comes from where the first goes
+-- the second machine is the inverse of the first: each goes where the other comes from
 pub record IsBackward (m n : Machine) : Type 0 where
   pub goes : (r o : ℕ) → (machine_table n).go r o ≡ (machine_table m).back r o
   pub comes : (q i : ℕ) → (machine_table n).back q i ≡ (machine_table m).go q i
 
--- ---- that moves are sound is known in one way only, so machines with the same numbers and moves are the same
+-- ---- proofs of soundness are equal; therefore machines with the same numbers and moves are equal
 
 pair_code : Coded (Option (ℕ × ℕ))
 pair_code = coded_option (coded× coded_ℕ coded_ℕ)
@@ -72,7 +73,7 @@ same_machine m n states lines moves =
           (λ j. AreSound-prop (states j) (lines j) (moves j)) m.sound n.sound i;
     }
 
--- a move, and a machine, as ghost values keep them: their numbers, and the list of moves
+-- the encoding of a move, and of a machine, as a ghost value: its numbers, and the list of moves of a machine
 abbrev pub move_code : Coded RsmMove
 move_code =
     code_by (ℕ × (ℕ × (ℕ × ℕ))) (coded× coded_ℕ (coded× coded_ℕ (coded× coded_ℕ coded_ℕ)))

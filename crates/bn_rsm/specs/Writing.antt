@@ -1,12 +1,12 @@
--- Machines whose text is read as them again.
+-- Machines whose text is read as the same machine.
 use Rattle.std.specs.Prelude.{◌≡◌, ◌<◌, ◌≤◌, length}
 use Rattle.bn_rsm.specs.Machines.{Machine}
 use Rattle.bn_rsm.specs.Entry.{lines_named, states_named}
 use Rattle.bn_rsm.specs.declared.entry.TheConstants.{MOST_ENTRIES}
 use Rattle.bn_base.specs.declared.limits.TheConstants.{MOST_COUNT}
 
--- a machine with one move at least, and as many at most as a table may have, and with as many states and lines as they
--- name, each at most the greatest number of an entry
+-- a machine with 1 to `MOST_ENTRIES` moves and exactly as many states and ports as they name, at most `MOST_COUNT` of
+-- each
 pub record IsTable (m : Machine) : Type 0 where
   pub some : 0 < length m.moves
   pub few : length m.moves ≤ MOST_ENTRIES

@@ -12,7 +12,7 @@ use crate::{Rsm, RsmMove, RsmRefusal};
 use bn_csv::{Entry, NoMemory, TableDraft};
 use std::alloc::Global;
 
-/// The moves of the entries read so far, and how many states and lines they name.
+/// The moves of the entries read so far, and how many states and ports they name.
 #[derive(Drop)]
 pub struct Draft {
     states: u32,
@@ -20,7 +20,7 @@ pub struct Draft {
     moves: Vec<RsmMove>,
 }
 
-/// A draft of no entries. It takes no memory.
+/// An empty draft. The call takes no memory.
 pub fn new_draft(alloc: Global) -> Draft
     ensures draft { IsDraft result }
     ensures none { drafted result ≡ [] }
@@ -78,8 +78,9 @@ impl TableDraft for Draft {
     }
 }
 
-/// The machine of a draft's moves; else `Empty` where there is none, or the first move that agrees with an earlier
-/// one on a side.
+/// The machine of a draft's moves. Returns `Empty` if the draft has no move. If two moves share a pair, returns
+/// `SameDomain` or `SameRange` for the first move that leaves or leads to the same pair of state and port as an
+/// earlier one.
 pub fn into_machine(alloc: Global, draft: Draft) -> Result<Rsm, RsmTableRefusal>
     requires draft { IsDraft draft }
     requires few { length (drafted draft) ≤ MOST_ENTRIES }

@@ -14,7 +14,7 @@ use bn_csv::Entry;
 /// The most entries of a table.
 pub const MOST_ENTRIES: u32 = 65_536;
 
-// The number that a field is, less one; `None` exactly where it is none from 1 to `MOST_COUNT`.
+// The number that a field spells, minus one; `None` exactly if the field is not a number from 1 to `MOST_COUNT`.
 fn number_of(field: &[u8]) -> Option<u32>
     ensures { MatchOption result (fault.is_number field.now ≡ false) (λ n. (fault.is_number field.now ≡ true)
         × (n < MOST_COUNT) × (field.now ≡ decimal (n + 1))) }
@@ -63,7 +63,7 @@ fn four_fields(
     })
 }
 
-/// The move of an entry, or the first fault of its fields. The number is the entry's own, counted from 1.
+/// The move of an entry, or the first fault of its fields. `number` is the entry's number, counted from 1.
 pub fn read_move(entry: &Entry, number: u32) -> Result<RsmMove, RsmTableRefusal>
     ensures says { IfOk result (λ m. move_entry m ≡ entry.now) }
     ensures within { IfOk result IsMove }

@@ -1,4 +1,4 @@
-//! Moves found by the pairs of state and line that they leave and lead to.
+//! An index of moves by the pairs of state and port that they leave and lead to.
 ghost use Rattle.std.specs.Prelude.{ℕ, ◌≡◌, ◌<◌, ◌^◌, ◌+◌, ◌∷◌, ◌++◌, List, [], Some, None, length, if◌then◌else◌};
 ghost use Rattle.std.specs.Prelude.{IfOk, OnOk, IfErr};
 ghost use Rattle.std.specs.HashMap.{get};
@@ -13,8 +13,8 @@ use bn_lists::NoMemory;
 use std::alloc::Global;
 use std::collections::HashMap;
 
-/// The number, counted from 1, of the move that leaves each pair of state and input line, and of the
-/// move that leads to each pair of state and output line.
+/// The number, counted from 1, of the move that leaves each pair of state and input port, and of the move that leads
+/// to each pair of state and output port.
 #[derive(Drop)]
 pub(crate) struct Index {
     pub(crate) from: HashMap<(u32, u32), u32>,
@@ -46,7 +46,7 @@ impl Index {
         Ok(index)
     }
 
-    /// The index of these moves. None of them is tested.
+    /// The index of these moves. The moves are not checked.
     pub(crate) fn new(alloc: Global, moves: &[RsmMove]) -> Result<Index, NoMemory>
         requires { length moves.now < 2 ^ 32 }
         ensures { IfOk result (λ x. (states lines : ℕ) → AreSound states lines moves.now
@@ -62,8 +62,8 @@ impl Index {
         Ok(index)
     }
 
-    // Tests a move against the earlier ones, which are indexed: its first fault, under its number,
-    // counted from 1.
+    // Checks a move against the earlier ones, which are indexed. Returns its first fault with `number`, which is the
+    // number of the move, counted from 1.
     fn check(&self, step: &RsmMove, states: u32, lines: u32, number: u32) -> Result<(), RsmRefusal>
         ensures { (earlier : List RsmMove) → AreNumbers self.now.from self.now.to earlier
             → result ≡ checked (move_fault_of states lines earlier step.now) number }
@@ -84,7 +84,7 @@ impl Index {
         Ok(())
     }
 
-    // Adds a move without fault behind the earlier ones.
+    // Adds a move without a fault after the earlier ones.
     fn add(&mut self, step: &RsmMove, number: u32) -> Result<(), NoMemory>
         ensures { OnOk result ((states lines : ℕ) (earlier : List RsmMove)
             → AreNumbers self.old.from self.old.to earlier → number ≡ length earlier + 1
@@ -97,7 +97,7 @@ impl Index {
     }
 }
 
-// Gives the pair this number.
+// Stores this number for the pair.
 fn put(
     numbers: &mut HashMap<(u32, u32), u32>,
     pair: (u32, u32),

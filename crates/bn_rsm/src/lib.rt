@@ -1,4 +1,4 @@
-//! Reversible sequential machines given by their moves, and what a move of one costs as a circuit.
+//! Reversible sequential machines given by their moves, and the cost of a move when the machine is built as a circuit.
 #![tactic(auto)]
 
 mod draft;

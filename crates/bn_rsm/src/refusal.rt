@@ -1,33 +1,33 @@
-//! What the calls of this crate refuse.
+//! Refusals of the calls of this crate.
 
 use bn_lists::NoMemory;
 
-/// Why moves make no reversible machine. Moves are counted from 1. Move `j` is the first faulty one;
-/// it is tested first for `Range`, then for `SameDomain`, then for `SameRange`.
+/// Why moves do not form a reversible sequential machine. Moves are counted from 1. Move `j` is the first faulty one.
+/// A move is checked first for `Range`, then for `SameDomain`, then for `SameRange`.
 #[derive(Clone, Copy, PartialEq, Eq, Debug)]
 pub enum RsmRefusal {
-    /// Move `j` is the first faulty one, and move `i` is the least earlier one that leaves the same
-    /// pair of state and line.
+    /// Move `j` is the first faulty one, and move `i` is the first earlier one that leaves the same pair of state and
+    /// port.
     SameDomain {
         /// The earlier move's number, from 1.
         i: u32,
         /// The faulty move's number, from 1.
         j: u32,
     },
-    /// Move `j` is the first faulty one, and move `i` is the least earlier one that leads to the same
-    /// pair of state and line.
+    /// Move `j` is the first faulty one, and move `i` is the first earlier one that leads to the same pair of state
+    /// and port.
     SameRange {
         /// The earlier move's number, from 1.
         i: u32,
         /// The faulty move's number, from 1.
         j: u32,
     },
-    /// Move `j` is the first faulty one, and a state or a line of it is out of range.
+    /// Move `j` is the first faulty one, and one of its states or ports is out of range.
     Range {
         /// The faulty move's number, from 1.
         j: u32,
     },
-    /// There was no memory.
+    /// Memory ran out.
     NoMemory,
 }
 

@@ -12,10 +12,10 @@ use bn_lists::NoMemory;
 use std::alloc::{AllocError, Global};
 use std::marker::Model;
 
-/// A reversible sequential machine (Morita 2017): a one-to-one function from some pairs of state and
-/// input line to pairs of state and output line, given by its moves. It has as many output lines as
-/// input lines. (That a pair may have no move is this project's own profile.) Clauses see the numbers
-/// of states and lines and the list of moves. Moves are found in about constant time.
+/// A reversible sequential machine (Morita 2017): a one-to-one function from some pairs of state and input port to
+/// pairs of state and output port, given by its moves. It has as many output ports as input ports. (In Morita's
+/// definition the function is total. That a pair may have no move is this project's own profile.) Contracts see the
+/// numbers of states and ports (`lines`) and the list of moves. A move is found in about constant time.
 #[derive(Drop)]
 pub struct Rsm {
     states: u32,
@@ -42,10 +42,10 @@ impl Rsm {
     ghost use Rattle.bn_rsm.specs.Machines.{IsMadeOf, IsBackward};
     ghost use Rattle.bn_rsm.specs.Faults.{IsMoveRefusal};
 
-    /// The machine of these moves with so many states and lines. Moves are taken in order, and the
-    /// first faulty one is named: `Range` where a number of it is out of range, else `SameDomain` where
-    /// an earlier move leaves the same pair, else `SameRange` where an earlier move leads to the same
-    /// pair.
+    /// The machine with these moves, this many states and this many input ports and output ports (`lines`). Moves are
+    /// checked in order, and the refusal names the first faulty one: `Range` if one of its numbers is out of range,
+    /// otherwise `SameDomain` if an earlier move leaves the same pair, otherwise `SameRange` if an earlier move leads
+    /// to the same pair.
     pub fn try_new(
         alloc: Global,
         states: u32,
@@ -66,8 +66,8 @@ impl Rsm {
         })
     }
 
-    /// The machine of these moves with so many states and lines, where the moves are sound: no move is tested again,
-    /// and the call fails for want of memory alone.
+    /// The machine with these moves, this many states and this many ports each way (`lines`). The moves must be sound:
+    /// no move is checked again, and the call fails only if memory runs out.
     pub fn new(alloc: Global, states: u32, lines: u32, moves: Vec<RsmMove>) -> Result<Rsm, NoMemory>
         requires sound { AreSound states lines moves.items }
         requires few { length moves.items < 2 ^ 32 }
@@ -89,7 +89,7 @@ impl Rsm {
         self.moves.as_slice()
     }
 
-    /// The machine backward: in each move the two pairs are exchanged.
+    /// The inverse machine: in each move the two pairs are exchanged.
     pub fn inverse(&self, alloc: Global) -> Result<Rsm, NoMemory>
         ensures made { IfOk result (λ m. IsMadeOf m self.now.states self.now.lines (map turned self.now.moves)) }
         ensures backward { IfOk result (IsBackward self.now) }

@@ -1,16 +1,15 @@
 //! One move of a sequential machine.
 
-/// In state `state`, by input line `line`, to state `next` and out by output line `out`; all are
-/// counted from 0.
+/// A move from state `state` and input port `line` to state `next` and output port `out`; all are counted from 0.
 #[derive(Clone, Copy, PartialEq, Eq, Debug)]
 pub struct RsmMove {
     /// The state in which the move is made.
     pub state: u32,
-    /// The input line by which the signal comes in.
+    /// The input port by which the signal enters.
     pub line: u32,
     /// The state after the move.
     pub next: u32,
-    /// The output line by which the signal goes out.
+    /// The output port by which the signal leaves.
     pub out: u32,
 }
 
@@ -18,7 +17,7 @@ impl RsmMove {
     ghost use Rattle.std.specs.Prelude.{◌≡◌};
     ghost use Rattle.bn_rsm.specs.Faults.{turned};
 
-    // The move backward: its two pairs exchanged.
+    // The inverse move: its two pairs exchanged.
     pub(crate) fn turned(&self) -> RsmMove
         ensures { result ≡ turned self.now }
     {

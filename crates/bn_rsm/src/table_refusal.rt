@@ -2,17 +2,18 @@
 
 use bn_csv::NoMemory;
 
-/// Why some bytes are no table of a reversible sequential machine. Entries, fields and moves are counted from 1.
-/// The first faulty entry is named, with its first fault in this order: too many entries, the count of fields, the
-/// fields from 1 to 4. Where no entry is faulty, the first move is named that agrees with an earlier one on a side.
+/// Why some bytes are not a table of a reversible sequential machine. Entries, fields and moves are counted from 1.
+/// The refusal names the first faulty entry with its first fault, in this order: too many entries, the count of
+/// fields, the fields from 1 to 4. If no entry is faulty, the refusal names the first move that leaves or leads to the
+/// same pair of state and port as an earlier one.
 #[derive(Clone, Copy, PartialEq, Eq, Debug)]
 pub enum RsmTableRefusal {
-    /// The entry has not four fields.
+    /// The entry does not have four fields.
     FieldCount {
         /// The entry's number, from 1.
         entry: u32,
     },
-    /// The field is no number from 1 to `MOST_COUNT`.
+    /// The field is not a number from 1 to `MOST_COUNT`.
     Number {
         /// The entry's number, from 1.
         entry: u32,
@@ -26,14 +27,14 @@ pub enum RsmTableRefusal {
     },
     /// There is no entry.
     Empty,
-    /// Move `j` leaves the same pair of state and line as the earlier move `i`, the least such.
+    /// Move `j` leaves the same pair of state and port as the earlier move `i`, which is the first such move.
     SameDomain {
         /// The earlier move's number, from 1.
         i: u32,
         /// The faulty move's number, from 1.
         j: u32,
     },
-    /// Move `j` leads to the same pair of state and line as the earlier move `i`, the least such.
+    /// Move `j` leads to the same pair of state and port as the earlier move `i`, which is the first such move.
     SameRange {
         /// The earlier move's number, from 1.
         i: u32,

@@ -14,9 +14,9 @@ use bn_csv::{EntryWriter, NoMemory, read_entries};
 use itoa::Buffer;
 use std::alloc::Global;
 
-/// Reads the bytes of a table: csv records without a header, each with a state, an input line, the next state and an
-/// output line, numbers from 1 to `MOST_COUNT`. It answers the bytes' machine, where they have one; the machine has as
-/// many states and lines as the moves name. Each refusal but `NoMemory` comes exactly where it is the first.
+/// Reads the bytes of a table: csv records without a header, each with a state, an input port, the next state and an
+/// output port, numbers from 1 to `MOST_COUNT`. Returns the machine of the bytes, if they have one, with as many
+/// states and ports as the moves name. A refusal other than `NoMemory` is the only one that the bytes have.
 pub fn read_rsm(alloc: Global, bytes: &[u8]) -> Result<Rsm, RsmTableRefusal>
     ensures ok { IfOk result (ReadsMoves bytes.now) }
     ensures refused { IfErr result (IsMoveTableRefusal bytes.now) }
@@ -41,8 +41,9 @@ fn write_move(writer: &mut EntryWriter, step: &RsmMove) -> Result<(), NoMemory>
     ])
 }
 
-/// The text of a machine: for each move, in order, a line with its four numbers, counted from 1. Reading it gives the
-/// machine, where it has 1 to `MOST_ENTRIES` moves and as many states and lines as they name, at most `MOST_COUNT`.
+/// The text of a machine: for each move, in order, a line with its four numbers, counted from 1. The text is read as
+/// the same machine if the machine has 1 to `MOST_ENTRIES` moves and exactly as many states and ports as they name, at
+/// most `MOST_COUNT` of each.
 pub fn write_rsm(alloc: Global, rsm: &Rsm) -> Result<Vec<u8>, NoMemory>
     ensures text { IfOk result (λ text. text.items ≡ lines_of (entries_by rsm.now.moves)) }
     ensures read_back { IfOk result (λ text. IsTable rsm.now → ReadsMoves text.items rsm.now) }

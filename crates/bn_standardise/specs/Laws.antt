@@ -1,4 +1,4 @@
--- What the laws of this crate say, each a field of `Laws`.
+-- The laws of this crate, each a field of `Laws`.
 use Rattle.std.specs.Prelude.{◌≡◌, ◌≢◌, ℕ, ◌+◌, ◌^◌, ◌<◌, ◌≤◌, ◌↔◌, List, [], ◌∷◌, length}
 use Rattle.bn_machine.specs.Tape.{Tape}
 use Rattle.bn_machine.specs.Machine.{Program, program_of, Moment, IsMachine, IsFinal, IsMachineStuck}
@@ -21,23 +21,23 @@ use Rattle.bn_standardise.specs.declared.refusal.LooseRefusal.TheVariants.{NoMem
 
 -- ---- the list
 
--- of N quintuples and z symbols come N + z + 1 quintuples
+-- N quintuples and z symbols give N + z + 1 quintuples
 abbrev pub CountsRules : Type 0
 CountsRules = (p : Program) → IsMachine p → length (standardised p).quints ≡ count_of p
 
--- the numbering by first appearance tells all names apart that the rules have
+-- the numbering by first appearance gives different numbers to different names of the list
 abbrev pub NumbersTellApart : Type 0
 NumbersTellApart = (p : Program) → IsMachine p → TellsApart (numbering_of p) p
 
--- the list is a machine, where it isn't too long
+-- if the list is not too long, it is a machine
 abbrev pub IsMachineAgain : Type 0
 IsMachineAgain = (p : Program) → IsMachine p → count_of p < 2 ^ 32 → IsMachine (standardised p)
 
--- the machine that is made is in standard form
+-- the new machine is in standard form
 abbrev pub IsInStandardForm : Type 0
 IsInStandardForm = (p : Program) → IsLoose p → IsStandard (standardised p).quints
 
--- and it is one as tables have it, its states numbered by first appearance, where it isn't too long
+-- if the list is not too long, the new machine fits a table: its states are numbered by first appearance
 abbrev pub FitsTableAgain : Type 0
 FitsTableAgain =
     (p : Program) → IsMachine p → count_of p ≤ MOST_ENTRIES → p.symbols ≤ most_symbols → FitsTable (standardised p)
@@ -52,7 +52,7 @@ TextsAreRead =
 
 -- ---- the refusals
 
--- one refusal beside want of memory fits a machine, and none but that fits one that is accepted
+-- at most one refusal other than `NoMemory` fits a machine, and none other fits an accepted machine
 abbrev pub RefusalsAreOne : Type 0
 RefusalsAreOne =
     ((p : Program) (a b : LooseRefusal) → a ≢ NoMemory → b ≢ NoMemory
@@ -61,21 +61,21 @@ RefusalsAreOne =
 
 -- ---- the runs
 
--- a tape has one longest word without blanks that ends at its head, and only one
+-- a tape has exactly one longest word without blanks that ends at its head
 abbrev pub HasOneTail : Type 0
 HasOneTail =
     ((t : Tape) → (d : ℕ) × HasTail t d)
     × ((t : Tape) (d e : ℕ) → HasTail t d → HasTail t e → d ≡ e)
 
--- Where the loose run halts after v steps and d letters end at its head, the new machine halts after v + 2 + d steps,
--- with the same symbols and the head d cells further left.
+-- If the loose run halts after v steps and d letters end at its head, the new machine halts after v + 2 + d steps, with
+-- the same symbols and the head d cells further left.
 abbrev pub HaltsBehind : Type 0
 HaltsBehind =
     (p : Program) → IsLoose p → (word : List ℕ) → IsWord p.symbols word
     → (v d : ℕ) (c : Moment) → Loose p word v c → IsFinal p c → HasTail c.tape d
     → (e : Moment) × After (standardised p) word (v + 2 + d) e × IsFinal (standardised p) e × (e.tape ≡ behind d c.tape)
 
--- Where the loose run is stuck after v steps, the new machine is stuck after v + 1 steps, in the renamed state, with
+-- If the loose run is stuck after v steps, the new machine is stuck after v + 1 steps, in the renumbered state, with
 -- the same tape.
 abbrev pub SticksAlike : Type 0
 SticksAlike =
@@ -84,13 +84,13 @@ SticksAlike =
     → (e : Moment) × After (standardised p) word (v + 1) e × IsMachineStuck (standardised p) e
     × (e.state ≡ numbering_of p (Own c.state)) × (e.tape ≡ c.tape)
 
--- the new machine halts on a word exactly where the loose run halts
+-- the new machine halts on a word exactly if the loose run halts
 abbrev pub HaltsTogether : Type 0
 HaltsTogether =
     (p : Program) → IsLoose p → (word : List ℕ) → IsWord p.symbols word
     → Halts (standardised p) word ↔ LooseHalts p word
 
--- it is stuck only one step after the loose run is
+-- the new machine is stuck only one step after the loose run is
 abbrev pub SticksTogether : Type 0
 SticksTogether =
     (p : Program) → IsLoose p → (word : List ℕ) → IsWord p.symbols word
@@ -99,15 +99,15 @@ SticksTogether =
 
 -- ---- an example
 
--- the machine that turns 0, which is symbol 1, into 1, which is symbol 2, and 1 into 0, letter by letter
+-- a quintuple of the example, whose machine replaces 0 (symbol 1) by 1 (symbol 2) and 1 by 0, letter by letter
 abbrev turns : ℕ → ℕ → ℕ → Shift → ℕ → Quint
 turns state read write shift next = record { state = state; read = read; write = write; shift = shift; next = next }
 
--- its three quintuples
+-- the example machine: three quintuples
 abbrev pub inverts : Program
 inverts = program_of (turns 0 1 2 Right 0 ∷ turns 0 2 1 Right 0 ∷ turns 0 0 0 Left 1 ∷ []) 2 3
 
--- its seven quintuples in standard form
+-- the seven quintuples of the example in standard form
 abbrev pub InvertsExample : Type 0
 InvertsExample =
     standardised inverts ≡ program_of
@@ -118,29 +118,30 @@ InvertsExample =
 -- ---- the laws
 
 pub record Laws : Type 0 where
-  -- Of N quintuples and z symbols come N + z + 1 quintuples.
+  -- N quintuples and z symbols give N + z + 1 quintuples.
   pub counts_rules : CountsRules
-  -- Numbers by first appearance tell the states apart.
+  -- Numbers by first appearance distinguish the states.
   pub numbers_tell_apart : NumbersTellApart
-  -- The list is a machine, where it isn't too long.
+  -- If the list is not too long, it is a machine.
   pub is_machine_again : IsMachineAgain
-  -- The machine that is made is in standard form.
+  -- If the machine passes the first two tests, the new machine is in standard form.
   pub is_in_standard_form : IsInStandardForm
-  -- The text of the list is read as the table of the machine that is made, which is in standard form.
+  -- The text of the list is read as the table of the new machine, which is in standard form.
   pub texts_are_read : TextsAreRead
-  -- One refusal beside want of memory fits a machine, and none but that fits one that is accepted.
+  -- At most one refusal other than `NoMemory` fits a machine, and none other fits an accepted machine.
   pub refusals_are_one : RefusalsAreOne
-  -- A tape has one longest word without blanks that ends at its head, and only one.
+  -- A tape has exactly one longest word without blanks that ends at its head.
   pub tail_is_one : HasOneTail
-  -- Where the loose run halts, the machine that is made halts d + 2 steps later, d cells further left.
+  -- If the loose run halts with d letters that end at its head, the new machine halts d + 2 steps later, with the
+  -- head d cells further left.
   pub halts_behind : HaltsBehind
-  -- Where the loose run is stuck, the machine that is made is stuck one step later.
+  -- If the loose run is stuck, the new machine is stuck one step later, with the same tape.
   pub sticks_alike : SticksAlike
-  -- The machine that is made halts on a word exactly where the loose run halts.
+  -- The new machine halts on a word exactly if the loose run halts.
   pub halts_together : HaltsTogether
-  -- Where the list isn't too long, it is a machine as tables have it: its states are numbered by first appearance.
+  -- If the list is not too long, the new machine fits a table: its states are numbered by first appearance.
   pub fits_table_again : FitsTableAgain
-  -- The machine that is made is stuck only one step after the loose run is.
+  -- The new machine is stuck only one step after the loose run is.
   pub sticks_together : SticksTogether
-  -- The seven rules of a machine that turns each letter of a word.
+  -- The seven quintuples in standard form of a machine that inverts each bit of a word.
   pub inverts_example : InvertsExample

@@ -2,7 +2,7 @@
 use Rattle.std.specs.Prelude.{ℕ, ◌*◌}
 use Rattle.bn_table.specs.declared.entry.TheConstants.{MOST_ENTRIES}
 
--- the greatest number of states, which are two a quintuple
+-- the greatest number of states: two for each quintuple
 abbrev pub most_states : ℕ
 most_states = 2 * MOST_ENTRIES
 

@@ -12,13 +12,13 @@ use Rattle.bn_standardise.specs.declared.name.Name.{Name}
 use Rattle.bn_standardise.specs.declared.name.Name.TheVariants.{First, Own, Last}
 use Rattle.bn_standardise.specs.declared.rule.Rule.{Rule}
 
--- a name is printed `I`, `O`, or `Q` and the state's number, counted from 1
+-- the printed text of a name: `I`, `O`, or `Q` followed by the state's number, counted from 1
 abbrev pub name_text : Name → List ℕ
 name_text First = 73 ∷ []
 name_text (Own s) = 81 ∷ decimal (s + 1)
 name_text Last = 79 ∷ []
 
--- the entry of a rule
+-- the entry of a quintuple (`Rule`)
 abbrev pub rule_entry : List ℕ → Rule → List (List ℕ)
 rule_entry letters r = entry_of (record {
   state = name_text r.state;
@@ -37,12 +37,12 @@ abbrev pub standard_table : Named → Named
 standard_table t =
     named_program (standardised t.machine) (map name_text (distinct_names (rules_of t.machine))) t.letters
 
--- a name whose number may be that of a state of a table
+-- the state of the name, if it is of the original machine, is below the most states of a table
 abbrev pub IsSmall : Name → Type 0
 IsSmall (Own s) = s < most_states
 IsSmall other = Unit {0}
 
--- a rule whose entry can be written with these letters
+-- the entry of the quintuple can be written with the letters of the table
 pub record IsWritable (t : Named) (r : Rule) : Type 0 where
   pub state : IsSmall r.state
   pub read : r.read < t.machine.symbols

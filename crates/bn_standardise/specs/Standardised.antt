@@ -1,4 +1,4 @@
--- The equivalent machine in standard form, and which machines have one.
+-- The equivalent machine in standard form, and the machines that have one.
 use Rattle.std.specs.Prelude.{◌≡◌, ◌≢◌, ℕ, List, map, Some, ◌⊎◌}
 use Rattle.bn_machine.specs.Machine.{Program, IsMachine, final_of}
 use Rattle.bn_lists.specs.Lists.{nth, Has}
@@ -10,17 +10,17 @@ use Rattle.bn_standardise.specs.declared.name.Name.{Name}
 use Rattle.bn_standardise.specs.declared.name.Name.TheVariants.{First, Own, Last}
 use Rattle.bn_standardise.specs.declared.rule.Rule.{Rule}
 
--- a rule with numbers for its names
+-- a quintuple with numbers for its names
 abbrev pub numbered : (Name → ℕ) → Rule → Quint
 numbered number r =
     record { state = number r.state; read = r.read; write = r.write; shift = r.shift; next = number r.next }
 
--- the rules of a machine under any numbering of names
+-- the list of a machine under any numbering of names
 abbrev pub standardised_by : (Name → ℕ) → Program → Program
 standardised_by number p =
     record { quints = map (numbered number) (rules_of p); states = states_of (rules_of p); symbols = p.symbols }
 
--- the numbering by first appearance in the rules
+-- the numbering by first appearance in the list
 abbrev pub numbering_of : Program → Name → ℕ
 numbering_of p = number_of (rules_of p)
 
@@ -28,13 +28,13 @@ numbering_of p = number_of (rules_of p)
 abbrev pub standardised : Program → Program
 standardised p = standardised_by (numbering_of p) p
 
--- the state stands in a quintuple
+-- the state occurs in a quintuple
 pub record Occurs (qs : List Quint) (s : ℕ) : Type 0 where
   pub quint : Quint
   pub stands : Has qs quint
   pub names : (quint.state ≡ s) ⊎ (quint.next ≡ s)
 
--- the numbering tells apart the names that the rules have
+-- the numbering gives different numbers to different names of the list
 pub record TellsApart (number : Name → ℕ) (p : Program) : Type 0 where
   pub ends : number First ≢ number Last
   pub first : (s : ℕ) → Occurs p.quints s → number (Own s) ≢ number First
@@ -51,8 +51,8 @@ pub record LeavesHalting (qs : List Quint) (i : ℕ) : Type 0 where
 pub record HasNoHalting (qs : List Quint) : Type 0 where
   pub none : (i : ℕ) → LeavesHalting qs i → ⊥
 
--- A machine that has an equivalent one in standard form: no two quintuples share state and scanned symbol, and none
--- leaves the halting state.
+-- The machine has an equivalent one in standard form: no two quintuples share state and scanned symbol, and none leaves
+-- the halting state.
 pub record IsLoose (p : Program) : Type 0 where
   pub machine : IsMachine p
   pub unambiguous : IsUnambiguous p.quints

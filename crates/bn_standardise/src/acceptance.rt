@@ -1,4 +1,4 @@
-//! The tests of a machine that is to be brought into standard form.
+//! The tests of a machine that is to be converted to standard form.
 
 ghost use Rattle.std.specs.Prelude.{◌≡◌, ◌↔◌, ◌<◌, ◌≤◌, ◌^◌, IsTrue, MatchOption, IfErr, OnOk, length};
 ghost use Rattle.bn_machine.specs.Machine.{final_of};
@@ -13,8 +13,8 @@ use bn_machine::{Machine, Quint, Why, check};
 use bn_table::MOST_ENTRIES;
 use std::alloc::Global;
 
-// Whether no two quintuples share state and scanned symbol: this is the first demand of standard form, so the test of
-// standard form tells where it isn't met. What the other demands come to says nothing here.
+// Tests that no two quintuples share state and scanned symbol. This is the first condition of standard form; therefore
+// `check` reports exactly if it fails. The other refusals of `check` do not matter here.
 fn test_repeats(alloc: Global, machine: &Machine) -> Result<(), LooseRefusal>
     ensures ok { OnOk result (IsUnambiguous machine.now.quints) }
     ensures refused { IfErr result (IsRepeatRefusal machine.now.quints) }
@@ -33,7 +33,7 @@ fn leaves(quint: &Quint, state: u32) -> bool
     quint.state == state
 }
 
-// The least quintuple that leaves the halting state.
+// The first quintuple that leaves the halting state, counted from 1.
 fn first_halting(quints: &[Quint], halt: u32) -> Option<u32>
     requires few { length quints.now < 2 ^ 32 }
     requires state { halt ≡ final_of quints.now }
@@ -47,7 +47,7 @@ fn first_halting(quints: &[Quint], halt: u32) -> Option<u32>
     None
 }
 
-/// Tests the machine: `Repeat` comes before `Halting`, and `Halting` before `Many`.
+/// Tests the machine, in this order: the error is `Repeat`, otherwise `Halting`, otherwise `Many`.
 pub(crate) fn accept(alloc: Global, machine: &Machine) -> Result<(), LooseRefusal>
     requires few { length machine.now.quints ≤ MOST_ENTRIES }
     requires letters { machine.now.symbols ≤ most_symbols }

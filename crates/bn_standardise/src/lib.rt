@@ -1,5 +1,6 @@
-//! Any deterministic machine in standard form: the list of quintuples that brings a machine whose run begins on the
-//! first letter of its word into Bennett's standard form, its text as a table, and what the two runs have in common.
+//! Conversion of deterministic machines to standard form: the list of quintuples that converts a machine whose run
+//! begins on the first letter of its word to standard form (after Bennett), its text as a table, and laws on the two
+//! runs.
 #![tactic(auto)]
 
 mod acceptance;

@@ -18,7 +18,7 @@ fn add_own(list: &mut Vec<Rule>, quints: &[Quint]) -> Result<(), NoMemory>
     Ok(())
 }
 
-// Adds the steps back over every symbol but the blank.
+// Adds the quintuples that step back over a symbol, one for each symbol but the blank.
 fn add_back(list: &mut Vec<Rule>, halt: u32, symbols: u32) -> Result<(), NoMemory>
     requires { 0 < symbols }
     ensures { OnOk result (list.new.items ≡ list.old.items ++ rules.back_over_all halt 1 (symbols - 1)) }
@@ -29,7 +29,7 @@ fn add_back(list: &mut Vec<Rule>, halt: u32, symbols: u32) -> Result<(), NoMemor
     Ok(())
 }
 
-/// The list of a machine.
+/// The list of the machine in standard form that is equivalent to this machine.
 pub(crate) fn list_rules(alloc: Global, machine: &Machine) -> Result<Vec<Rule>, NoMemory>
     ensures { IfOk result (λ list. list.items ≡ rules.rules_of machine.now) }
 {

@@ -15,7 +15,7 @@ use bn_machine::{Machine, MachineRefusal};
 use bn_table::MOST_ENTRIES;
 use std::alloc::Global;
 
-// The machine in standard form, where the machine is accepted.
+// The machine in standard form for an accepted machine.
 fn build(alloc: Global, machine: &Machine) -> Result<Machine, NoMemory>
     requires accepted { IsAccepted machine.now }
     ensures { IfOk result (λ made. made ≡ standardised machine.now) }
@@ -29,12 +29,12 @@ fn build(alloc: Global, machine: &Machine) -> Result<Machine, NoMemory>
     }
 }
 
-/// The machine in standard form that is equivalent to this one, whose run begins on the first letter of its word: its
-/// quintuples are one that steps onto the word, the machine's own, one for each symbol but the blank that steps back
+/// The machine in standard form that is equivalent to this one, whose run begins on the first letter of its word. Its
+/// quintuples are one that steps onto the word, the machine's own, one for each symbol except the blank that steps back
 /// over it in the halting state, and one that ends at a blank. Its states are numbered by first appearance in this
-/// list, from 0. `Repeat` comes exactly where two quintuples share state and scanned symbol, else `Halting` exactly
-/// where a quintuple leaves the halting state, else `Many` exactly where the list would have more than 4,000
-/// quintuples.
+/// list, counted from 0. The error is `Repeat` exactly if two quintuples share state and scanned symbol; otherwise
+/// `Halting` exactly if a quintuple leaves the halting state; otherwise `Many` exactly if the list would have more
+/// than 4,000 quintuples. It is `NoMemory` if memory runs out.
 pub fn standardise(alloc: Global, machine: &Machine) -> Result<Machine, LooseRefusal>
     requires few { length machine.now.quints ≤ MOST_ENTRIES }
     requires letters { machine.now.symbols ≤ most_symbols }

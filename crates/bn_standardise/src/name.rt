@@ -10,15 +10,15 @@ use std::alloc::Global;
 /// A state of the machine in standard form.
 #[derive(Clone, Copy, PartialEq, Eq, Hash, Debug)]
 pub enum Name {
-    /// The new start state, with the head on the blank before the word. Printed `I`.
+    /// The new start state, with the head on the blank before the word. Printed as `I`.
     First,
-    /// A state of the machine's own, counted from 0. State s is printed `Q` and s + 1.
+    /// A state of the original machine, counted from 0. State s is printed as `Q` followed by s + 1.
     Own(u32),
-    /// The new final state. Printed `O`.
+    /// The new final state. Printed as `O`.
     Last,
 }
 
-// The text of a name that has a number.
+// The text of the name of a state of the original machine.
 fn own_text(alloc: Global, state: u32) -> Result<Vec<u8>, NoMemory>
     ensures { IfOk result (λ text. text.items ≡ name_text (Name.Own state)) }
 {

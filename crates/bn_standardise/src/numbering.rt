@@ -1,4 +1,4 @@
-//! Numbers in place of names, by first appearance.
+//! Numbers for the states in place of names, by first appearance.
 
 ghost use Rattle.std.specs.Prelude.{◌≡◌, ◌<◌, ◌-◌, ◌^◌, Some, OnOk, IfOk, length, map, slice_get};
 ghost use Rattle.bn_standardise.specs.Numbering as numbers;
@@ -11,14 +11,14 @@ use bn_machine::Quint;
 use indexmap::IndexSet;
 use std::alloc::Global;
 
-/// Quintuples with numbers for their states, and how many states there are.
+/// Quintuples with numbers for their states, and the number of states.
 #[derive(Drop)]
 pub struct Numbered {
     pub quints: Vec<Quint>,
     pub states: u32,
 }
 
-// The number of a name, which is added at the end where it is new.
+// The number of a name. A new name is added at the end.
 fn number_of(names: &mut IndexSet<Name>, name: Name) -> Result<u32, NoMemory>
     requires { length names.old.keys < 2 ^ 32 - 1 }
     ensures names { OnOk result (names.new.keys ≡ numbers.with_name names.old.keys name) }
@@ -28,7 +28,7 @@ fn number_of(names: &mut IndexSet<Name>, name: Name) -> Result<u32, NoMemory>
     Ok(number as u32)
 }
 
-/// The quintuples of rules.
+/// The quintuples of a list of quintuples with names (`Rule`).
 pub(crate) fn number_rules(alloc: Global, rules: &[Rule]) -> Result<Numbered, NoMemory>
     requires few { length rules.now < 2 ^ 30 }
     ensures quints { IfOk result (λ made. made.quints.items ≡ map (numbered (numbers.number_of rules.now)) rules.now) }

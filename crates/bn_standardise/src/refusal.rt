@@ -1,19 +1,19 @@
-//! Why a machine isn't brought into standard form.
+//! Why a machine is not converted to standard form.
 
 use bn_csv::NoMemory;
 
-/// Why a machine isn't brought into standard form: the first of three tests, in this order, that it doesn't pass.
-/// Quintuples are counted from 1.
+/// Why a machine is not converted to standard form: the first of three tests, in this order, that fails. Quintuples are
+/// counted from 1.
 #[derive(Clone, Copy, PartialEq, Eq, Debug)]
 pub enum LooseRefusal {
     /// Quintuples `i` and `j` share state and scanned symbol: the least `i` that shares with a later one, and the
     /// least such `j`.
     Repeat { i: u32, j: u32 },
-    /// Quintuple `i` is the first that leaves the halting state, which is the last quintuple's next.
+    /// Quintuple `i` is the first that leaves the halting state, which is the next state of the last quintuple.
     Halting { i: u32 },
-    /// The machine in standard form would have `count` quintuples, which are more than a table may have.
+    /// The machine in standard form would have `count` quintuples, more than a table may have.
     Many { count: u32 },
-    /// There was no memory.
+    /// Memory ran out.
     NoMemory,
 }
 

@@ -1,4 +1,4 @@
-//! The quintuples of the machine in standard form, over the names of its states. Each kind is a function.
+//! The quintuples of the machine in standard form, with names for its states. There is one function for each kind.
 
 ghost use Rattle.std.specs.Prelude.{◌≡◌};
 ghost use Rattle.bn_standardise.specs.Rules as rules;
@@ -6,7 +6,7 @@ ghost use Rattle.bn_standardise.specs.Rules as rules;
 use crate::name::Name;
 use bn_machine::{Quint, Shift};
 
-/// A quintuple over names.
+/// A quintuple with names for its states.
 #[derive(Clone, Copy)]
 pub struct Rule {
     pub state: Name,
@@ -29,7 +29,7 @@ pub(crate) fn entering(start: u32) -> Rule
     }
 }
 
-/// A quintuple of the machine's own.
+/// A quintuple of the original machine, with names for its states.
 pub(crate) fn renamed(quint: &Quint) -> Rule
     ensures { result ≡ rules.own_rule quint.now }
 {

@@ -17,7 +17,7 @@ use bn_csv::{EntryWriter, NoMemory};
 use bn_table::{Table, write_row};
 use std::alloc::Global;
 
-// Writes the entry of a rule.
+// Writes the entry of a quintuple (`Rule`).
 fn write_rule(
     alloc: Global,
     writer: &mut EntryWriter,
@@ -40,7 +40,7 @@ fn write_rule(
     )
 }
 
-// Writes the entries of rules.
+// Writes the entries of quintuples (`Rule`).
 fn write_rules(alloc: Global, table: &Table, rules: &[Rule]) -> Result<Vec<u8>, NoMemory>
     requires table { IsTable table.now }
     requires writable { All (IsWritable table.now) rules.now }
@@ -54,9 +54,9 @@ fn write_rules(alloc: Global, table: &Table, rules: &[Rule]) -> Result<Vec<u8>, 
 }
 
 /// The text of the machine in standard form that is equivalent to the table's machine: a line for each quintuple, in
-/// the order of `standardise`, with the table's letters. State i, counted from 1, is printed `Qi`, the new start state
-/// `I` and the new final state `O`. Reading the text gives the table of these names and letters, whose machine is that
-/// of `standardise`. It refuses as `standardise` does.
+/// the order of `standardise`, with the table's letters. State i, counted from 1, is printed as `Qi`, the new start
+/// state as `I` and the new final state as `O`. Reading the text gives the table of these names and letters, whose
+/// machine is that of `standardise`. The errors are those of `standardise`.
 pub fn standard_text(alloc: Global, table: &Table) -> Result<Vec<u8>, LooseRefusal>
     ensures text { IfOk result (λ text. text.items ≡ standard_lines table.now) }
     ensures read_back { IfOk result (λ text. Reads text.items (standard_table table.now)) }

@@ -1,4 +1,4 @@
--- What a table that is being read has come to.
+-- A table that is being read.
 use Rattle.std.specs.Prelude.{ℕ, List}
 use Rattle.bn_table.specs.Rows.{SpellsQuintuples, rows_by}
 use Rattle.bn_table.specs.declared.draft.Draft.{Draft}

@@ -1,4 +1,4 @@
--- What a table's machine is.
+-- The laws of this crate, each a field of `Laws`.
 use Rattle.bn_machine.specs.Machine.{IsMachine}
 use Rattle.bn_table.specs.Rows.{FitsTable, IsTable, Named}
 use Rattle.bn_table.specs.Reading.{OneReading, ReadingOrFault}
@@ -14,9 +14,9 @@ TablesAreMachines = (t : Named) → IsTable t → IsMachine t.machine × FitsTab
 pub record Laws : Type 0 where
   -- The most entries are 4,000.
   pub most_entries_are_stated : MOST_ENTRIES ≡ 4000
-  -- Bytes are read as one table at most.
+  -- Bytes are read as at most one table.
   pub bytes_have_one_reading : OneReading
-  -- Bytes have a reading exactly where their entries have no fault.
+  -- Bytes have a reading exactly if their entries have no fault.
   pub bytes_have_a_reading_or_a_fault : ReadingOrFault
   -- A table's machine is a machine, within the limits of tables.
   pub tables_are_machines : TablesAreMachines

@@ -44,9 +44,9 @@ letters_in entries = flat_map (λ e. slice_index_or e 1 [] ++ slice_index_or e 2
 abbrev pub blank : ℕ
 blank = 95
 
--- these quintuples have these entries, where the states' names and the letters are numbered by their first
--- appearance in the entries, the blank's letter before all others; each number in a quintuple is one of these, and
--- names and letters have their forms
+-- these quintuples have these entries; the names of the states and the letters are numbered by their first appearance
+-- in the entries, with the blank's letter before all others; each number in a quintuple is one of these; and names
+-- and letters have their forms
 pub record SpellsQuintuples
     (names : List (List ℕ)) (letters : List ℕ) (quints : List Quint) (entries : List (List (List ℕ))) : Type 0 where
   pub rows : rows_by names letters quints ≡ entries
@@ -56,8 +56,8 @@ pub record SpellsQuintuples
   pub names_form : list_all is_state_name names ≡ true
   pub letters_form : list_all is_symbol_byte letters ≡ true
 
--- a table has these entries, of which there is one at least, and as many at most as a table may have; its machine
--- has as many states as there are names, and as many symbols as there are letters
+-- the table has these entries, at least one and at most `MOST_ENTRIES`; its machine has as many states as there are
+-- names, and as many symbols as there are letters
 pub record IsTableOf (entries : List (List (List ℕ))) (t : Named) : Type 0 where
   pub spelled : SpellsQuintuples t.names t.letters t.machine.quints entries
   pub some : 0 < length entries
@@ -65,7 +65,7 @@ pub record IsTableOf (entries : List (List (List ℕ))) (t : Named) : Type 0 whe
   pub states : t.machine.states ≡ length t.names
   pub symbols : t.machine.symbols ≡ length t.letters
 
--- a table: it has the entries of its quintuples
+-- the table is that of the entries of its own quintuples
 abbrev pub IsTable : Named → Type 0
 IsTable t = IsTableOf (rows_of t) t
 
@@ -73,12 +73,12 @@ IsTable t = IsTableOf (rows_of t) t
 abbrev pub states_in : List Quint → List ℕ
 states_in quints = flat_map (λ q. q.state ∷ q.next ∷ []) quints
 
--- these letters and, where it is new, one more at the end
+-- these letters and, if the letter is new, this letter at the end
 abbrev pub with_letter : List ℕ → ℕ → List ℕ
 with_letter letters letter = if list_any (nat_eq letter) letters then letters else letters ++ letter ∷ []
 
--- A machine as a table has it: its states are numbered by first appearance and each of them appears, and it has
--- no more quintuples than a table may have, at most 8,000 states and at most 91 symbols.
+-- The machine fits a table: its states are numbered by first appearance and each of them appears, and it has at most
+-- 4,000 quintuples, 8,000 states and 91 symbols.
 pub record FitsTable (p : Program) : Type 0 where
   pub numbered : AreNumberedByFirst (states_in p.quints) p.states
   pub quints : length p.quints ≤ MOST_ENTRIES

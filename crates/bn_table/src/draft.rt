@@ -23,7 +23,7 @@ pub struct Draft {
     quints: Vec<Quint>,
 }
 
-// The symbol of a letter, which is added at the end where it is new.
+// The symbol of a letter. A new letter is added at the end.
 fn number_letter(letters: &mut Vec<u8>, letter: u8) -> Result<u32, NoMemory>
     requires { length letters.old.items < 2 ^ 32 - 1 }
     ensures letters { OnOk result (letters.new.items ≡ with_letter letters.old.items letter) }
@@ -37,7 +37,7 @@ fn number_letter(letters: &mut Vec<u8>, letter: u8) -> Result<u32, NoMemory>
     Ok(symbol)
 }
 
-/// A draft of no entries: it has the blank's letter alone.
+/// A draft without entries: it has only the letter of the blank.
 pub fn new_draft(alloc: Global) -> Result<Draft, NoMemory>
     ensures { IfOk result (λ d. IsDraft d × (drafted d ≡ [])) }
 {
@@ -106,7 +106,7 @@ impl TableDraft for Draft {
     }
 }
 
-/// The table of a draft, which has an entry; else `Empty`.
+/// The table of a draft. The error is `Empty` if the draft has no entry.
 pub fn into_table(draft: Draft) -> Result<Table, TableRefusal>
     requires draft { IsDraft draft }
     requires few { length (drafted draft) ≤ MOST_ENTRIES }

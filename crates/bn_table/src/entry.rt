@@ -14,7 +14,7 @@ use bn_machine::{Shift, shift_of};
 /// The most entries of a table.
 pub const MOST_ENTRIES: u32 = 4000;
 
-/// What an entry says.
+/// The content of an entry.
 #[derive(Clone, Copy)]
 pub struct Fields<'a> {
     pub state: &'a [u8],
@@ -24,7 +24,7 @@ pub struct Fields<'a> {
     pub next: &'a [u8],
 }
 
-// The letter that a field is.
+// The letter of a field, or `None` if the field is not a letter.
 fn letter(field: &[u8]) -> Option<u8>
     ensures { MatchOption result (letter_form field.now ≡ false) (λ b. (letter_form field.now ≡ true)
         × (field.now ≡ b ∷ [])) }
@@ -36,7 +36,7 @@ fn letter(field: &[u8]) -> Option<u8>
     }
 }
 
-// What five fields say, or their first fault.
+// The content of five fields, or their first fault.
 fn five_fields<'a>(
     entry: u32,
     state: &'a [u8],
@@ -73,7 +73,7 @@ fn five_fields<'a>(
     })
 }
 
-/// What an entry says, or the first fault of its fields. The number is the entry's own, counted from 1.
+/// The content of an entry, or the first fault of its fields. `number` is the entry's number, counted from 1.
 pub fn read_fields<'a>(entry: &'a Entry, number: u32) -> Result<Fields<'a>, TableRefusal>
     ensures says { IfOk result (λ f. entry_of (said f) ≡ entry.now) }
     ensures forms { IfOk result (λ f. HasForms (said f)) }

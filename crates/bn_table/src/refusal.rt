@@ -2,19 +2,19 @@
 
 use bn_csv::NoMemory;
 
-/// Why some bytes are no table of quintuples. Entries and fields are counted from 1; the first faulty entry is
-/// named, with its first fault in this order: too many entries, the count of fields, the fields from 1 to 5.
+/// Why some bytes are not a table of quintuples. Entries and fields are counted from 1. The refusal names the first
+/// faulty entry, with its first fault in this order: too many entries, the count of fields, the fields from 1 to 5.
 #[derive(Clone, Copy, PartialEq, Eq, Debug)]
 pub enum TableRefusal {
-    /// The entry has not five fields.
+    /// The entry does not have five fields.
     FieldCount { entry: u32 },
-    /// The field, 1 or 5, is no state's name.
+    /// The field, 1 or 5, is not a state's name.
     Name { entry: u32, field: u32 },
-    /// The field, 2 or 3, is no letter.
+    /// The field, 2 or 3, is not a letter.
     Symbol { entry: u32, field: u32 },
     /// Field 4 is none of `-`, `0` and `+`.
     Shift { entry: u32 },
-    /// The entry comes after `MOST_ENTRIES` others.
+    /// The entry is preceded by `MOST_ENTRIES` others.
     TooMany { entry: u32 },
     /// There is no entry.
     Empty,

@@ -13,7 +13,7 @@ fn position_of(letters: &[u8], letter: u8) -> Option<usize>
     letters.iter().position(|known| letter == *known)
 }
 
-/// The first place of a letter among others, counted from 0. `None` comes exactly where it isn't among them.
+/// The first place of a letter among others, counted from 0, or `None` exactly if the letter is not among them.
 pub fn place_of(letters: &[u8], letter: u8) -> Option<u32>
     requires few { length letters.now < 2 ^ 32 }
     ensures place { result ≡ position (λ known. letter == known) letters.now }
@@ -26,10 +26,10 @@ pub fn place_of(letters: &[u8], letter: u8) -> Option<u32>
     }
 }
 
-/// A table of quintuples: a machine, a name for each state, and a letter, one byte, for each symbol. Its states
-/// are numbered by first appearance, in each quintuple first its state and then its next one; so are its symbols,
-/// first the one read and then the one written, with `_` as symbol 0 before all. It has 1 to
-/// `MOST_ENTRIES` quintuples.
+/// A table of quintuples: a machine, a name for each state, and a letter, one byte, for each symbol. Its states are
+/// numbered by first appearance, in each quintuple its state before its next state. Its symbols are numbered by first
+/// appearance, in each quintuple the one read before the one written, with `_` as symbol 0. It has 1 to `MOST_ENTRIES`
+/// quintuples.
 #[derive(Drop)]
 pub struct Table {
     pub(crate) machine: Machine,
@@ -83,8 +83,8 @@ impl Table {
         self.letters[symbol as usize]
     }
 
-    /// The symbol of a letter, counted from 0. `None` comes exactly where the table has no such letter. Its contract
-    /// also tells what every table keeps.
+    /// The symbol of a letter, counted from 0, or `None` exactly if the table has no such letter. The contract also
+    /// states the invariant of every table.
     pub fn symbol_of(&self, letter: u8) -> Option<u32>
         ensures found { IfSome result (λ symbol. slice_get self.now.letters symbol ≡ Some letter) }
         ensures none { IfNone result (¬ Contains self.now.letters letter) }

@@ -17,9 +17,9 @@ use bn_csv::{EntryWriter, NoMemory, read_entries};
 use bn_machine::{Quint, Shift, text_of_shift};
 use std::alloc::Global;
 
-/// Reads the bytes of a table: csv records without a header, each with a state's name, the letter read, the
-/// letter written, `-`, `0` or `+`, and the next state's name. It answers the bytes' one reading, where they have
-/// one; each refusal but `NoMemory` comes exactly where it is the entries' first fault.
+/// Reads the bytes of a table: csv records without a header, each with a state's name, the letter read, the letter
+/// written, `-`, `0` or `+`, and the next state's name. Returns the only reading of the bytes. Each refusal but
+/// `NoMemory` is the first fault of the entries.
 pub fn read_quints(alloc: Global, bytes: &[u8]) -> Result<Table, TableRefusal>
     ensures ok { IfOk result (Reads bytes.now) }
     ensures refused { IfErr result (λ e. e ≢ refusal.NoMemory → table_fault (entries_of bytes.now) ≡ Some e) }
@@ -45,8 +45,8 @@ fn write_fields<'a>(
     writer.write_entry(&[state, read, write, shift, next])
 }
 
-/// Writes the entry of a quintuple, by the names of its states and the letters of its symbols, each in the form that
-/// tables want. After `NoMemory` the writer's text is empty.
+/// Writes the entry of a quintuple, with the names of its states and the letters of its symbols, each in the form that
+/// tables require. After `NoMemory` the writer's text is empty.
 pub fn write_row(
     writer: &mut EntryWriter,
     state: &[u8],
