@@ -7,7 +7,8 @@ ghost use Rattle.bn_bennett.specs.Draft.{IsDraft, drafted, Grows};
 
 use crate::rule::{Deed, NamedQuad};
 use bn_bennett_laws::Name;
-use bn_quad::{Act, NoMemory, Quad};
+use bn_lists::NoMemory;
+use bn_quad::{Act, Quad};
 use indexmap::IndexSet;
 use std::alloc::Global;
 

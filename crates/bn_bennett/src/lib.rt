@@ -8,7 +8,6 @@ mod naming;
 mod rule;
 mod translated;
 
-pub use bn_quad::NoMemory;
 pub use laws::bennett_translation_laws;
 pub use naming::{add_history_symbols, add_letters, name_text, names};
 pub use translated::{MachineState, Stage, Translated, translate};

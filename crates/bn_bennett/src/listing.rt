@@ -9,8 +9,8 @@ use crate::rule::{
     begins_copy, copies_letter, ends_copy, goes_left, goes_right, passes_letter, shifts_ahead,
     shifts_back, turns_left, writes_ahead, writes_back,
 };
+use bn_lists::NoMemory;
 use bn_machine::{Machine, Quint};
-use bn_quad::NoMemory;
 
 // Compute: two quadruples for each quintuple, in order.
 fn add_compute(draft: &mut Draft, quints: &[Quint]) -> Result<(), NoMemory>

@@ -15,7 +15,8 @@ ghost use Rattle.bn_bennett.specs.InPart.{AreNamedInPart};
 use crate::translated::Translated;
 use bn_base::push_u64;
 use bn_bennett_laws::Name;
-use bn_quad::{NoMemory, QuadNames};
+use bn_lists::NoMemory;
+use bn_quad::QuadNames;
 use bn_table::Table;
 use std::alloc::Global;
 

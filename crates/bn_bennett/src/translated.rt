@@ -10,8 +10,9 @@ ghost use Rattle.bn_bennett.specs.Draft.{AreDrafted, IsDraft, drafted, renamed_b
 use crate::draft::{Draft, new_draft};
 use crate::listing::add_list;
 use bn_bennett_laws::Name;
+use bn_lists::NoMemory;
 use bn_machine::{Machine, Standard};
-use bn_quad::{NoMemory, Quad, QuadMachine, Uniform};
+use bn_quad::{Quad, QuadMachine, Uniform};
 use bn_table::MOST_ENTRIES;
 use std::alloc::Global;
 use std::marker::Model;

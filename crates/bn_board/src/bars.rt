@@ -10,8 +10,9 @@ ghost use Rattle.bn_network_assembly.specs.Modules.{module_table};
 ghost use Rattle.bn_board.specs.BoardWires.{module_circuit};
 
 use crate::wiring::size_of;
-use bn_circuits::{MOST_ELEMENTS, Net, NoMemory};
+use bn_circuits::{MOST_ELEMENTS, Net};
 use bn_element::{Element, HORIZONTAL, VERTICAL};
+use bn_lists::NoMemory;
 use bn_network_assembly::Module;
 use std::alloc::Global;
 

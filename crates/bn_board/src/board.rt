@@ -13,8 +13,9 @@ ghost use Rattle.bn_boards.specs.Costs.{bound_of};
 ghost use Rattle.bn_board.specs.Flattened.{IsBoardKept, IsSameBoard};
 
 use crate::layout::Layout;
-use bn_circuits::{Line, NoMemory, Place, Watch};
+use bn_circuits::{Line, Place, Watch};
 use bn_leap::{Passing, run_leaping, run_leaping_until};
+use bn_lists::NoMemory;
 use bn_packed::{Direction, Packed};
 use std::alloc::Global;
 use std::marker::Model;

@@ -10,7 +10,8 @@ ghost use Rattle.bn_boards.specs.Layouts.{marked_column, cell_state_at, symbol_c
 
 use crate::board::Board;
 use bn_boards::{Cells, Spelled, SpelledTape};
-use bn_circuits::{MOST_ELEMENTS, NoMemory};
+use bn_circuits::MOST_ELEMENTS;
+use bn_lists::NoMemory;
 use std::alloc::Global;
 
 impl Board {

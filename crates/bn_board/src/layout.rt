@@ -11,7 +11,8 @@ ghost use Rattle.bn_board.specs.Flattened.{IsLayoutKept, IsFirstWithin};
 ghost use Rattle.bn_control.specs.Controlled.{IsTapeAwaited};
 
 use bn_base::MOST_COUNT;
-use bn_circuits::{MOST_ELEMENTS, NoMemory};
+use bn_circuits::MOST_ELEMENTS;
+use bn_lists::NoMemory;
 use bn_network::MOST_SYMBOLS;
 use bn_network_assembly::Windows;
 use std::alloc::Global;

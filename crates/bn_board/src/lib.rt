@@ -19,7 +19,6 @@ mod numbers;
 mod wiring;
 
 pub use bn_boards::{Cells, Exit, Spelled, SpelledTape};
-pub use bn_circuits::NoMemory;
 pub use board::Board;
 pub use located::Located;
 pub use make::flatten;

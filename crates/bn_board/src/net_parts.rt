@@ -4,8 +4,9 @@ ghost use Rattle.std.specs.Prelude.{◌≡◌, IfOk};
 ghost use Rattle.bn_board.specs.Flattened.{IsBoardKept};
 
 use crate::board::Board;
-use bn_circuits::{Config, Line, Net, NoMemory};
+use bn_circuits::{Config, Line, Net};
 use bn_element::Rotary;
+use bn_lists::NoMemory;
 use std::alloc::Global;
 
 /// An unpacked copy of a circuit (own to this project): its net with the circuit's wires and no others, its

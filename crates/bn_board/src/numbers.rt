@@ -6,9 +6,9 @@ ghost use Rattle.bn_network_assembly.specs.Assembled.{IsKept};
 ghost use Rattle.bn_board.specs.Starts.{IsLayoutOf};
 
 use crate::layout::Layout;
-use bn_circuits::NoMemory;
 use bn_control::Control;
 use bn_element::Element;
+use bn_lists::NoMemory;
 use bn_network_assembly::{Assembly, Module};
 use std::alloc::Global;
 

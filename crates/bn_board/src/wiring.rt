@@ -7,8 +7,9 @@ ghost use Rattle.bn_boards.specs.Boards.{AreModules, IsBoardWire, size, size_of}
 ghost use Rattle.bn_network_assembly.specs.Modules.{module_table};
 ghost use Rattle.bn_board.specs.BoardWires.{AreBases, IsDrawn, IsOwnWire, IsBetween, IsWireBefore, module_circuit};
 
-use bn_circuits::{Line, MOST_ELEMENTS, Net, NoMemory, Wire};
+use bn_circuits::{Line, MOST_ELEMENTS, Net, Wire};
 use bn_element::{EAST, Element, WEST};
+use bn_lists::NoMemory;
 use bn_network_assembly::Module;
 use bn_packed::Draft;
 use bn_realise::bank_wires;

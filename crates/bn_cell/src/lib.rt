@@ -7,7 +7,6 @@ mod numbers;
 mod table;
 
 pub use bn_network::{CellLine, MOST_SYMBOLS};
-pub use bn_rsm::NoMemory;
 pub use laws::cell_laws;
 pub use make::cell;
 pub use numbers::{line_number, line_of, state_number};

@@ -6,7 +6,8 @@ ghost use Rattle.bn_cell.specs.Rows.{row, rows};
 
 use crate::table::CellTable;
 use bn_element::Element;
-use bn_rsm::{NoMemory, Rsm, RsmMove};
+use bn_lists::NoMemory;
+use bn_rsm::{Rsm, RsmMove};
 use std::alloc::{AllocError, Global};
 
 /// The tape cell for this number of symbols as a machine given by its moves, listed state by state and, for each

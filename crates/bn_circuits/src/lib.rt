@@ -13,7 +13,6 @@ mod rotary;
 mod row_map;
 mod watch;
 
-pub use bn_lists::NoMemory;
 pub use config::{CLOCK, Config, States};
 pub use laws::circuits_laws;
 pub use line::{Line, Wire};

@@ -9,7 +9,6 @@ mod standing;
 mod wires;
 
 pub use bn_circuits::rotary_net;
-pub use bn_lists::NoMemory;
 pub use cross::{cost, cross_in};
 pub use laws::column_laws;
 pub use make::column;

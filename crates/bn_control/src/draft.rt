@@ -8,7 +8,8 @@ use crate::named::NamedMove;
 use crate::numbered::{in_numbers, rsm_moves};
 use crate::order::in_order;
 use crate::states::number_of;
-use bn_rsm::{NoMemory, Rsm};
+use bn_lists::NoMemory;
+use bn_rsm::Rsm;
 use std::alloc::{AllocError, Global};
 
 /// The data from which a control is built: the number of symbols of each tape of a machine of quadruples, the first

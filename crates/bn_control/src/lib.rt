@@ -18,7 +18,6 @@ mod shown;
 mod states;
 
 pub use bn_network::MOST_SYMBOLS;
-pub use bn_rsm::NoMemory;
 pub use count::state_count;
 pub use finite::Control;
 pub use make::{MOST_QUADRUPLES, MOST_STATES, control, most_quadruples_are_stated};

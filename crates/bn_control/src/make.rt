@@ -11,8 +11,8 @@ use crate::entries::entries_of;
 use crate::finite::Control;
 use crate::named::named_moves;
 use crate::states::states_of;
+use bn_lists::NoMemory;
 use bn_quad::{QuadMachine, Uniform};
-use bn_rsm::NoMemory;
 use std::alloc::{AllocError, Global};
 
 /// The most quadruples that a machine with a control may have.

@@ -9,7 +9,6 @@ mod laws;
 mod names;
 mod writer;
 
-pub use bn_lists::NoMemory;
 pub use drafts::{TableDraft, read_entries};
 pub use entries::{Entries, Entry};
 pub use forms::{is_letter, is_state_name, is_symbol};

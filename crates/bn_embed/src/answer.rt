@@ -7,7 +7,8 @@ ghost use Rattle.bn_embed.specs.Words.{words_of};
 
 use crate::split::split_words;
 use bn_circuits::Quiet;
-use bn_top::{NoMemory, Reply, Status, reply_in_memory};
+use bn_lists::NoMemory;
+use bn_top::{Reply, Status, reply_in_memory};
 use std::alloc::Global;
 
 /// Answers arguments, which bytes 0 separate, and an input: writes the answer's text to the front of `output`, and

@@ -5,7 +5,7 @@ ghost use Rattle.std.specs.List.{slice_split};
 ghost use Rattle.std.specs.String.{string_bytes};
 ghost use Rattle.bn_embed.specs.Words.{words_of};
 
-use bn_top::NoMemory;
+use bn_lists::NoMemory;
 use std::alloc::Global;
 
 // The arguments of a run of bytes.

@@ -12,6 +12,5 @@ mod pair;
 mod rows;
 mod search;
 
-pub use bn_lists::NoMemory;
 pub use comparison::{Comparison, Difference, compare};
 pub use laws::equal_laws;

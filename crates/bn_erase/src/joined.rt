@@ -8,8 +8,8 @@ ghost use Rattle.bn_table.specs.Rows.{IsTable};
 ghost use Rattle.bn_erase.specs.Joint.{joined, joint_letters, number_in};
 ghost use Rattle.bn_erase.specs.Recoded.{recoded, recoded_quint, with_symbols};
 
+use bn_lists::NoMemory;
 use bn_machine::{Machine, Quint};
-use bn_quad::NoMemory;
 use bn_table::{Table, place_of};
 use std::alloc::Global;
 use std::marker::Model;

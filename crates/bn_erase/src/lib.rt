@@ -9,7 +9,6 @@ mod naming;
 mod refusal;
 
 pub use bn_erase_laws::ErasingName;
-pub use bn_quad::NoMemory;
 pub use erasing::{Erasing, MOST_QUADRUPLES, erase};
 pub use joined::{Joined, join_letters};
 pub use laws::erase_joining_laws;

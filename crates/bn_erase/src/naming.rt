@@ -13,7 +13,8 @@ use crate::joined::Joined;
 use bn_bennett::{add_history_symbols, add_letters, name_text};
 use bn_bennett_laws::Name;
 use bn_erase_laws::ErasingName;
-use bn_quad::{NoMemory, QuadNames};
+use bn_lists::NoMemory;
+use bn_quad::QuadNames;
 use std::alloc::Global;
 
 /// The names of an erasing machine's states and symbols: each state of the first machine has `F` and its name, each

@@ -1,5 +1,5 @@
 //! The reasons why `erase` refuses two machines.
-use bn_quad::NoMemory;
+use bn_lists::NoMemory;
 
 /// The reasons why `erase` refuses two machines.
 #[derive(Clone, Copy, PartialEq, Eq, Debug)]

@@ -14,7 +14,6 @@ mod schedule_reader;
 mod take_order;
 mod write;
 
-pub use bn_lists::NoMemory;
 pub use event::Event;
 pub use farm::Farm;
 pub use farm_reader::{MOST_FARM_BYTES, read_farm};

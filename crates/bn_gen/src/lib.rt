@@ -6,7 +6,6 @@ mod machine;
 mod rounds;
 mod text;
 
-pub use bn_csv::NoMemory;
 pub use laws::gen_laws;
 pub use machine::{MOST_INCREMENTS, increments};
 pub use text::increments_text;

@@ -3,7 +3,7 @@ ghost use Rattle.std.specs.Prelude.{◌≡◌, IfOk};
 ghost use Rattle.bn_gen.specs.Increments.{incrementer, IsRoundCount};
 
 use crate::rounds::list_quints;
-use bn_csv::NoMemory;
+use bn_lists::NoMemory;
 use bn_machine::{Machine, MachineRefusal};
 use std::alloc::Global;
 

@@ -4,7 +4,7 @@ ghost use Rattle.bn_gen.specs.Increments as list;
 ghost use Rattle.bn_gen.specs.Increments.{IsRoundCount};
 
 use crate::machine::MOST_INCREMENTS;
-use bn_csv::NoMemory;
+use bn_lists::NoMemory;
 use bn_machine::{Quint, Shift};
 use std::alloc::Global;
 

@@ -10,7 +10,8 @@ ghost use Rattle.bn_gen.specs.Increments.{IsRoundCount};
 ghost use Rattle.bn_gen.specs.Text as text;
 
 use crate::machine::increments;
-use bn_csv::{EntryWriter, NoMemory};
+use bn_csv::EntryWriter;
+use bn_lists::NoMemory;
 use bn_machine::Quint;
 use bn_table::write_row;
 use std::alloc::Global;

@@ -8,8 +8,9 @@ ghost use Rattle.bn_headline.specs.Asked.{IsAsked, IsReady};
 use crate::round::{Round, run_round};
 use bn_bennett::Translated;
 use bn_circuits::{MOST_ELEMENTS, Watch};
+use bn_lists::NoMemory;
 use bn_network_assembly::{first_windows, widen};
-use bn_reply::{NoMemory, Reply};
+use bn_reply::Reply;
 use bn_table::Table;
 use std::alloc::Global;
 

@@ -30,7 +30,6 @@ mod take_line;
 mod write;
 mod write_to;
 
-pub use bn_lists::NoMemory;
 pub use bn_netlist_laws::{MOST_ELEMENTS_IN_ONE, Version};
 pub use bytes::Cursor;
 pub use column::column_at;

@@ -10,7 +10,8 @@ ghost use Rattle.bn_network_assembly.specs.Rows.{IsRow, AreModules};
 use crate::module::Module;
 use crate::windows::Windows;
 use bn_cell::CellTable;
-use bn_control::{Control, NoMemory};
+use bn_control::Control;
+use bn_lists::NoMemory;
 use bn_quad::QuadMachine;
 use std::alloc::Global;
 

@@ -1,6 +1,6 @@
 //! The reasons why a network is not assembled.
 
-use bn_control::NoMemory;
+use bn_lists::NoMemory;
 
 /// The reasons why `assemble` and `assemble_words` refuse; tested in this order.
 #[derive(Clone, Copy, PartialEq, Eq, Debug)]

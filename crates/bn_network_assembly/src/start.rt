@@ -11,7 +11,7 @@ ghost use Rattle.bn_network_assembly.specs.Starting.{start_state};
 use crate::windows::Windows;
 use crate::words::TapeSymbols;
 use bn_base::MOST_COUNT;
-use bn_control::NoMemory;
+use bn_lists::NoMemory;
 use bn_network::MOST_SYMBOLS;
 use bn_quad::QuadMachine;
 use std::alloc::Global;

@@ -9,7 +9,7 @@ ghost use Rattle.bn_network_assembly.specs.WireLists.{bundle, joint, joints, tap
 
 use crate::windows::Windows;
 use bn_circuits::{Line, Wire};
-use bn_control::NoMemory;
+use bn_lists::NoMemory;
 use bn_network::MOST_SYMBOLS;
 use bn_quad::QuadMachine;
 use std::alloc::Global;

@@ -5,8 +5,9 @@ ghost use Rattle.bn_packed.specs.Numbers.{line_of};
 ghost use Rattle.bn_packed.specs.Bars.{AreBars, HasCrossed, HasCrossedBack, crossed_back, turned, word_of};
 
 use crate::cells::{BLOCK, LINES, element_of, line_number, opposite};
-use bn_circuits::{Line, NoMemory};
+use bn_circuits::Line;
 use bn_element::VERTICAL;
+use bn_lists::NoMemory;
 use std::alloc::Global;
 use std::marker::Model;
 

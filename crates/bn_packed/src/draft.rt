@@ -6,7 +6,8 @@ ghost use Rattle.bn_circuits.specs.Wirings.{AreApart, AreFitting};
 ghost use Rattle.bn_packed.specs.Drafts.{AreDrawn};
 
 use crate::ends::Ends;
-use bn_circuits::{NoMemory, Wire};
+use bn_circuits::Wire;
+use bn_lists::NoMemory;
 use std::alloc::Global;
 use std::marker::Model;
 

@@ -5,7 +5,8 @@ ghost use Rattle.std.specs.Prelude.{replicate, None, vec_capacity};
 ghost use Rattle.bn_packed.specs.Ends.{numbers_for};
 
 use crate::cells::{BLOCK, Cell, LINES, cell_at, line_number, nth_line, opposite};
-use bn_circuits::{Line, NoMemory, Wire};
+use bn_circuits::{Line, Wire};
+use bn_lists::NoMemory;
 use std::alloc::Global;
 use std::marker::Model;
 

@@ -14,7 +14,6 @@ mod walk;
 mod wires;
 mod wiring;
 
-pub use bn_circuits::NoMemory;
 pub use direction::Direction;
 pub use draft::Draft;
 pub use packed::Packed;

@@ -24,8 +24,9 @@ use crate::draft::Draft;
 use crate::signal::Signal;
 use crate::stop::Stop;
 use crate::wires::Wires;
-use bn_circuits::{CLOCK, Config, Line, Net, NoMemory, Place, Quiet, States, Watch, Wire};
+use bn_circuits::{CLOCK, Config, Line, Net, Place, Quiet, States, Watch, Wire};
 use bn_element::Rotary;
+use bn_lists::NoMemory;
 use std::alloc::Global;
 use std::marker::Model;
 

@@ -9,8 +9,9 @@ ghost use Rattle.bn_circuits.specs.declared.net.TheConstants.{MOST_ELEMENTS};
 ghost use Rattle.bn_packed.specs.CopiedWires.{IsTargetBefore};
 
 use crate::packed::Packed;
-use bn_circuits::{Line, Net, NoMemory, Wire, rotary_net};
+use bn_circuits::{Line, Net, Wire, rotary_net};
 use bn_element::Rotary;
+use bn_lists::NoMemory;
 use std::alloc::Global;
 
 impl Packed {

@@ -19,8 +19,9 @@ use crate::signal::Signal;
 use crate::stop::Stop;
 use crate::walk::{walk, walk_back, walk_until};
 use crate::wiring::Wiring;
-use bn_circuits::{Line, Net, NoMemory, Watch, Wire};
+use bn_circuits::{Line, Net, Watch, Wire};
 use bn_element::Rotary;
+use bn_lists::NoMemory;
 use std::alloc::Global;
 
 /// The wires of a net of rotary elements, with numbers of 32 bits if these suffice, and of 64 otherwise.

@@ -10,8 +10,9 @@ ghost use Rattle.bn_packed.specs.Ends.{AreTargets, HasEnds, ahead, behind, targe
 
 use crate::cells::{Cell, LINES, nth_line, opposite};
 use crate::ends::Ends;
-use bn_circuits::{Line, Net, NoMemory, Wire};
+use bn_circuits::{Line, Net, Wire};
 use bn_element::Rotary;
+use bn_lists::NoMemory;
 use std::alloc::Global;
 use std::marker::Model;
 

@@ -4,7 +4,7 @@ ghost use Rattle.std.specs.Prelude.{◌≡◌, ◌≤◌, ℕ, [], ◌∷◌, If
 ghost use Rattle.bn_lists.specs.Lists.{Has};
 ghost use Rattle.std.specs.List.Sorted.{IsPermutation};
 
-use bn_circuits::NoMemory;
+use bn_lists::NoMemory;
 use std::alloc::Global;
 use std::cmp::Reverse;
 use std::collections::BinaryHeap;

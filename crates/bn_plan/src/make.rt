@@ -6,8 +6,9 @@ ghost use Rattle.bn_plan.specs.Plans.{IsFloorPlan};
 use crate::floor::Plan;
 use crate::positions::{MOST_PLANNED, POSITIONS};
 use crate::sweep::Sweep;
-use bn_circuits::{Net, NoMemory};
+use bn_circuits::Net;
 use bn_element::Rotary;
+use bn_lists::NoMemory;
 use std::alloc::Global;
 
 /// The floor plan of a net of at most `MOST_PLANNED` elements. The elements lie side by side, and element E takes the

@@ -10,8 +10,9 @@ use crate::floor::Plan;
 use crate::free_tracks::FreeTracks;
 use crate::positions::{MOST_PLANNED, input_position, output_position, wire_from};
 use crate::tracked::Tracked;
-use bn_circuits::{Net, NoMemory, Wire};
+use bn_circuits::{Net, Wire};
 use bn_element::Rotary;
+use bn_lists::NoMemory;
 use std::alloc::Global;
 use std::marker::Model;
 

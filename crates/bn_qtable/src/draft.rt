@@ -11,7 +11,8 @@ ghost use Rattle.bn_qtable.specs.Draft.{IsDraft, drafted};
 use crate::entry::{Fields, MOST_ENTRIES, read_fields};
 use crate::lists::Lists;
 use crate::refusal::QuadTableRefusal;
-use bn_csv::{Entry, NoMemory, TableDraft};
+use bn_csv::{Entry, TableDraft};
+use bn_lists::NoMemory;
 use bn_quad::{Quad, QuadMachine, QuadNames, QuadRefusal};
 use std::alloc::Global;
 

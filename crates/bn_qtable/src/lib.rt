@@ -10,7 +10,6 @@ mod refusal;
 mod tape_word;
 mod text;
 
-pub use bn_csv::NoMemory;
 pub use entry::MOST_ENTRIES;
 pub use laws::qtable_laws;
 pub use refusal::QuadTableRefusal;

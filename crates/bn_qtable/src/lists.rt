@@ -10,7 +10,8 @@ ghost use Rattle.bn_qtable.specs.Draft.{Stands, with_says};
 ghost use Rattle.bn_qtable.specs.Named.{on_tape};
 
 use crate::entry::{Fields, TapeText};
-use bn_csv::{Names, NoMemory};
+use bn_csv::Names;
+use bn_lists::NoMemory;
 use bn_quad::{Act, Quad, QuadNames};
 use std::alloc::Global;
 use std::marker::Model;

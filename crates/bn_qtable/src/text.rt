@@ -16,7 +16,8 @@ ghost use Rattle.bn_qtable.specs.declared.refusal.QuadTableRefusal.TheVariants a
 
 use crate::draft::{into_table, new_draft};
 use crate::refusal::QuadTableRefusal;
-use bn_csv::{EntryWriter, NoMemory, read_entries};
+use bn_csv::{EntryWriter, read_entries};
+use bn_lists::NoMemory;
 use bn_machine::{Shift, text_of_shift};
 use bn_quad::{Act, Quad, QuadMachine, QuadNames};
 use std::alloc::Global;

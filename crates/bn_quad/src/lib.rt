@@ -15,7 +15,6 @@ mod state_index;
 mod tapes;
 mod uniform;
 
-pub use bn_lists::NoMemory;
 pub use indexed::IndexedMachine;
 pub use laws::quad_laws;
 pub use machine::QuadMachine;

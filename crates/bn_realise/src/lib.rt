@@ -10,7 +10,6 @@ mod refusal;
 mod standing;
 mod wires;
 
-pub use bn_lists::NoMemory;
 pub use cost::bank_cost;
 pub use cross::cross_bank_in;
 pub use laws::realise_laws;

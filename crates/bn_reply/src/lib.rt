@@ -10,7 +10,6 @@ mod reply;
 mod status;
 mod writing;
 
-pub use bn_lists::NoMemory;
 pub use letters::push_letters;
 pub use limits::{MOST_INPUT_BYTES, most_input_bytes_are_stated};
 pub use lines::{empty_text, field_text, record_text, why_text};

@@ -16,7 +16,8 @@ use bn_behaviour::{
 };
 use bn_circuits::{CLOCK, MOST_ELEMENTS, Net};
 use bn_element::Rotary;
-use bn_reply::{NoMemory, Reply, Status};
+use bn_lists::NoMemory;
+use bn_reply::{Reply, Status};
 use std::alloc::Global;
 
 /// The answer for a net in these states of its bars.

@@ -12,7 +12,8 @@ use crate::side::Side;
 use bn_behaviour::{PortNames, all_ports};
 use bn_circuits::{MOST_ELEMENTS, Net};
 use bn_element::Rotary;
-use bn_reply::{NoMemory, Reply, Status};
+use bn_lists::NoMemory;
+use bn_reply::{Reply, Status};
 use std::alloc::Global;
 
 /// The ports that are lines, or the answer that a name is wrong.

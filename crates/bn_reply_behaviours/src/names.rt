@@ -12,7 +12,7 @@ use crate::side::{Side, port_named};
 use bn_behaviour::PortList;
 use bn_circuits::{MOST_ELEMENTS, Net};
 use bn_element::Rotary;
-use bn_reply::NoMemory;
+use bn_lists::NoMemory;
 use std::alloc::Global;
 
 /// The separator between names.

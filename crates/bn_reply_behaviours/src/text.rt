@@ -12,7 +12,7 @@ use bn_base::push_u64;
 use bn_behaviour::{CountedMove, Ports};
 use bn_circuits::Line;
 use bn_element::{EAST, NORTH, SOUTH};
-use bn_reply::NoMemory;
+use bn_lists::NoMemory;
 use bn_rsm::{RsmMove, write_moves};
 use std::alloc::{AllocError, Global};
 

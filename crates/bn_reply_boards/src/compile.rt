@@ -14,9 +14,10 @@ ghost use Rattle.bn_reply_circuits.specs.Unwritten.{WillReply};
 use crate::opening::{OpenedInput, open_input};
 use bn_board::Board;
 use bn_io::Sink;
+use bn_lists::NoMemory;
 use bn_netlist::{PackedConfig, Version};
 use bn_network_assembly::Windows;
-use bn_reply::{NoMemory, Status};
+use bn_reply::Status;
 use bn_reply_circuits::Unwritten;
 use std::alloc::Global;
 

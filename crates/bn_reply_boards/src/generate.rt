@@ -11,8 +11,9 @@ ghost use Rattle.bn_reply_boards.specs.GenerateReply.{GenerateReplies, title, wi
 use crate::run::reply_run;
 use bn_circuits::Watch;
 use bn_gen::increments_text;
+use bn_lists::NoMemory;
 use bn_network_assembly::Windows;
-use bn_reply::{NoMemory, Reply};
+use bn_reply::Reply;
 use std::alloc::Global;
 
 /// The number, in binary, to which the machine adds one k times.

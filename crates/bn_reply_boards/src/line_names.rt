@@ -7,8 +7,9 @@ ghost use Rattle.bn_reply_boards.specs.LineNames.{AreFew, answer_line, answer_te
 ghost use Rattle.bn_reply_boards.specs.LineNames.{counts_in};
 
 use bn_base::push_u64;
+use bn_lists::NoMemory;
 use bn_network::CellLine;
-use bn_reply::{NoMemory, push};
+use bn_reply::push;
 use bn_table::Table;
 
 /// Appends the name of a cell's line. After `NoMemory` a prefix of the name may follow the text.

@@ -12,11 +12,11 @@ ghost use Rattle.bn_reply_relations.specs.Windows.{large_line};
 
 use bn_bennett::{Translated, translate};
 use bn_board::{Board, flatten};
+use bn_lists::NoMemory;
 use bn_network_assembly::{AssembleRefusal, TapeSymbols, Windows, assemble_words};
 use bn_quad::Uniform;
 use bn_reply::{
-    Judged, NoMemory, OpenedTable, OpenedWord, Reply, Status, judge_table, open_table, open_word,
-    too_long,
+    Judged, OpenedTable, OpenedWord, Reply, Status, judge_table, open_table, open_word, too_long,
 };
 use bn_table::Table;
 use std::alloc::Global;

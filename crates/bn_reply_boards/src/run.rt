@@ -18,8 +18,9 @@ use crate::run_text::text_of_run;
 use bn_bennett::Translated;
 use bn_board::{Board, Exit};
 use bn_circuits::Watch;
+use bn_lists::NoMemory;
 use bn_network_assembly::Windows;
-use bn_reply::{NoMemory, Reply, Status};
+use bn_reply::{Reply, Status};
 use bn_table::Table;
 use std::alloc::Global;
 

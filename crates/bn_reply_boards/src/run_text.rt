@@ -19,8 +19,9 @@ use bn_bennett::{MachineState, Translated};
 use bn_board::{Board, Exit, Spelled};
 use bn_circuits::{Line, Place};
 use bn_element::{EAST, NORTH, SOUTH};
+use bn_lists::NoMemory;
 use bn_machine::Side;
-use bn_reply::{NoMemory, push, push_counted, push_letters};
+use bn_reply::{push, push_counted, push_letters};
 use bn_table::Table;
 use std::alloc::Global;
 

@@ -8,7 +8,8 @@ ghost use Rattle.bn_reply_boards.specs.Shown.{HasLetter, HaveLetters, bounds_tex
 
 use bn_base::push_u64;
 use bn_board::{Spelled, SpelledTape};
-use bn_reply::{NoMemory, push, push_letters, push_position};
+use bn_lists::NoMemory;
+use bn_reply::{push, push_letters, push_position};
 use bn_table::Table;
 use std::alloc::Global;
 

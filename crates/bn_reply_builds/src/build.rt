@@ -12,9 +12,10 @@ ghost use Rattle.bn_reply_builds.specs.BuildReply.{BuildReplies};
 
 use crate::opening::{OpenedBuild, open_build};
 use bn_io::Sink;
+use bn_lists::NoMemory;
 use bn_network_assembly::Windows;
 use bn_qtable::TapeWords;
-use bn_reply::{NoMemory, Status};
+use bn_reply::Status;
 use bn_reply_boards::board_config;
 use bn_reply_circuits::Unwritten;
 use std::alloc::Global;

@@ -10,7 +10,8 @@ ghost use Rattle.bn_reply_builds.specs.DriveText.{drive_text};
 ghost use Rattle.bn_reply_builds.specs.Outcomes.{outcome_line};
 
 use crate::{Outcome, TableNames, push_outcome, push_tapes};
-use bn_board::{Board, NoMemory, Spelled};
+use bn_board::{Board, Spelled};
+use bn_lists::NoMemory;
 use bn_reply::push_counted;
 use std::alloc::Global;
 

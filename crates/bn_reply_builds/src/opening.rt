@@ -10,10 +10,11 @@ ghost use Rattle.bn_reply_builds.specs.Opened.{IsOpenedBuild, IsOpenedSized};
 
 use crate::sizes::{find_crowded, find_long, too_crowded, word_too_long};
 use bn_board::Board;
+use bn_lists::NoMemory;
 use bn_network_assembly::{TapeSymbols, Windows};
 use bn_qtable::TapeWords;
 use bn_quad::{QuadNames, Uniform};
-use bn_reply::{NoMemory, Reply};
+use bn_reply::Reply;
 use bn_reply_boards::{OpenedWindow, open_board};
 use bn_reply_machines::{OpenedUniform, SpelledWords, open_uniform, spell_words};
 use std::alloc::Global;

@@ -15,9 +15,10 @@ ghost use Rattle.bn_reply_builds.specs.Stopping.{HasFewSymbols, IsLeftAtRead};
 
 use crate::awaited::{answer_at, control_rows, read_awaited};
 use crate::stop::stop_of;
-use bn_board::{Board, Exit, NoMemory, Spelled};
+use bn_board::{Board, Exit, Spelled};
 use bn_circuits::{Line, Place};
 use bn_control::state_names;
+use bn_lists::NoMemory;
 use bn_machine::Side;
 use bn_quad::Uniform;
 use bn_reply::Status;

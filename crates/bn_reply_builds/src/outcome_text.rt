@@ -10,7 +10,8 @@ ghost use Rattle.bn_reply_builds.specs.Outcomes.{drive_tape_lines, outcome_line,
 
 use crate::outcome::{Outcome, Stop};
 use bn_base::push_u64;
-use bn_board::{NoMemory, Spelled, SpelledTape};
+use bn_board::{Spelled, SpelledTape};
+use bn_lists::NoMemory;
 use bn_quad::{QuadMachine, QuadNames};
 use bn_reply::push;
 use bn_reply_boards::{push_bounds, push_inside, push_window};

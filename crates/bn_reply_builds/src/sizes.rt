@@ -6,11 +6,12 @@ ghost use Rattle.bn_network_assembly.specs.Assembled.{limits_of};
 ghost use Rattle.bn_reply_builds.specs.BuildReply.{HaveRoom, IsCrowded, IsFirstLong, IsUncrowded};
 ghost use Rattle.bn_reply_builds.specs.BuildReply.{crowded_line, long_word_line, tape_long_line};
 
+use bn_lists::NoMemory;
 use bn_network::MOST_SYMBOLS;
 use bn_network_assembly::{TapeSymbols, Windows};
 use bn_qtable::TapeWords;
 use bn_quad::QuadMachine;
-use bn_reply::{NoMemory, Reply, Status, too_long};
+use bn_reply::{Reply, Status, too_long};
 use std::alloc::Global;
 
 // A tape with more symbols than a cell may tell apart.

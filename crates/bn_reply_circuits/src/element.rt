@@ -4,7 +4,8 @@ ghost use Rattle.std.specs.Prelude.{◌≡◌, [], IfOk};
 ghost use Rattle.bn_rlem.specs.Elements.{IsLineCount};
 ghost use Rattle.bn_reply_circuits.specs.ElementReply.{ElementReplies};
 
-use bn_reply::{NoMemory, Reply, Status};
+use bn_lists::NoMemory;
+use bn_reply::{Reply, Status};
 use bn_rlem::{element_count, element_moves};
 use bn_rsm::write_moves;
 use std::alloc::Global;

@@ -10,8 +10,9 @@ ghost use Rattle.bn_farm.specs.Playing.{AreOnBoards};
 ghost use Rattle.bn_farm.specs.Undo.{undoing};
 
 use bn_farm::{Farm, FarmRefusal, MOST_FARM_BYTES, Schedule, read_farm, write_farm};
+use bn_lists::NoMemory;
 use bn_netlist::NetlistRefusal;
-use bn_reply::{NoMemory, Reply, Status};
+use bn_reply::{Reply, Status};
 use std::alloc::Global;
 
 /// What `farm` answers: the circuits after the schedule, each followed by a line `%`, and the schedule that undoes it;

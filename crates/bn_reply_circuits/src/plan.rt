@@ -11,9 +11,10 @@ use crate::plan_text::plan_text;
 use bn_circuits::{MOST_ELEMENTS, Net};
 use bn_element::Rotary;
 use bn_io::{Input, Sink};
+use bn_lists::NoMemory;
 use bn_netlist::{NetConfig, read_text};
 use bn_plan::plan;
-use bn_reply::{MOST_INPUT_BYTES, NoMemory, Reply, Status, give_reply};
+use bn_reply::{MOST_INPUT_BYTES, Reply, Status, give_reply};
 use std::alloc::Global;
 
 /// Answers `plan`: reads a configuration text of either version and gives the sink the floor plan of its circuit. It

@@ -11,8 +11,8 @@ ghost use Rattle.bn_reply_circuits.specs.PlanReply.{plan_text, wire_line, wire_l
 use bn_base::push_u64;
 use bn_circuits::Line;
 use bn_element::{EAST, NORTH, SOUTH};
+use bn_lists::NoMemory;
 use bn_plan::{Plan, Tracked};
-use bn_reply::NoMemory;
 use std::alloc::Global;
 
 /// The text of a floor plan of this many elements: four lines with a number each, and a line for each wire. Elements

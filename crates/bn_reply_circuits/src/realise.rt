@@ -15,9 +15,10 @@ use crate::unwritten::Unwritten;
 use bn_circuits::{Line, MOST_ELEMENTS};
 use bn_element::{EAST, Element, WEST};
 use bn_io::Sink;
+use bn_lists::NoMemory;
 use bn_netlist::{NetConfig, Version};
 use bn_realise::{Bank, BankRefusal, bank};
-use bn_reply::{NoMemory, Reply, Status, empty_text, field_text, record_text};
+use bn_reply::{Reply, Status, empty_text, field_text, record_text};
 use bn_rsm::{Rsm, RsmTableRefusal, read_rsm};
 use std::alloc::Global;
 

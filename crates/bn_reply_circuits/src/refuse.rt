@@ -3,8 +3,9 @@
 ghost use Rattle.std.specs.Prelude.{◌≡◌, IfOk};
 ghost use Rattle.bn_reply_circuits.specs.Refused.{IsRefused, line_text};
 
+use bn_lists::NoMemory;
 use bn_netlist::NetlistRefusal;
-use bn_reply::{NoMemory, Reply, Status};
+use bn_reply::{Reply, Status};
 use std::alloc::Global;
 
 /// The answer to bytes that are no configuration text, by their first fault.

@@ -12,7 +12,8 @@ use crate::text::text_of;
 use bn_base::{MOST_COUNT, cut_input};
 use bn_element::Element;
 use bn_equal::{Comparison, compare};
-use bn_reply::{NoMemory, Reply, Status};
+use bn_lists::NoMemory;
+use bn_reply::{Reply, Status};
 use bn_rsm::Rsm;
 use std::alloc::Global;
 

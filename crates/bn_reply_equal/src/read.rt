@@ -4,7 +4,8 @@ ghost use Rattle.std.specs.Prelude.{ℕ, List, IfOk};
 ghost use Rattle.bn_rsm.specs.Reading.{IsMoveTableRefusal};
 ghost use Rattle.bn_reply_equal.specs.Replied.{IsReadTable};
 
-use bn_reply::{NoMemory, empty_text, field_text, record_text};
+use bn_lists::NoMemory;
+use bn_reply::{empty_text, field_text, record_text};
 use bn_rsm::{Rsm, RsmTableRefusal, read_rsm};
 use std::alloc::Global;
 

@@ -3,7 +3,7 @@
 ghost use Rattle.std.specs.Prelude.{◌≡◌, ◌<◌, ◌==◌, ℕ, Contains, IfOk, IfNone, IfSome, length, position};
 ghost use Rattle.bn_reply_equal.specs.Second.{with_second};
 
-use bn_reply::NoMemory;
+use bn_lists::NoMemory;
 use std::alloc::Global;
 
 /// The refusal as one of the second table: `second` and a space follow its first space.

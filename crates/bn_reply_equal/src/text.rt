@@ -6,7 +6,8 @@ ghost use Rattle.bn_reply_equal.specs.EqualReply.{difference_text, output_text, 
 
 use bn_base::push_u64;
 use bn_equal::Difference;
-use bn_reply::{NoMemory, push};
+use bn_lists::NoMemory;
+use bn_reply::push;
 use std::alloc::Global;
 
 /// The lines of a difference.

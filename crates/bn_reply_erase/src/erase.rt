@@ -18,9 +18,10 @@ use crate::pair::{JudgedPair, OpenedPair, judge_pair, open_pair};
 use crate::run::{Ended, Ending, run_word};
 use bn_base::MOST_COUNT;
 use bn_erase::{EraseRefusal, Erasing, Joined, erase, erasing_names};
+use bn_lists::NoMemory;
 use bn_machine::Standard;
 use bn_qtable::write_quads;
-use bn_reply::{NoMemory, OpenedWord, Reply, Status, too_long};
+use bn_reply::{OpenedWord, Reply, Status, too_long};
 use std::alloc::Global;
 
 /// What `erase` answers to some bytes, which are a table, a line `%` and a second table: whether there is such a line,

@@ -7,7 +7,8 @@ ghost use Rattle.bn_reply.specs.Words.{IsLetterOf, letters_of};
 ghost use Rattle.bn_reply_erase.specs.EraseReply.{lettered};
 
 use bn_erase::Joined;
-use bn_reply::{NoMemory, OpenedWord, foreign_letter};
+use bn_lists::NoMemory;
+use bn_reply::{OpenedWord, foreign_letter};
 use std::alloc::Global;
 
 /// The blank's letter.

@@ -6,8 +6,9 @@ ghost use Rattle.bn_reply_erase.specs.Pairs.{with_second};
 
 use bn_base::cut_input;
 use bn_erase::{Joined, join_letters};
+use bn_lists::NoMemory;
 use bn_machine::{Standard, check};
-use bn_reply::{NoMemory, OpenedTable, Reply, Status, open_table, why_text};
+use bn_reply::{OpenedTable, Reply, Status, open_table, why_text};
 use bn_table::Table;
 use std::alloc::Global;
 

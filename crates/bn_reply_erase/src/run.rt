@@ -8,9 +8,9 @@ ghost use Rattle.bn_reply_erase.specs.EraseRun.{ComesOutOf, HasEnded, IsErasingO
 
 use bn_base::MOST_COUNT;
 use bn_erase::Erasing;
+use bn_lists::NoMemory;
 use bn_machine::{Tape, TapeRefusal};
 use bn_quad::{IndexedMachine, QuadTurn, Tapes};
-use bn_reply::NoMemory;
 use bn_reply_machines::letter_at;
 use std::alloc::Global;
 

@@ -9,7 +9,8 @@ ghost use Rattle.bn_reply_layout.specs.CellText.{cell_column_line, cell_line_lin
 
 use bn_base::push_u64;
 use bn_cell::line_of;
-use bn_reply::{NoMemory, push, push_letters};
+use bn_lists::NoMemory;
+use bn_reply::{push, push_letters};
 use bn_reply_boards::push_cell_line;
 use bn_table::Table;
 

@@ -10,8 +10,9 @@ ghost use Rattle.bn_reply_layout.specs.LayoutReply.{LayoutReplies};
 
 use crate::layout_text::layout_text;
 use bn_io::Sink;
+use bn_lists::NoMemory;
 use bn_network_assembly::Windows;
-use bn_reply::{NoMemory, Reply, Status, give_reply};
+use bn_reply::{Reply, Status, give_reply};
 use bn_reply_boards::{OpenedInput, open_input};
 use std::alloc::Global;
 

@@ -16,8 +16,8 @@ use crate::module_text::push_modules;
 use crate::sizes::{history_of, letters_of};
 use bn_bennett::{Translated, names};
 use bn_control::state_names;
+use bn_lists::NoMemory;
 use bn_network_assembly::Windows;
-use bn_reply::NoMemory;
 use bn_table::Table;
 use std::alloc::Global;
 

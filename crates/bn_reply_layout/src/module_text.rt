@@ -11,9 +11,10 @@ ghost use Rattle.bn_reply_layout.specs.ModuleText.{bank_text, module_line, modul
 use crate::bank::{Bank, ModuleName};
 use bn_base::{MOST_COUNT, push_u64};
 use bn_circuits::MOST_ELEMENTS;
+use bn_lists::NoMemory;
 use bn_network::MOST_SYMBOLS;
 use bn_network_assembly::Windows;
-use bn_reply::{NoMemory, push, push_counted, push_position};
+use bn_reply::{push, push_counted, push_position};
 
 /// Consecutive cells of a tape.
 #[derive(Clone, Copy)]

@@ -7,9 +7,10 @@ ghost use Rattle.bn_network_assembly.specs.Assembled.{limits_of};
 ghost use Rattle.bn_reply_looks.specs.LookReply.{LookReplies};
 
 use crate::look_text::build_text;
+use bn_lists::NoMemory;
 use bn_network_assembly::Windows;
 use bn_qtable::TapeWords;
-use bn_reply::{NoMemory, Reply, Status};
+use bn_reply::{Reply, Status};
 use bn_reply_builds::{OpenedBuild, open_build};
 use std::alloc::Global;
 

@@ -12,8 +12,9 @@ ghost use Rattle.bn_reply_looks.specs.LookText.{look_text, state_line};
 
 use bn_board::Board;
 use bn_circuits::Place;
+use bn_lists::NoMemory;
 use bn_quad::{QuadNames, Uniform};
-use bn_reply::{NoMemory, push};
+use bn_reply::push;
 use bn_reply_builds::{
     TableNames, counts_of_machine, outcome_of, push_outcome, push_state, push_tapes,
 };

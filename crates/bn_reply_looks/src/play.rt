@@ -16,10 +16,11 @@ ghost use Rattle.bn_reply_looks.specs.PlayReply.{IsPlayOf, PlayReplies, TellsPla
 use crate::viewer::Viewer;
 use bn_base::cut_input;
 use bn_board::Board;
+use bn_lists::NoMemory;
 use bn_network_assembly::Windows;
 use bn_qtable::TapeWords;
 use bn_quad::{QuadNames, Uniform};
-use bn_reply::{NoMemory, Reply, Status};
+use bn_reply::{Reply, Status};
 use bn_reply_builds::{OpenedBuild, open_build};
 use bn_reply_views::{refuse_script, without_script};
 use bn_session::{Script, play, read_script};

@@ -1,8 +1,8 @@
 //! The writer of the layers of a table's circuit while a script is played on it.
 
 use crate::look_text::build_text;
-use bn_base::NoMemory;
 use bn_board::Board;
+use bn_lists::NoMemory;
 use bn_quad::{QuadNames, Uniform};
 use bn_reply_views::push_bytes;
 use bn_session::Shows;

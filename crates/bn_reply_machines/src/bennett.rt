@@ -7,9 +7,10 @@ ghost use Rattle.bn_reply.specs.TableReply.{JudgedReplies};
 ghost use Rattle.bn_reply_machines.specs.BennettReply.{BennettReplies, bennett_text};
 
 use bn_bennett::{names, translate};
+use bn_lists::NoMemory;
 use bn_machine::Standard;
 use bn_qtable::write_quads;
-use bn_reply::{Judged, NoMemory, OpenedTable, Reply, Status, judge_table, open_table};
+use bn_reply::{Judged, OpenedTable, Reply, Status, judge_table, open_table};
 use bn_table::Table;
 use std::alloc::Global;
 

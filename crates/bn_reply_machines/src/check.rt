@@ -5,8 +5,9 @@ ghost use Rattle.bn_reply.specs.Answering.{IsDone};
 ghost use Rattle.bn_reply.specs.TableReply.{JudgedReplies};
 ghost use Rattle.bn_reply_machines.specs.CheckReply.{CheckReplies, standard_line};
 
+use bn_lists::NoMemory;
 use bn_machine::Machine;
-use bn_reply::{Judged, NoMemory, OpenedTable, Reply, Status, judge_table, open_table};
+use bn_reply::{Judged, OpenedTable, Reply, Status, judge_table, open_table};
 use bn_table::Table;
 use std::alloc::Global;
 

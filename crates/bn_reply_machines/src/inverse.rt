@@ -8,9 +8,10 @@ ghost use Rattle.bn_qtable.specs.Rows.{quadruple_rows_by};
 ghost use Rattle.bn_reply_machines.specs.InverseReply.{InverseReplies};
 
 use crate::reversible::quad_fault_text;
+use bn_lists::NoMemory;
 use bn_qtable::{read_quads, write_quads};
 use bn_quad::{QuadMachine, QuadNames};
-use bn_reply::{NoMemory, Reply, Status};
+use bn_reply::{Reply, Status};
 use std::alloc::Global;
 
 /// The answer of `inverse` to some bytes: a refusal if they are no table of quadruples, or the table of the inverse of

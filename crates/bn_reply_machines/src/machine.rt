@@ -9,8 +9,9 @@ ghost use Rattle.bn_reply_machines.specs.MachineRun.{FitsTable, ending_of};
 
 use crate::machine_run::{Ended, Ending, run_word};
 use bn_base::MOST_COUNT;
+use bn_lists::NoMemory;
 use bn_reply::{
-    Judged, NoMemory, OpenedTable, OpenedWord, Reply, Status, judge_table, open_table, open_word,
+    Judged, OpenedTable, OpenedWord, Reply, Status, judge_table, open_table, open_word,
     push_letters,
 };
 use bn_table::Table;

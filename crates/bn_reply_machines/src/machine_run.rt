@@ -8,8 +8,8 @@ ghost use Rattle.bn_reply_machines.specs.MachineRun.{IsEndingOf, IsLetterAt, IsR
 ghost use Rattle.bn_reply_machines.specs.MachineRun.{ending_of};
 
 use bn_base::MOST_COUNT;
+use bn_lists::NoMemory;
 use bn_machine::{Machine, Tape, TapeRefusal, Turn};
-use bn_reply::NoMemory;
 use std::alloc::Global;
 
 /// The result of a run.

@@ -6,9 +6,10 @@ ghost use Rattle.bn_reply_machines.specs.QuadReply.{overlap_line, tape_foreign_l
 ghost use Rattle.bn_reply_machines.specs.Opened.{AreOpenedQuads};
 
 use crate::reversible::quad_fault_text;
+use bn_lists::NoMemory;
 use bn_qtable::read_quads;
 use bn_quad::{QuadMachine, QuadNames};
-use bn_reply::{NoMemory, Reply, Status};
+use bn_reply::{Reply, Status};
 use std::alloc::Global;
 
 /// A table of quadruples whose machine is deterministic and reversible, or the answer to other bytes.

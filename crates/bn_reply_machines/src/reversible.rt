@@ -7,9 +7,10 @@ ghost use Rattle.bn_reply_machines.specs.ReversibleReply.{IsVerdict, ReversibleR
 ghost use Rattle.bn_reply_machines.specs.ReversibleReply.{TellsVerdicts};
 ghost use Rattle.bn_reply_machines.specs.ReversibleReply.{quad_fault_line, verdict_line};
 
+use bn_lists::NoMemory;
 use bn_qtable::{QuadTableRefusal, read_quads};
 use bn_quad::QuadMachine;
-use bn_reply::{NoMemory, Reply, Status, empty_text, field_text, record_text};
+use bn_reply::{Reply, Status, empty_text, field_text, record_text};
 use std::alloc::Global;
 
 /// The answer of `reversible` to some bytes: a refusal if they are no table of quadruples, or whether these are

@@ -4,7 +4,8 @@ ghost use Rattle.std.specs.Prelude.{[], IfOk};
 ghost use Rattle.bn_reply_machines.specs.StandardReply.{IsRefusedReply, StandardTableReplies};
 ghost use Rattle.bn_reply_machines.specs.StandardReply.{TellsStandard};
 
-use bn_reply::{NoMemory, OpenedTable, Reply, Status, open_table};
+use bn_lists::NoMemory;
+use bn_reply::{OpenedTable, Reply, Status, open_table};
 use bn_standardise::{LooseRefusal, standard_text};
 use bn_table::Table;
 use std::alloc::Global;

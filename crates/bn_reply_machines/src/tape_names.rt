@@ -11,9 +11,9 @@ ghost use Rattle.bn_reply_machines.specs.NamedWords.{IsNameOn, IsNamedSoFar, IsS
 ghost use Rattle.bn_reply_machines.specs.QuadReply.{lettered};
 ghost use Rattle.bn_reply_machines.specs.Opened.{IsAlphabet, IsNaming, IsSpelling};
 
+use bn_lists::NoMemory;
 use bn_qtable::TapeWord;
 use bn_quad::{QuadMachine, QuadNames};
-use bn_reply::NoMemory;
 use std::alloc::Global;
 use std::marker::Model;
 

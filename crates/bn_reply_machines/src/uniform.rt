@@ -6,9 +6,10 @@ ghost use Rattle.bn_reply_machines.specs.UniformReply.{failing_line, flaw_line, 
 
 use crate::opening::overlap;
 use crate::reversible::quad_fault_text;
+use bn_lists::NoMemory;
 use bn_qtable::read_quads;
 use bn_quad::{NotUniform, QuadNames, Uniform, UniformRefusal};
-use bn_reply::{NoMemory, Reply, Status};
+use bn_reply::{Reply, Status};
 use std::alloc::Global;
 
 /// A table of quadruples whose machine is deterministic, reversible and uniform, or the answer to other bytes.

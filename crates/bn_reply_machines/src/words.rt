@@ -9,9 +9,10 @@ ghost use Rattle.bn_reply_machines.specs.WordsReply.{unnamed_line};
 
 use crate::opening::foreign_on_tape;
 use crate::tape_names::{Spelling, TapeNames};
+use bn_lists::NoMemory;
 use bn_qtable::{TapeWord, TapeWords};
 use bn_quad::{QuadMachine, QuadNames};
-use bn_reply::{NoMemory, Reply, Status, foreign_letter};
+use bn_reply::{Reply, Status, foreign_letter};
 use std::alloc::Global;
 
 /// The symbols of a word on a tape, or the answer to another word.

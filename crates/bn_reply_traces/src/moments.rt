@@ -16,8 +16,9 @@ use crate::quad_run::QuadRun;
 use crate::quad_stage::StartWords;
 use bn_base::MOST_COUNT;
 use bn_io::Sink;
+use bn_lists::NoMemory;
 use bn_quad::{IndexedMachine, QuadMachine, QuadNames};
-use bn_reply::{NoMemory, Status, foreign_letter, give_reply};
+use bn_reply::{Status, foreign_letter, give_reply};
 use bn_reply_machines::{OpenedQuads, Spelling, TapeNames, foreign_on_tape, open_quads};
 use std::alloc::Global;
 

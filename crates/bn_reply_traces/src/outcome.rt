@@ -9,7 +9,8 @@ ghost use Rattle.bn_reply_traces.specs.TraceReply.{outcome_line};
 
 use crate::stage::Stage;
 use bn_base::push_u64;
-use bn_reply::{NoMemory, Status, push, push_counted, push_letters};
+use bn_lists::NoMemory;
+use bn_reply::{Status, push, push_counted, push_letters};
 use bn_table::Table;
 
 // Appends the line that says how a run ends after this many steps, where this is the quintuple that is applied next, if

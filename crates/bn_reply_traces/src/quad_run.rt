@@ -17,8 +17,9 @@ use crate::quad_stage::{QuadStage, StartWords};
 use crate::quad_text::{push_configuration, push_line_end, push_moments_outcome};
 use crate::trace::{Ended, Unfinished};
 use bn_io::{Sink, WriteFault, give_pieces};
+use bn_lists::NoMemory;
 use bn_quad::{IndexedMachine, QuadMachine, QuadNames};
-use bn_reply::{NoMemory, Status, finish};
+use bn_reply::{Status, finish};
 use bn_reply_machines::TapeNames;
 use std::alloc::Global;
 

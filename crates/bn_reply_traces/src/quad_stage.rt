@@ -7,9 +7,9 @@ ghost use Rattle.bn_reply_traces.specs.QuadStages.{AreClear, AreWordsOn, IsQuadS
 
 use crate::extent::Extent;
 use bn_base::MOST_COUNT;
+use bn_lists::NoMemory;
 use bn_machine::{Tape, TapeRefusal};
 use bn_quad::{IndexedMachine, QuadMachine, QuadTurn, Tapes};
-use bn_reply::NoMemory;
 use std::alloc::Global;
 
 /// The symbols of the words on the three tapes at the start of a run.

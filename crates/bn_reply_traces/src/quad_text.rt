@@ -16,8 +16,9 @@ use crate::quad_stage::QuadStage;
 use crate::tape_text::{Spells, push_tape};
 use crate::trace::push_rule;
 use bn_base::push_u64;
+use bn_lists::NoMemory;
 use bn_machine::Tape;
-use bn_reply::{NoMemory, Status, push, push_counted};
+use bn_reply::{Status, push, push_counted};
 use bn_reply_machines::TapeNames;
 
 // Appends the number of steps that led to a configuration, its state, and what its tapes show.

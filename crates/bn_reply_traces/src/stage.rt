@@ -11,8 +11,8 @@ ghost use Rattle.bn_reply_traces.specs.Stages.{IsRule, IsStageAfter};
 
 use crate::extent::Extent;
 use bn_base::MOST_COUNT;
+use bn_lists::NoMemory;
 use bn_machine::{Machine, Quint, Tape, TapeRefusal, Turn};
-use bn_reply::NoMemory;
 use bn_reply_machines::letter_at;
 use std::alloc::Global;
 

@@ -10,8 +10,9 @@ ghost use Rattle.bn_reply_traces.specs.Stages.{AreBelow, IsWithin, StandsFor, sh
 
 use crate::extent::Extent;
 use bn_base::push_u64;
+use bn_lists::NoMemory;
 use bn_machine::Tape;
-use bn_reply::{NoMemory, push, push_position};
+use bn_reply::{push, push_position};
 use bn_reply_machines::TapeNames;
 use bn_table::Table;
 

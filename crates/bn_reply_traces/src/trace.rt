@@ -22,8 +22,9 @@ use crate::stage::Stage;
 use crate::tape_text::push_tape;
 use bn_base::{MOST_COUNT, push_u64};
 use bn_io::{Sink, WriteFault, give_pieces};
+use bn_lists::NoMemory;
 use bn_reply::{
-    Judged, NoMemory, OpenedTable, OpenedWord, Status, finish, give_reply, judge_table, open_table,
+    Judged, OpenedTable, OpenedWord, Status, finish, give_reply, judge_table, open_table,
     open_word, push,
 };
 use bn_table::Table;

@@ -7,7 +7,8 @@ ghost use Rattle.bn_reply.specs.Fronts.{GrewInPart};
 use bn_base::push_u64;
 use bn_circuits::{Line, Place};
 use bn_element::{EAST, NORTH, SOUTH};
-use bn_reply::{NoMemory, push};
+use bn_lists::NoMemory;
+use bn_reply::push;
 
 // Appends a place: the line that the signal is about to enter, or the line by which it has left.
 pub(crate) fn push_place(text: &mut Vec<u8>, place: Place) -> Result<(), NoMemory>

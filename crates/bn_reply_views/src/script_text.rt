@@ -4,7 +4,8 @@ ghost use Rattle.std.specs.Prelude.{◌≡◌, IfOk};
 ghost use Rattle.bn_reply_views.specs.ScriptReply.{uncut_line};
 ghost use Rattle.bn_reply_views.specs.Viewing.{IsScriptRefused, what_line};
 
-use bn_reply::{NoMemory, Reply, Status};
+use bn_lists::NoMemory;
+use bn_reply::{Reply, Status};
 use bn_session::ScriptRefusal;
 use std::alloc::Global;
 

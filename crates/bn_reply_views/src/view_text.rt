@@ -19,8 +19,9 @@ use crate::place_text::push_place;
 use bn_base::push_u64;
 use bn_bennett::{MachineState, Stage, Translated, names};
 use bn_circuits::Place;
+use bn_lists::NoMemory;
 use bn_quad::QuadNames;
-use bn_reply::{NoMemory, push, push_position};
+use bn_reply::{push, push_position};
 use bn_reply_boards::{
     SymbolCounts, counts_of_table, push_cell_line, push_control_line, push_exit, push_tapes,
 };

@@ -3,9 +3,9 @@
 ghost use Rattle.std.specs.Prelude.{◌≡◌, ◌++◌, OnErr, OnOk};
 
 use crate::view::layers_text;
-use bn_base::NoMemory;
 use bn_bennett::Translated;
 use bn_board::Board;
+use bn_lists::NoMemory;
 use bn_session::Shows;
 use bn_table::Table;
 use std::alloc::Global;

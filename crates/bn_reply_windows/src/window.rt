@@ -8,8 +8,9 @@ ghost use Rattle.bn_reply_windows.specs.WindowRun.{limits_of};
 
 use crate::window_run::{LeastWindow, find_window};
 use bn_base::MOST_COUNT;
+use bn_lists::NoMemory;
 use bn_reply::{
-    Judged, NoMemory, OpenedTable, OpenedWord, Reply, Status, judge_table, open_table, open_word,
+    Judged, OpenedTable, OpenedWord, Reply, Status, judge_table, open_table, open_word,
 };
 use bn_table::Table;
 use std::alloc::Global;

@@ -7,8 +7,8 @@ ghost use Rattle.bn_reply_windows.specs.WindowRun.{HasLetters, HasOutputLength, 
 
 use crate::extent::Extent;
 use bn_base::MOST_COUNT;
+use bn_lists::NoMemory;
 use bn_machine::{Machine, Tape, TapeRefusal, Turn};
-use bn_reply::NoMemory;
 use bn_reply_machines::letter_at;
 use std::alloc::Global;
 

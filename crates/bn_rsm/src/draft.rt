@@ -9,7 +9,8 @@ ghost use Rattle.bn_rsm.specs.declared.table_refusal.RsmTableRefusal.TheVariants
 use crate::entry::{MOST_ENTRIES, read_move};
 use crate::table_refusal::RsmTableRefusal;
 use crate::{Rsm, RsmMove, RsmRefusal};
-use bn_csv::{Entry, NoMemory, TableDraft};
+use bn_csv::{Entry, TableDraft};
+use bn_lists::NoMemory;
 use std::alloc::Global;
 
 /// The moves of the entries read so far, and how many states and ports they name.

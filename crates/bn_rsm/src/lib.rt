@@ -11,7 +11,6 @@ mod rsm_move;
 mod table_refusal;
 mod text;
 
-pub use bn_lists::NoMemory;
 pub use entry::MOST_ENTRIES;
 pub use laws::rsm_laws;
 pub use refusal::RsmRefusal;

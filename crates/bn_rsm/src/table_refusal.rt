@@ -1,6 +1,6 @@
 //! Why bytes are refused as a table.
 
-use bn_csv::NoMemory;
+use bn_lists::NoMemory;
 
 /// Why some bytes are not a table of a reversible sequential machine. Entries, fields and moves are counted from 1.
 /// The refusal names the first faulty entry with its first fault, in this order: too many entries, the count of

@@ -10,7 +10,8 @@ ghost use Rattle.bn_rsm.specs.Writing.{IsTable};
 use crate::draft::{into_machine, new_draft};
 use crate::table_refusal::RsmTableRefusal;
 use crate::{Rsm, RsmMove};
-use bn_csv::{EntryWriter, NoMemory, read_entries};
+use bn_csv::{EntryWriter, read_entries};
+use bn_lists::NoMemory;
 use itoa::Buffer;
 use std::alloc::Global;
 

@@ -7,8 +7,8 @@ ghost use Rattle.bn_session.specs.Breakpoints.{breakpoint, holds, first_label, s
 ghost use Rattle.bn_session.specs.Kept.{kept_breaks, HaveValues, mark_at, with_mark};
 
 use crate::condition::Condition;
-use bn_base::NoMemory;
 use bn_circuits::Place;
+use bn_lists::NoMemory;
 use indexmap::IndexMap;
 use slab::Slab;
 use std::alloc::Global;

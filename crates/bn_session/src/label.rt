@@ -5,7 +5,7 @@ ghost use Rattle.std.specs.List.{list_all};
 ghost use Rattle.std.specs.Char.{is_ascii_alphanumeric};
 ghost use Rattle.bn_session.specs.Sentences as forms;
 
-use bn_base::NoMemory;
+use bn_lists::NoMemory;
 use std::alloc::Global;
 use std::marker::Model;
 

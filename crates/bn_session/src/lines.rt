@@ -5,10 +5,11 @@ ghost use Rattle.std.specs.Option.{option_copied};
 ghost use Rattle.bn_netlist_laws.specs.Sentences.{line_of_place, line_text, place_text};
 ghost use Rattle.bn_session.specs.Plays.{named_text, place_line, label_line};
 
-use bn_base::{NoMemory, push_u64};
+use bn_base::push_u64;
 use bn_board::Board;
 use bn_circuits::Place;
 use bn_element::{EAST, NORTH, SOUTH};
+use bn_lists::NoMemory;
 use std::alloc::Global;
 
 // Appends the line with the place of the signal, and the label that is reported there. After `NoMemory` nothing was

@@ -14,8 +14,8 @@ use crate::lines::{write_label, write_place};
 use crate::script::Script;
 use crate::shows::Shows;
 use crate::walk::{go, named};
-use bn_base::NoMemory;
 use bn_board::Board;
+use bn_lists::NoMemory;
 use bn_packed::Direction;
 use std::alloc::Global;
 

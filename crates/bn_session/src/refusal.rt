@@ -1,6 +1,6 @@
 //! Why bytes are no script.
 
-use bn_base::NoMemory;
+use bn_lists::NoMemory;
 
 /// Why bytes are no script: the first line with an error, counted from 1, and the first error of that line, in this
 /// order.

@@ -13,7 +13,8 @@ use crate::refusal::ScriptRefusal;
 use crate::sentence::{Sentence, sentence_in};
 use crate::standing::Standing;
 use crate::states::States;
-use bn_base::{Lines, NextLine, NoMemory};
+use bn_base::{Lines, NextLine};
+use bn_lists::NoMemory;
 use bn_quad::QuadNames;
 use std::alloc::Global;
 

@@ -2,8 +2,8 @@
 
 ghost use Rattle.std.specs.Prelude.{OnOk, OnErr};
 
-use bn_base::NoMemory;
 use bn_board::Board;
+use bn_lists::NoMemory;
 use std::alloc::Global;
 
 /// A writer that shows a circuit. It has two models: the texts that it may show of a circuit, and whether it can show

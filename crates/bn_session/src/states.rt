@@ -2,7 +2,7 @@
 
 ghost use Rattle.std.specs.Prelude.{◌≡◌, OnOk, IfOk, MatchOption, slice_get, Some, Contains};
 
-use bn_base::NoMemory;
+use bn_lists::NoMemory;
 use bn_quad::QuadNames;
 use indexmap::IndexMap;
 use std::alloc::Global;

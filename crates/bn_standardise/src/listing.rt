@@ -4,7 +4,7 @@ ghost use Rattle.std.specs.Prelude.{◌≡◌, ◌-◌, ◌<◌, ◌++◌, OnOk,
 ghost use Rattle.bn_standardise.specs.Rules as rules;
 
 use crate::rule::{Rule, back_over, entering, leaving, renamed};
-use bn_csv::NoMemory;
+use bn_lists::NoMemory;
 use bn_machine::{Machine, Quint};
 use std::alloc::Global;
 

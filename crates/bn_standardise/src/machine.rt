@@ -10,7 +10,7 @@ use crate::acceptance::accept;
 use crate::listing::list_rules;
 use crate::numbering::number_rules;
 use crate::refusal::LooseRefusal;
-use bn_csv::NoMemory;
+use bn_lists::NoMemory;
 use bn_machine::{Machine, MachineRefusal};
 use bn_table::MOST_ENTRIES;
 use std::alloc::Global;

@@ -4,7 +4,7 @@ ghost use Rattle.std.specs.Prelude.{◌≡◌, IfOk};
 ghost use Rattle.bn_standardise.specs.Printed.{name_text};
 
 use bn_base::push_u64;
-use bn_csv::NoMemory;
+use bn_lists::NoMemory;
 use std::alloc::Global;
 
 /// A state of the machine in standard form.

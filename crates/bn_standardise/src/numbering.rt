@@ -6,7 +6,7 @@ ghost use Rattle.bn_standardise.specs.Standardised.{numbered};
 
 use crate::name::Name;
 use crate::rule::Rule;
-use bn_csv::NoMemory;
+use bn_lists::NoMemory;
 use bn_machine::Quint;
 use indexmap::IndexSet;
 use std::alloc::Global;

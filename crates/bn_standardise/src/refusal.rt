@@ -1,6 +1,6 @@
 //! Why a machine is not converted to standard form.
 
-use bn_csv::NoMemory;
+use bn_lists::NoMemory;
 
 /// Why a machine is not converted to standard form: the first of three tests, in this order, that fails. Quintuples are
 /// counted from 1.

@@ -13,7 +13,8 @@ use crate::listing::list_rules;
 use crate::name::text_of;
 use crate::refusal::LooseRefusal;
 use crate::rule::Rule;
-use bn_csv::{EntryWriter, NoMemory};
+use bn_csv::EntryWriter;
+use bn_lists::NoMemory;
 use bn_table::{Table, write_row};
 use std::alloc::Global;
 

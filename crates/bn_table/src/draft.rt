@@ -11,7 +11,8 @@ ghost use Rattle.bn_table.specs.Draft.{IsDraft, drafted};
 use crate::entry::{Fields, MOST_ENTRIES, read_fields};
 use crate::refusal::TableRefusal;
 use crate::table::{Table, place_of};
-use bn_csv::{Entry, Names, NoMemory, TableDraft};
+use bn_csv::{Entry, Names, TableDraft};
+use bn_lists::NoMemory;
 use bn_machine::{Machine, MachineRefusal, Quint};
 use std::alloc::Global;
 

@@ -9,7 +9,6 @@ mod refusal;
 mod table;
 mod text;
 
-pub use bn_csv::NoMemory;
 pub use entry::MOST_ENTRIES;
 pub use laws::table_laws;
 pub use refusal::TableRefusal;

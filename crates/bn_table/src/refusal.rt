@@ -1,6 +1,6 @@
 //! Why bytes are refused as a table.
 
-use bn_csv::NoMemory;
+use bn_lists::NoMemory;
 
 /// Why some bytes are not a table of quintuples. Entries and fields are counted from 1. The refusal names the first
 /// faulty entry, with its first fault in this order: too many entries, the count of fields, the fields from 1 to 5.

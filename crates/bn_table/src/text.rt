@@ -13,7 +13,8 @@ ghost use Rattle.bn_table.specs.declared.refusal.TableRefusal.TheVariants as ref
 use crate::draft::{into_table, new_draft};
 use crate::refusal::TableRefusal;
 use crate::table::Table;
-use bn_csv::{EntryWriter, NoMemory, read_entries};
+use bn_csv::{EntryWriter, read_entries};
+use bn_lists::NoMemory;
 use bn_machine::{Quint, Shift, text_of_shift};
 use std::alloc::Global;
 

@@ -6,7 +6,8 @@ mod call;
 mod laws;
 mod memory;
 
-pub use bn_reply::{NoMemory, Reply, Status};
+pub use bn_lists::NoMemory;
+pub use bn_reply::{Reply, Status};
 pub use call::workbench;
 pub use laws::top_laws;
 pub use memory::reply_in_memory;

@@ -9,7 +9,8 @@ ghost use Rattle.bn_top.specs.Headlines.{IsReplyTo};
 use crate::answering::answer_words;
 use bn_circuits::Watch;
 use bn_io::{SliceInput, VecSink};
-use bn_reply::{NoMemory, Reply, Status};
+use bn_lists::NoMemory;
+use bn_reply::{Reply, Status};
 use std::alloc::Global;
 
 /// Answers the arguments of a command line on an input in memory, which is not copied: the text and the status are

@@ -6,7 +6,6 @@ mod layers;
 mod module_at;
 mod viewer;
 
-pub use bn_circuits::NoMemory;
 pub use laws::view_laws;
 pub use layers::{BoardLayers, Layers, ModuleAt};
 pub use viewer::{view, view_board};

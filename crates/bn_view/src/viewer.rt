@@ -15,7 +15,8 @@ ghost use Rattle.bn_view.specs.Viewed.{IsViewOf, ShowsMachine};
 use crate::layers::{BoardLayers, Layers};
 use crate::module_at::module_at;
 use bn_bennett::Translated;
-use bn_board::{Board, NoMemory, Spelled, SpelledTape};
+use bn_board::{Board, Spelled, SpelledTape};
+use bn_lists::NoMemory;
 use bn_quad::QuadMachine;
 use std::alloc::Global;
 
