@@ -9,4 +9,4 @@ mod limits;
 
 pub use cell_line::CellLine;
 pub use laws::network_definition_laws;
-pub use limits::MOST_SYMBOLS;
+pub use limits::{MOST_DRIVE_STEPS, MOST_SYMBOLS};

@@ -21,7 +21,7 @@ use Rattle.bn_reply_builds.specs.BuildReply.{BuildReplies, IsBuiltFor, TellsBuil
 use Rattle.bn_reply_builds.specs.DriveHeadline.{IsGiven}
 use Rattle.bn_reply_builds.specs.DriveReply.{DriveReplies}
 use Rattle.bn_reply_builds.specs.Driven.{TellsDrive}
-use Rattle.bn_words.specs.declared.request.TheConstants.{MOST_DRIVE_STEPS}
+use Rattle.bn_network.specs.declared.limits.TheConstants.{MOST_DRIVE_STEPS}
 
 -- from c, if r + j steps are made and j undone, the circuit is where it was after r; after none it is at c
 abbrev pub Returns : Circuit → Config → Type 0

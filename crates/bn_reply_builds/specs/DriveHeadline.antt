@@ -36,7 +36,7 @@ use Rattle.bn_reply_builds.specs.DriveText.{drive_exit_line}
 use Rattle.bn_reply_builds.specs.Driven.{drive_status}
 use Rattle.bn_reply_builds.specs.DriveReply.{DriveReplies}
 use Rattle.bn_reply_builds.specs.Outcomes.{drive_tape_lines}
-use Rattle.bn_words.specs.declared.request.TheConstants.{MOST_DRIVE_STEPS}
+use Rattle.bn_network.specs.declared.limits.TheConstants.{MOST_DRIVE_STEPS}
 
 -- ---- what is given, and what the machine does
 

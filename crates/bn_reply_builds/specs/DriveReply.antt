@@ -10,7 +10,7 @@ use Rattle.bn_reply.specs.Answering.{IsSettled}
 use Rattle.bn_reply.specs.declared.status.Status.{Status}
 use Rattle.bn_reply_builds.specs.BuildReply.{BuiltReplies}
 use Rattle.bn_reply_builds.specs.Driven.{TellsDrive}
-use Rattle.bn_words.specs.declared.request.TheConstants.{MOST_DRIVE_STEPS}
+use Rattle.bn_network.specs.declared.limits.TheConstants.{MOST_DRIVE_STEPS}
 
 -- what `drive` answers to words on the tapes, limits, a greatest number of element steps and bytes
 abbrev pub DriveReplies : TapeWords → Limits → ℕ → List ℕ → Status → List ℕ → List Place → Type 0

@@ -21,7 +21,7 @@ use Rattle.bn_reply_relations.specs.RunText.{elements_line, quadruple_line, step
 use Rattle.bn_reply_erase.specs.EraseReply.{EraseReplies, lettered}
 use Rattle.bn_reply_builds.specs.DriveText.{drive_tape_line}
 use Rattle.bn_reply_builds.specs.DriveReply.{DriveReplies}
-use Rattle.bn_words.specs.declared.request.TheConstants.{MOST_DRIVE_STEPS}
+use Rattle.bn_network.specs.declared.limits.TheConstants.{MOST_DRIVE_STEPS}
 
 -- The bytes are two tables with machines in standard form, t and u, and the word is spelled by the symbols x of the
 -- alphabet of both.

@@ -13,7 +13,7 @@ use Rattle.bn_reply.specs.declared.status.Status.TheVariants.{Done}
 use Rattle.bn_reply_erase.specs.EraseReply.{EraseReplies}
 use Rattle.bn_reply_builds.specs.DriveReply.{DriveReplies}
 use Rattle.bn_reply_builds.specs.ErasedDrives.{AreErasedBy}
-use Rattle.bn_words.specs.declared.request.TheConstants.{MOST_DRIVE_STEPS}
+use Rattle.bn_network.specs.declared.limits.TheConstants.{MOST_DRIVE_STEPS}
 use Rattle.bn_erase_laws.specs.EraseWindows.{erasing_steps}
 use Rattle.bn_reply_builds.specs.ErasedRuns.{DriveLeaves, TablesEndIn, TablesHaltIn, erased_end}
 

@@ -25,7 +25,7 @@ use Rattle.bn_reply_builds.specs.DriveHeadline.{IsGiven}
 use Rattle.bn_reply_builds.specs.DriveReply.{DriveReplies}
 use Rattle.bn_reply_builds.specs.Driven.{drive_status}
 use Rattle.bn_reply_builds.specs.ErasedDrives.{output_lines}
-use Rattle.bn_words.specs.declared.request.TheConstants.{MOST_DRIVE_STEPS}
+use Rattle.bn_network.specs.declared.limits.TheConstants.{MOST_DRIVE_STEPS}
 use Rattle.bn_erase_laws.specs.EraseWindows.{BothHaltIn, EndsIn}
 
 -- ---- the machines

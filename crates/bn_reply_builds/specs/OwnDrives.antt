@@ -9,7 +9,7 @@ use Rattle.bn_bennett_laws.specs.Steps.{Exit}
 use Rattle.bn_reply.specs.declared.status.Status.{Status}
 use Rattle.bn_reply_builds.specs.DriveHeadline.{IsGiven, IsOwnRun, TellsDriven}
 use Rattle.bn_reply_builds.specs.DriveReply.{DriveReplies}
-use Rattle.bn_words.specs.declared.request.TheConstants.{MOST_DRIVE_STEPS}
+use Rattle.bn_network.specs.declared.limits.TheConstants.{MOST_DRIVE_STEPS}
 use Rattle.bn_boards.specs.OwnRuns.{situation_count}
 
 -- the machine's own run in the window from these words: its steps, fewer than the window has configurations, and how it

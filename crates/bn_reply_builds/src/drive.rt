@@ -22,11 +22,11 @@ use crate::{OpenedBuild, TableNames, open_build, outcome_of};
 use bn_board::Board;
 use bn_circuits::Watch;
 use bn_lists::NoMemory;
+use bn_network::MOST_DRIVE_STEPS;
 use bn_network_assembly::Windows;
 use bn_qtable::TapeWords;
 use bn_quad::{QuadNames, Uniform};
 use bn_reply::Reply;
-use bn_words::MOST_DRIVE_STEPS;
 use std::alloc::Global;
 
 /// What `drive` answers to words on the tapes, a window, a greatest number of element steps and some bytes: the

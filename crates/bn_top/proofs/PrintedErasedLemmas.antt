@@ -19,7 +19,7 @@ use Rattle.bn_reply_builds.specs.DriveReply.{DriveReplies}
 use Rattle.bn_reply_builds.specs.ErasedDrives.{AreErasedBy}
 use Rattle.bn_reply_builds.proofs.ErasedLemmas.{erased-circuits_erase}
 use Rattle.bn_words.specs.Requests.{Drive, Erase, HasForm, words_of}
-use Rattle.bn_words.specs.declared.request.TheConstants.{MOST_DRIVE_STEPS}
+use Rattle.bn_network.specs.declared.limits.TheConstants.{MOST_DRIVE_STEPS}
 use Rattle.bn_top.specs.Answers.{Answers}
 use Rattle.bn_top.proofs.CommandClauseLemmas.{request_reply}
 use Rattle.bn_top.proofs.TextLemmas.{done_reply}

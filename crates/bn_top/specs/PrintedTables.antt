@@ -16,7 +16,7 @@ use Rattle.bn_reply.specs.declared.status.Status.{Status}
 use Rattle.bn_reply.specs.declared.status.Status.TheVariants.{Done, Size, Stuck}
 use Rattle.bn_reply_builds.specs.ErasedDrives.{AreErasedBy, LeavesOutputAlone}
 use Rattle.bn_words.specs.Requests.{Bennett, Build, Compile, Drive, Erase, HasForm, Inverse, words_of}
-use Rattle.bn_words.specs.declared.request.TheConstants.{MOST_DRIVE_STEPS}
+use Rattle.bn_network.specs.declared.limits.TheConstants.{MOST_DRIVE_STEPS}
 use Rattle.bn_top.specs.Answers.{Answers}
 use Rattle.bn_erase_laws.specs.EraseWindows.{erasing_steps}
 use Rattle.bn_reply_builds.specs.ErasedRuns.{CircuitLeaves, TablesEndIn, TablesHaltIn, erased_end}

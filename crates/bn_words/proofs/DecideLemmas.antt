@@ -17,7 +17,7 @@ use Rattle.bn_words.specs.Requests.{HasForm, HasNoForm, IsAllowed, IsOrdinal, Re
 use Rattle.bn_words.specs.Requests.{Step, Back, Machine, Trace, Moments, ThreeMoments, Realise, Build, Compile, Drive}
 use Rattle.bn_words.specs.Requests.{Layout, Run, View, Session, Look, Play, Generate, Element, EraseRun, Window}
 use Rattle.bn_words.specs.Requests.{Behaviour, Crossings, Equal, IsFromOneTo}
-use Rattle.bn_words.specs.declared.request.TheConstants.{MOST_DRIVE_STEPS}
+use Rattle.bn_network.specs.declared.limits.TheConstants.{MOST_DRIVE_STEPS}
 use Rattle.bn_words.proofs.FormLemmas.{only, only_form}
 
 -- ---- whether words are the same

@@ -11,7 +11,7 @@ use Rattle.bn_words.specs.Requests.{HasNoForm, Step, Back, Machine, Trace, Momen
 use Rattle.bn_words.specs.Requests.{Build, Compile, Drive, Layout, Run, RunAuto, View, Session, Look, Play, Generate}
 use Rattle.bn_words.specs.Requests.{Element, EraseRun, Window, Behaviour, Crossings, Equal}
 use Rattle.bn_words.specs.Words.{AreNoDriveSteps, IsNoCount, IsNoNumberFromOne, IsNumber}
-use Rattle.bn_words.specs.declared.request.TheConstants.{MOST_DRIVE_STEPS}
+use Rattle.bn_network.specs.declared.limits.TheConstants.{MOST_DRIVE_STEPS}
 
 -- ---- one word
 

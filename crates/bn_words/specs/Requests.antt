@@ -11,7 +11,7 @@ use Rattle.bn_behaviour.specs.PortNames.{PortNames, port_names_of}
 use Rattle.bn_behaviour.specs.declared.bounds.TheConstants.{MOST_STATES}
 use Rattle.bn_network_assembly.specs.Assembled.{limits_of}
 use Rattle.bn_qtable.specs.TapeWords.{TapeWord, Letters, Names, TapeWords, One, Three, tape_words_of}
-use Rattle.bn_words.specs.declared.request.TheConstants.{MOST_DRIVE_STEPS}
+use Rattle.bn_network.specs.declared.limits.TheConstants.{MOST_DRIVE_STEPS}
 use Rattle.bn_words.specs.declared.request.Request as declared
 use Rattle.bn_words.specs.declared.request.ConfigurationRequest as declared_configuration
 use Rattle.bn_words.specs.declared.request.WholeRequest as declared_whole

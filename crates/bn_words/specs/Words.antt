@@ -8,7 +8,7 @@ use Rattle.bn_qtable.specs.TapeWords.{TapeWord}
 use Rattle.bn_behaviour.specs.PortNames.{PortNames}
 use Rattle.bn_words.specs.Requests.{HasForm, HasNoForm, port_arguments, request_of, word_argument}
 use Rattle.bn_words.specs.declared.request.Request as declared
-use Rattle.bn_words.specs.declared.request.TheConstants.{MOST_DRIVE_STEPS}
+use Rattle.bn_network.specs.declared.limits.TheConstants.{MOST_DRIVE_STEPS}
 
 -- the argument is the decimal text of this number, which is at most 2^62
 pub record IsNumber (word : List ℕ) (number : ℕ) : Type 0 where

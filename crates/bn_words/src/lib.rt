@@ -8,4 +8,4 @@ mod word;
 
 pub use laws::words_laws;
 pub use read::read_words;
-pub use request::{ConfigurationRequest, MOST_DRIVE_STEPS, Request, WholeRequest};
+pub use request::{ConfigurationRequest, Request, WholeRequest};

@@ -7,9 +7,6 @@ use bn_behaviour::PortNames;
 use bn_network_assembly::Windows;
 use bn_qtable::TapeWords;
 
-/// The greatest number of element steps of a drive.
-pub const MOST_DRIVE_STEPS: u64 = 1 << 61;
-
 /// What the arguments of a command line ask for, by what the command does with an input. An input word W follows the
 /// byte `=`, and a window is four numbers l1 r1 n r3: tape 1 reaches from -l1 to r1, the history holds n steps, and the
 /// output tape reaches from 0 to r3.

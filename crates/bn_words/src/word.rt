@@ -9,9 +9,9 @@ ghost use Rattle.bn_words.specs.Words.{AreDriveSteps, AreLimits, AreNoDriveSteps
 ghost use Rattle.bn_words.specs.Words.{IsNoNumber, IsNoTapeWord, IsNoWord, IsNumber, IsTapeWord, IsWord};
 ghost use Rattle.bn_words.specs.Words.{AreNoPortNames, ArePortNames, IsNoNumberFromOne, IsNumberFromOne};
 
-use crate::request::MOST_DRIVE_STEPS;
 use bn_base::{MOST_COUNT, read_u64};
 use bn_behaviour::PortNames;
+use bn_network::MOST_DRIVE_STEPS;
 use bn_network_assembly::Windows;
 use bn_qtable::TapeWord;
 
