@@ -11,11 +11,11 @@ use bn_lists::NoMemory;
 use bn_top::{Reply, Status, reply_in_memory};
 use std::alloc::Global;
 
-/// Answers arguments, which bytes 0 separate, and an input: writes the answer's text to the front of `output`, and
-/// returns the code of its status. `taken` receives the length of the whole text in bytes. If `output` has room for
-/// fewer, it is filled with a prefix of the text, and the code is 8; a call with enough room returns the answer. If
-/// memory runs out, the code is 9, `taken` receives 0, and `output` is unchanged. Arguments that are not UTF-8 are
-/// answered like no arguments.
+/// Runs the command of the arguments, which bytes 0 separate, on an input: writes the answer's text to the front of
+/// `output`, and returns the code of its status. `taken` receives the length of the whole text in bytes. If `output`
+/// has room for fewer, it is filled with a prefix of the text, and the code is 8; a call with enough room returns the
+/// answer. If memory runs out, the code is 9, `taken` receives 0, and `output` is unchanged. Arguments that are not
+/// UTF-8 have the answer of no arguments.
 #[unsafe(no_mangle)]
 pub extern "C" fn hithwelor_answer(
     alloc: Global,

@@ -48,7 +48,7 @@ AutosEndInside =
     (bytes letters : List ℕ) (status : Status) (text : List ℕ) (told : List Place)
     → AutoReplies letters bytes status text told → (status ≢ statuses.Window) × (status ≢ statuses.Inside)
 
--- ---- what a watch is told
+-- ---- the places that are reported to a watch
 
 -- the places are those of the circuit in w, after each number of steps from 1 to its cost
 pub record AreOfBoard (p : Program) (symbols : List ℕ) (w : Limits) (told : List Place) : Type 0 where

@@ -1,4 +1,4 @@
--- What the command `run` answers with the automatic window: round by round, the signal runs on the circuit of the
+-- The answer of the command `run` with the automatic window: round by round, the signal runs on the circuit of the
 -- machine and the word in a window; if it leaves by an end of a tape, the next window has this end doubled (the
 -- circuit, the windows and the text are this project's own profile). The circuits alone define it; the machine's own
 -- run is no part of it.
@@ -29,8 +29,8 @@ abbrev pub found_line : Limits → List ℕ
 found_line w = line (codes "window " ∷ decimal w.left ∷ codes " " ∷ decimal w.right ∷ codes " " ∷ decimal w.steps
     ∷ codes " " ∷ decimal w.output ∷ [])
 
--- One round: on the circuit in w the signal leaves by this end of a tape, which v has doubled. A watch is told the
--- place after each step.
+-- One round: on the circuit in w the signal leaves by this end of a tape, which v has doubled. The place after each
+-- step is reported to a watch.
 pub record IsRound (p : Program) (symbols : List ℕ) (w v : Limits) (told : List Place) : Type 0 where
   pub flat : Flat
   pub comes : ComesTo p w symbols flat
@@ -40,7 +40,7 @@ pub record IsRound (p : Program) (symbols : List ℕ) (w v : Limits) (told : Lis
   pub next : v ≡ widened w tape side
   pub told_is : told ≡ places flat.circuit (budget flat None) (flat_start flat)
 
--- this many rounds lead from w to v, and a watch is told the places of each in turn
+-- this many rounds lead from w to v, and the places of each in turn are reported to a watch
 abbrev pub MakeRounds : Program → List ℕ → ℕ → Limits → Limits → List Place → Type 0
 MakeRounds p symbols zero w v told = (w ≡ v) × (told ≡ [])
 MakeRounds p symbols (suc n) w v told =

@@ -134,7 +134,7 @@ pub record Laws : Type 0 where
   pub large_is_too_large : LargeIsTooLarge
   -- The rounds on the circuits are those of the search by the machine's own bounded runs.
   pub rounds_are_the_searchs : RoundsAreTheSearchs
-  -- For all words and bytes `run =W auto` has an answer, and only one.
+  -- For all words and bytes, `run =W auto` has exactly one answer.
   pub auto_has_one_reply : AutoIsSettled
   -- The answer reports what the search by the machine's own bounded runs finds.
   pub autos_tell_findings : AutosTellFindings

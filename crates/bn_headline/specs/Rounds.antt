@@ -22,7 +22,8 @@ use Rattle.bn_headline.specs.AutoReply.{MakeRounds, found_line}
 use Rattle.bn_headline.specs.declared.round.Round.{Round}
 use Rattle.bn_headline.specs.declared.round.Round.TheVariants.{Ended, Short}
 
--- The circuit in this window: its signal leaves by this end of a tape. A watch is told the place after each step.
+-- The circuit in this window: its signal leaves by this end of a tape. The place after each step is reported to a
+-- watch.
 pub record LeavesBy (p : Program) (symbols : List ℕ) (w : Limits) (tape : ℕ) (side : Side)
     (told : List Place) : Type 0 where
   pub flat : Flat

@@ -1,4 +1,4 @@
--- Where the run of an assembled network stops, and what its control's `stuck_of` names there.
+-- Where the run of an assembled network stops, and what its control's `stuck_of` returns there.
 use Rattle.std.specs.Prelude.{◌≡◌, ℕ, ◌<◌, List, Some, slice_get}
 use Rattle.bn_lists.specs.Runs.{Reaches}
 use Rattle.bn_circuits.specs.Situations.{Situation, Turns, IsAtEnd}
@@ -18,8 +18,8 @@ use Rattle.bn_network_laws.specs.Ends.{EndsBy, IsStoppedAt, tape_of}
 use Rattle.bn_network_assembly.specs.Assembled.{Assembled, IsAssembled, network_of}
 use Rattle.bn_headline.specs.FlattenLaws.{MayBeAssembled}
 
--- The signal is at an input line of the control, in a state, and of this pair alone `stuck_of` says that the machine of
--- quadruples is stuck: in state a, at symbol c. Both are numbers of which it may be asked.
+-- The signal is at an input port of the control, in a state, both with numbers of the control's machine; and from this
+-- pair alone `stuck_of` determines that the machine of quadruples is stuck in state a at symbol c.
 pub record IsNamedStop (v : Controlled) (s : Situation) (a c : ℕ) : Type 0 where
   pub number : ℕ
   pub line : ℕ

@@ -17,11 +17,11 @@ use bn_reply_boards::{OpenedMachine, open_machine};
 use bn_table::Table;
 use std::alloc::Global;
 
-/// What `run` with `auto` answers to a word and some bytes: whether they are a table with a machine in standard form,
-/// the word is one of its letters, and it does not have too many; and then, from the first window on, how the signal
-/// runs on the circuit of each window to its exit, until it leaves by no end of a tape, or the next circuit would have
-/// too many elements. The watch is told the places of all rounds one after another. The answer reports what the search
-/// by the machine's own bounded runs finds.
+/// The answer of `run` with `auto` to a word and some bytes: a refusal if they are not a table with a machine in
+/// standard form, the word is not one of its letters, or it has too many; otherwise, from the first window on, the run
+/// of the signal on the circuit of each window to its exit, until the signal leaves by no end of a tape, or the next
+/// circuit would have too many elements. The places of all rounds are reported to the watch, one round after another.
+/// The answer reports what the search by the machine's own bounded runs finds.
 pub fn reply_run_auto<W: Watch>(
     alloc: Global,
     word: &[u8],

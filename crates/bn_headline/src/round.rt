@@ -33,7 +33,8 @@ pub(crate) enum Round {
     Short(u32, Side),
 }
 
-// The circuit in this window runs to its exit, unless it is too large. The watch is told the place after each step.
+// Runs the circuit in this window to its exit, unless it is too large. The place after each step is reported to the
+// watch.
 pub(crate) fn run_round<W: Watch>(
     alloc: Global,
     table: &Table,

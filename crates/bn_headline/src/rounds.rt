@@ -17,9 +17,9 @@ use std::alloc::Global;
 /// The most rounds: each adds at least one element, and none is made on a circuit that is too large.
 const MOST_ROUNDS: u64 = MOST_ELEMENTS + 2;
 
-// The answer for a table's machine and a word of these symbols, by the translation of the machine: round by round, from
-// the first window on, until the signal leaves by no end of a tape or the next circuit would be too large. The watch is
-// told the places of all rounds one after another.
+// The answer for a table's machine and a word of these symbols, by the translation of the machine: round by round,
+// from the first window on, until the signal leaves by no end of a tape or the next circuit would be too large. The
+// places of all rounds are reported to the watch, one round after another.
 pub(crate) fn run_rounds<W: Watch>(
     alloc: Global,
     table: &Table,

@@ -1,5 +1,5 @@
 -- What is required of the answers of a command. A command's answers are a relation of a status, a text, and the places
--- that a watch is told.
+-- that are reported to a watch.
 use Rattle.std.specs.Prelude.{◌≡◌, ℕ, List, []}
 use Rattle.bn_circuits.specs.declared.place.Place.{Place}
 use Rattle.bn_reply.specs.Codes.{IsReplyStatus}
@@ -21,14 +21,14 @@ IsOneAnswer answers = (status other : Status) (text second : List ℕ) (told hea
 abbrev pub HasAnswer : (Status → List ℕ → List Place → Type 0) → Type 0
 HasAnswer answers = (status : Status) × (text : List ℕ) × (told : List Place) × answers status text told
 
--- There is one answer and only one, and its status is that of a reply: not usage, not a failure of the outside, and not
--- out of memory.
+-- There is exactly one answer, and its status is that of a reply: not usage, not a failure of the outside, and not out
+-- of memory.
 pub record IsSettled (answers : Status → List ℕ → List Place → Type 0) : Type 0 where
   pub some : HasAnswer answers
   pub one : IsOneAnswer answers
   pub status : (status : Status) (text : List ℕ) (told : List Place) → answers status text told → IsReplyStatus status
 
--- the answer is this text, with the status Done, and no place is told
+-- the answer is this text, with the status Done, and no place is reported
 pub record IsDone (answer : List ℕ) (status : Status) (text : List ℕ) (told : List Place) : Type 0 where
   pub done : status ≡ Done
   pub text_is : text ≡ answer

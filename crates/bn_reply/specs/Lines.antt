@@ -31,7 +31,7 @@ fault_line (faults.TooMany i) = record_line i (codes "too many")
 fault_line faults.Empty = empty_line
 fault_line faults.NoMemory = []
 
--- the line of a condition of standard form that is not met: S1 to S5 in their order, with the numbers of the quintuples
+-- the line of a condition of standard form that fails: S1 to S5 in their order, with the numbers of the quintuples
 -- that show it, counted from 1
 abbrev pub why_line : Why → List ℕ
 why_line (whys.Repeat i j) = line (codes "machine: S1 " ∷ decimal i ∷ codes " " ∷ decimal j ∷ [])
@@ -41,7 +41,7 @@ why_line whys.Last = line (codes "machine: S4" ∷ [])
 why_line (whys.FinalUsed i) = line (codes "machine: S5 " ∷ decimal i ∷ [])
 why_line whys.NoMemory = []
 
--- the line of the first place of a word, counted from 1, that has no letter of the table or has the blank's
+-- the line of the first place of a word, counted from 1, whose byte is not a letter of the table or is the blank's
 abbrev pub foreign_line : ℕ → List ℕ
 foreign_line p = line (codes "word: " ∷ decimal p ∷ [])
 
@@ -49,11 +49,11 @@ foreign_line p = line (codes "word: " ∷ decimal p ∷ [])
 abbrev pub long_line : ℕ → List ℕ
 long_line count = line (codes "size: word needs " ∷ decimal count ∷ [])
 
--- the line of a machine's run that goes on after this many steps
+-- the line of a machine's run that has not ended after this many steps
 abbrev pub running_line : ℕ → List ℕ
 running_line n = line (codes "running " ∷ decimal n ∷ [])
 
--- a position in decimal digits, with a sign where it is below 0
+-- a position in decimal digits, with a sign if it is below 0
 abbrev pub position_text : ℤ → List ℕ
 position_text (pos n) = decimal n
 position_text (negsuc n) = codes "-" ++ decimal (suc n)

@@ -29,7 +29,7 @@ pub record Gave (before after : Outside) (text : List ℕ) (places : List Place)
   pub grows : Grows before.taken after.taken text
   pub hears : Hears before.told places after.told
 
--- No count of failures falls, and each is what it was unless the call fails for it: in reading, or in writing.
+-- No count of failures falls, and each is unchanged unless the call fails in that way: in reading, or in writing.
 pub record IsLater (fails_reading fails_writing : Type 0) (before after : Outside) : Type 0 where
   pub read : CountsUnless fails_reading before.read_faults after.read_faults
   pub write : CountsUnless fails_writing before.write_faults after.write_faults

@@ -12,7 +12,7 @@ pub record IsReplied (replies : Status → List ℕ → List Place → Type 0) (
   pub right : replies reply.status reply.text.items places
   pub hears : Hears told places heard
 
--- no reply, since memory ran out: no place was told, or the first places of the answer
+-- no reply, since memory ran out: the watch heard no place, or the first places of the answer
 pub data IsUnfinished (replies : Status → List ℕ → List Place → Type 0)
     (told heard : Option (List Place)) : Type 0 where
   untold : Hears told [] heard → IsUnfinished replies told heard

@@ -1,5 +1,5 @@
--- How a command ends that gives its answer to a sink, whole or in pieces, and how one does that also reads its input
--- from a source. Here `replies` is what the command answers to an input.
+-- How a command ends that gives its answer to a sink, whole or in pieces, and how one ends that also reads its input
+-- from a source. Here `replies` relates an input to the command's answer.
 use Rattle.std.specs.Prelude.{◌≡◌, ℕ, ◌≤◌, List, [], ◌∷◌, ◌++◌, length, Option, codes}
 use Rattle.bn_circuits.specs.declared.place.Place.{Place}
 use Rattle.bn_io.specs.Faults.{Rose}
@@ -56,21 +56,21 @@ pub data Input : Type 0 where
   Failed : Input
   Unread : Input
 
--- what the source did for it
+-- what the source does in that case
 abbrev pub Gives : Input → Outside → Outside → Type 0
 Gives (Whole bytes) before after = GaveAll before.left after.left bytes × (length bytes ≤ MOST_INPUT_BYTES)
 Gives TooLong before after = GaveMore before.left after.left MOST_INPUT_BYTES
 Gives Failed before after = Rose before.read_faults after.read_faults
 Gives Unread before after = Unit {0}
 
--- this line was given, with this status, or the sink failed in it; and no place was told
+-- this line was given, with this status, or the sink failed in it; and the watch heard no place
 abbrev pub TellsLine : Status → List ℕ → Status → Outside → Outside → Type 0
 TellsLine status text result before after =
     Finishes status result before.taken after.taken before.write_faults after.write_faults text
     × Hears before.told [] after.told
 
--- how the command ends then: in its answer to the bytes; in the line that says why they were not read; or before
--- anything was given
+-- how the command ends after this result: with its answer to the bytes; with the line that says why they were not
+-- read; or before anything was given
 abbrev pub EndsAfter : Input → (List ℕ → Status → List ℕ → List Place → Type 0) → Status → Outside → Outside → Type 0
 EndsAfter (Whole bytes) replies result before after =
     AnswerEnds (replies bytes) result before.taken after.taken before.write_faults after.write_faults

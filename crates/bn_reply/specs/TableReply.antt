@@ -27,7 +27,8 @@ pub record TellsFirst {T F : Type 0} (IsReading : T → Type 0) (found : Option 
 abbrev pub TellsFault : List ℕ → List ℕ → Type 0
 TellsFault bytes text = TellsFirst (Reads bytes) (table_fault (entries_of bytes)) fault_line text
 
--- The answer to these bytes, where `tells` is the answer to a table: the fault of bytes that are no table, or that.
+-- The answer to these bytes, where `tells` is the answer to a table: the first fault if the bytes are not a table, or
+-- else that answer.
 pub data TableReplies (tells : Named → Status → List ℕ → List Place → Type 0) (bytes : List ℕ) (status : Status)
     (text : List ℕ) (told : List Place) : Type 0 where
   faulty : TellsFault bytes text → status ≡ statuses.Text → told ≡ [] → TableReplies tells bytes status text told
@@ -41,8 +42,8 @@ pub record TellsWhy (t : Named) (text : List ℕ) : Type 0 where
   pub said : why ≢ whys.NoMemory
   pub told : text ≡ why_line why
 
--- The answer to a table, where `tells` is the answer if its machine is in standard form: the condition that it does not
--- meet, or that.
+-- The answer to a table, where `tells` is the answer if its machine is in standard form: the first condition that the
+-- machine does not meet, or else that answer.
 pub data JudgedReplies (tells : Status → List ℕ → List Place → Type 0) (t : Named) (status : Status) (text : List ℕ)
     (told : List Place) : Type 0 where
   unfit : TellsWhy t text → status ≡ statuses.Machine → told ≡ [] → JudgedReplies tells t status text told
@@ -54,7 +55,7 @@ abbrev pub StandardReplies : (Named → Status → List ℕ → List Place → T
 StandardReplies tells = TableReplies (λ t. JudgedReplies (tells t) t)
 
 -- The answer to a word, where `tells` is the answer to the symbols that spell it: the first place that is foreign, or
--- that.
+-- else that answer.
 pub data WordReplies (tells : List ℕ → Status → List ℕ → List Place → Type 0) (t : Named) (word : List ℕ)
     (status : Status) (text : List ℕ) (told : List Place) : Type 0 where
   foreign : (p : ℕ) → IsFirstForeign t word p → text ≡ foreign_line p → status ≡ statuses.Word → told ≡ [] →

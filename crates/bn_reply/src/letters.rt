@@ -11,7 +11,7 @@ use bn_table::Table;
 /// The blank's letter.
 const BLANK: u8 = b'_';
 
-/// The symbol of a byte, `None` exactly where it is no letter of the table or is the blank's.
+/// The symbol of a byte, or `None` exactly if the byte is not a letter of the table or is the blank's letter.
 pub(crate) fn symbol_of(table: &Table, byte: u8) -> Option<u32>
     ensures { MatchOption result (¬ IsLetterOf table.now byte) (IsSymbolOf table.now byte) }
 {
@@ -22,7 +22,7 @@ pub(crate) fn symbol_of(table: &Table, byte: u8) -> Option<u32>
     Some(symbol)
 }
 
-/// Appends the letters of some symbols. After `NoMemory` the letters of the first of them may stand behind the text.
+/// Appends the letters of some symbols. After `NoMemory` the text may end with the letters of the first symbols.
 pub fn push_letters(text: &mut Vec<u8>, table: &Table, symbols: &[u32]) -> Result<(), NoMemory>
     requires { All (λ symbol. symbol < table.now.machine.symbols) symbols.now }
     ensures added { OnOk result (text.new.items ≡ text.old.items ++ letters_of table.now symbols.now) }

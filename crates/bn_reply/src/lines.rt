@@ -46,7 +46,7 @@ pub(crate) fn fault_text(alloc: Global, refusal: TableRefusal) -> Result<Vec<u8>
     }
 }
 
-/// The line of a demand of standard form that isn't met.
+/// The line of a condition of standard form that fails.
 pub fn why_text(alloc: Global, refusal: Why) -> Result<Vec<u8>, NoMemory>
     ensures { IfOk result (λ text. (refusal ≢ whys.NoMemory) × (text.items ≡ why_line refusal)) }
 {

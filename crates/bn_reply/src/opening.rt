@@ -1,5 +1,5 @@
-//! The input of the commands that take a table in standard form, and a word of its letters: each is opened,
-//! or what is answered where there is none.
+//! The input of commands that take a table in standard form and a word of its letters: each function returns the
+//! opened value, or the answer if there is none.
 
 ghost use Rattle.std.specs.Prelude.{◌≡◌, IfOk};
 ghost use Rattle.bn_table.specs.Rows.{FitsTable};
@@ -15,30 +15,30 @@ use bn_machine::{Standard, check};
 use bn_table::{Table, read_quints};
 use std::alloc::Global;
 
-/// A table, or the answer to bytes that are none.
+/// A table, or the answer to bytes that are not one.
 #[derive(Drop)]
 pub enum OpenedTable {
     /// The bytes' table.
     Read(Table),
-    /// What is answered where there is none.
+    /// The answer if the bytes are not a table.
     Refused(Reply),
 }
 
-/// A table's machine in standard form, or the answer where it isn't in that form.
+/// A table's machine in standard form, or the answer if it is not in that form.
 #[derive(Drop)]
 pub enum Judged<'a> {
     /// The machine.
     Standard(Standard<'a>),
-    /// What is answered where it isn't in standard form.
+    /// The answer if the machine is not in standard form.
     Refused(Reply),
 }
 
-/// The symbols of a word, or the answer to a word that has none.
+/// The symbols of a word, or the answer if one of its letters is not allowed.
 #[derive(Drop)]
 pub enum OpenedWord {
     /// The symbols of the word's letters, none of which is the blank.
     Symbols(Vec<u32>),
-    /// What is answered to a word with another letter.
+    /// The answer if the word has another letter.
     Refused(Reply),
 }
 
@@ -56,8 +56,8 @@ pub fn open_table(alloc: Global, bytes: &[u8]) -> Result<OpenedTable, NoMemory>
     }
 }
 
-/// Tests the standard form of a table's machine. What is handed on keeps that the machine passed. Its contract also
-/// tells that the machine is within the limits of tables.
+/// Tests the standard form of a table's machine. The returned value records that the machine passed. The contract also
+/// says that the machine is within the limits of tables.
 pub fn judge_table(alloc: Global, table: &Table) -> Result<Judged<'_>, NoMemory>
     ensures judged { IfOk result (IsJudged table.now) }
     ensures fits { FitsTable table.now.machine }
@@ -85,7 +85,7 @@ pub fn open_word(alloc: Global, table: &Table, word: &[u8]) -> Result<OpenedWord
     Ok(OpenedWord::Symbols(symbols))
 }
 
-/// The answer that a word's letter at this place, counted from 1, is none that it may have.
+/// The answer that the letter of a word at this place, counted from 1, is not allowed.
 pub fn foreign_letter(alloc: Global, place: usize) -> Result<Reply, NoMemory>
     ensures status { IfOk result (λ r. r.status ≡ Status.Word) }
     ensures text { IfOk result (λ r. r.text.items ≡ foreign_line place) }
@@ -96,7 +96,7 @@ pub fn foreign_letter(alloc: Global, place: usize) -> Result<Reply, NoMemory>
     })
 }
 
-/// The answer that a word of so many letters is too long.
+/// The answer that a word of this many letters is too long.
 pub fn too_long(alloc: Global, letters: usize) -> Result<Reply, NoMemory>
     ensures status { IfOk result (λ r. r.status ≡ Status.Size) }
     ensures text { IfOk result (λ r. r.text.items ≡ long_line letters) }

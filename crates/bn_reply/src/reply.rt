@@ -1,4 +1,4 @@
-//! What a command answers.
+//! The reply of a command.
 
 ghost use Rattle.std.specs.Prelude.{◌≡◌};
 
@@ -14,7 +14,7 @@ pub struct Reply {
 }
 
 impl Reply {
-    /// The reply that says by this line that the input has no reading.
+    /// The reply with this line, which says that the input has no reading.
     pub fn of_fault(line: Vec<u8>) -> Reply
         ensures { result ≡ record { text = line; status = Status.Text } }
     {

@@ -14,7 +14,7 @@ pub enum Status {
     Text,
     /// The input's machine is not one that the command takes.
     Machine,
-    /// The word has a letter that is none of the machine's.
+    /// The word has a letter that is not one of the machine's.
     Word,
     /// The input, the word, the circuit, or the machine to be made, in quintuples or quadruples, is too large.
     Size,
@@ -33,7 +33,7 @@ pub enum Status {
 }
 
 impl Status {
-    /// The exit code of a program that ends so.
+    /// The exit code of a program that ends with this status.
     pub fn code(&self) -> u8
         ensures { result ≡ code_of self.now }
     {

@@ -1,4 +1,5 @@
--- What the command `behaviour` answers: the table of the reversible sequential machine that a circuit is (Morita 2017).
+-- The answer of the command `behaviour`: the table of the reversible sequential machine that a circuit is (Morita
+-- 2017).
 use Rattle.std.specs.Prelude.{ℕ, ◌≤◌, List, Option, map}
 use Rattle.bn_circuits.specs.declared.place.Place.{Place}
 use Rattle.bn_csv.specs.Lines.{lines_of}
@@ -15,11 +16,11 @@ use Rattle.bn_reply_behaviours.specs.ExploringReply.{ExploringReplies}
 abbrev pub behaviour_text : Ports → List CountedMove → List ℕ
 behaviour_text ports moves = lines_of (entries_by (map machine_move moves))
 
--- for so many states and element steps of a crossing at most, and the names of ports, if any
+-- for at most this many states, this many element steps of a crossing, and the names of ports, if any
 abbrev pub BehaviourReplies : ℕ → ℕ → Option PortNames → List ℕ → Status → List ℕ → List Place → Type 0
 BehaviourReplies = ExploringReplies behaviour_text
 
--- it has one answer to all limits, names and bytes
+-- for all limits, names and bytes, it has exactly one answer
 abbrev pub BehaviourIsSettled : Type 0
 BehaviourIsSettled =
     (most_states most_steps : ℕ) (names : Option PortNames) (bytes : List ℕ) → 1 ≤ most_states

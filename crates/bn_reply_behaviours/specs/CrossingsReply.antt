@@ -1,4 +1,4 @@
--- What the command `crossings` answers: the crossings of a circuit, a line for each entry of its behaviour (this
+-- The answer of the command `crossings`: the crossings of a circuit, a line for each entry of its behaviour (this
 -- project's own profile).
 use Rattle.std.specs.Prelude.{ℕ, ◌+◌, ◌≤◌, List, [], ◌∷◌, ◌++◌, Option, codes, decimal, slice_index_or}
 use Rattle.bn_circuits.specs.declared.line.Line.{Line}
@@ -30,11 +30,11 @@ abbrev pub crossings_text : Ports → List CountedMove → List ℕ
 crossings_text ports [] = []
 crossings_text ports (m ∷ ms) = crossing_line ports m ++ crossings_text ports ms
 
--- for so many states and element steps of a crossing at most, and the names of ports, if any
+-- for at most this many states, this many element steps of a crossing, and the names of ports, if any
 abbrev pub CrossingsReplies : ℕ → ℕ → Option PortNames → List ℕ → Status → List ℕ → List Place → Type 0
 CrossingsReplies = ExploringReplies crossings_text
 
--- it has one answer to all limits, names and bytes
+-- for all limits, names and bytes, it has exactly one answer
 abbrev pub CrossingsIsSettled : Type 0
 CrossingsIsSettled =
     (most_states most_steps : ℕ) (names : Option PortNames) (bytes : List ℕ) → 1 ≤ most_states

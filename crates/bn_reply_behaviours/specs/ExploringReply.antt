@@ -1,5 +1,5 @@
--- What the commands answer that explore the circuit of a configuration text (this project's own profile; Morita 2017
--- for the sequential machine that a circuit is).
+-- The answers of the commands that explore the circuit of a configuration text (this project's own profile; Morita
+-- 2017 for the sequential machine that a circuit is).
 use Rattle.std.specs.Prelude.{◌≡◌, ◌≢◌, ℕ, ◌+◌, ◌<◌, List, [], ◌∷◌, Option, codes, decimal, length}
 use Rattle.bn_circuits.specs.Circuits.{Circuit}
 use Rattle.bn_circuits.specs.declared.place.Place.{Place}
@@ -45,7 +45,7 @@ pub data CircuitAnswers (k : Circuit) (start : List ℕ) (names : Option PortNam
       → IsFound k ports bounds start states moves → 0 < length moves → text ≡ form ports moves
       → status ≡ statuses.Done → told ≡ [] → CircuitAnswers k start names bounds form status text told
 
--- What such a command answers: the first fault of bytes that are no configuration text, or the answer for the circuit
+-- The answer of such a command: the first fault of bytes that are no configuration text, or the answer for the circuit
 -- in the states of its bars. The place of the signal, the start and the end are not used.
 pub data ExploringReplies (form : Ports → List CountedMove → List ℕ) (most_states most_steps : ℕ)
     (names : Option PortNames) (bytes : List ℕ) (status : Status) (text : List ℕ) (told : List Place) : Type 0 where

@@ -1,5 +1,5 @@
--- What the names of ports mean (this project's own profile). A name is that of a port as configuration texts write it:
--- the element's number, a point, and one of the letters n, e, s and w.
+-- The meaning of the names of ports (this project's own profile). A name is that of a port as configuration texts
+-- write it: the element's number, a point, and one of the letters n, e, s and w.
 use Rattle.std.specs.Prelude.{◌≡◌, ℕ, ◌+◌, List, [], ◌∷◌, Option, None, Some, codes, decimal, map, slice_get, take}
 use Rattle.bn_lists.specs.Lists.{Has}
 use Rattle.bn_circuits.specs.Circuits.{Circuit}
@@ -23,8 +23,8 @@ pub record AreNamed (free : Line → Type 0) (names : List (List ℕ)) (ports : 
   pub each : (l : Line) → Has ports l → free l
   pub once : StandOnce ports
 
--- The names before the p-th, counted from 1, name free ports, each once; the p-th is that of no free port, or stands
--- among those before it.
+-- The names before the p-th, counted from 1, name free ports, each once; the p-th is not that of a free port, or names
+-- a port that is named before.
 pub record IsMisnamed (free : Line → Type 0) (names : List (List ℕ)) (p : ℕ) : Type 0 where
   pub before : ℕ
   pub place : p ≡ before + 1
@@ -36,28 +36,28 @@ pub record IsMisnamed (free : Line → Type 0) (names : List (List ℕ)) (p : �
 
 -- ---- both lists
 
--- The ports that are lines: where none are named, all free ports in rising order; else those that are named.
+-- The ports that are lines: if none are named, all free ports in rising order; otherwise those that are named.
 abbrev pub ArePortsFor : Circuit → Option PortNames → Ports → Type 0
 ArePortsFor k None ports = AreAllPorts k ports
 ArePortsFor k (Some names) ports =
     AreNamed (IsFreeInput k) (names_in names.inputs) ports.inputs
     × AreNamed (IsFreeOutput k) (names_in names.outputs) ports.outputs
 
--- the lines that tell the first wrong name among those of the input ports, and of the output ports, counted from 1
+-- the lines that report the first wrong name among those of the input ports, and of the output ports, counted from 1
 abbrev pub input_line : ℕ → List ℕ
 input_line p = line (codes "word: in " ∷ decimal p ∷ [])
 
 abbrev pub output_line : ℕ → List ℕ
 output_line p = line (codes "word: out " ∷ decimal p ∷ [])
 
--- The text tells the first wrong name of the input ports; or, where these are named, that of the output ports.
+-- The text reports the first wrong name of the input ports; or, if these are all right, that of the output ports.
 pub data TellsMisnamed (k : Circuit) (names : PortNames) (text : List ℕ) : Type 0 where
   wrong_input : (p : ℕ) → IsMisnamed (IsFreeInput k) (names_in names.inputs) p → text ≡ input_line p
       → TellsMisnamed k names text
   wrong_output : (inputs : List Line) (p : ℕ) → AreNamed (IsFreeInput k) (names_in names.inputs) inputs
       → IsMisnamed (IsFreeOutput k) (names_in names.outputs) p → text ≡ output_line p → TellsMisnamed k names text
 
--- where none are named, no name is wrong
+-- if no ports are named, no name is wrong
 abbrev pub HasMisnamed : Circuit → Option PortNames → List ℕ → Type 0
 HasMisnamed k None text = ⊥
 HasMisnamed k (Some names) text = TellsMisnamed k names text

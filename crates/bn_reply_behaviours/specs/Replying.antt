@@ -1,4 +1,4 @@
--- What the functions of this crate answer, in the code's own terms.
+-- The results of the functions of this crate, in the code's own terms.
 use Rattle.std.specs.Prelude.{◌≡◌, ℕ, ◌<◌, ◌++◌, ◌∷◌, [], Bool, true, false, List, Option, length}
 use Rattle.bn_lists.specs.Lists.{Has}
 use Rattle.bn_circuits.specs.Circuits.{Circuit, source, target}
@@ -34,7 +34,7 @@ abbrev pub end_of : Circuit → Side → Line → Option Line
 end_of k Input l = source k.wires l
 end_of k Output l = target k.wires l
 
--- what names are read as: the ports that they name, or the place of the first wrong one
+-- the result of reading names: the ports that they name, or the place of the first wrong one
 abbrev pub IsNaming : Circuit → Side → List (List ℕ) → Naming → Type 0
 IsNaming k side names (Named ports) = AreNamed (IsFree k side) names ports
 IsNaming k side names (Misnamed place) = IsMisnamed (IsFree k side) names place
@@ -54,12 +54,12 @@ pub record IsAdded (free : Line → Type 0) (name : List ℕ) (old new : List Li
   pub fresh : Has old port → ⊥
   pub added : new ≡ old ++ port ∷ []
 
--- it is added, or it is that of no free port, or of one that stands there, and nothing has changed
+-- it is added; or it is not that of a free port, or names a port of the list, and nothing has changed
 abbrev pub IsAddedIf : (Line → Type 0) → List ℕ → List Line → List Line → Bool → Type 0
 IsAddedIf free name old new true = IsAdded free name old new
 IsAddedIf free name old new false = (new ≡ old) × ((l : Line) → free l → name ≡ line_text l → Has old l)
 
--- the ports that are lines, or the line that tells the first wrong name
+-- the ports that are lines, or the line that reports the first wrong name
 abbrev pub AreLines : Circuit → Option PortNames → Lines → Type 0
 AreLines k names (lines.Ports ports) = ArePortsFor k names ports
 AreLines k names (lines.Refused reply) = (reply.status ≡ statuses.Word) × HasMisnamed k names reply.text.items
@@ -69,7 +69,7 @@ abbrev pub form_text : Form → Ports → List CountedMove → List ℕ
 form_text Table = behaviour_text
 form_text Crossings = crossings_text
 
--- the entry's ports are there, and each is one of the four of its element
+-- the entry's ports exist, and each is one of the four of its element
 pub record IsNamedBy (ports : Ports) (m : CountedMove) : Type 0 where
   pub input : m.line < length ports.inputs
   pub output : m.out < length ports.outputs

@@ -17,9 +17,9 @@ use bn_reply::{MOST_INPUT_BYTES, Status, give_reply};
 use bn_reply_circuits::refuse_input;
 use std::alloc::Global;
 
-/// Answers `behaviour`: reads a configuration text of either version, explores its circuit from the states of its
-/// bars, and gives the sink the table of the sequential machine that it is, with all its free ports as lines, or
-/// those that are named. It tells no watch anything.
+/// The command `behaviour`: reads a configuration text of either version, explores its circuit from the states of its
+/// bars, and writes to the sink the table of the sequential machine that the circuit is, with all its free ports as
+/// lines, or those that are named. It reports nothing to a watch.
 pub fn answer_behaviour<I: Input, K: Sink>(
     alloc: Global,
     most_states: u32,

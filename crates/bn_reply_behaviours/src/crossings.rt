@@ -17,9 +17,9 @@ use bn_reply::{MOST_INPUT_BYTES, Status, give_reply};
 use bn_reply_circuits::refuse_input;
 use std::alloc::Global;
 
-/// Answers `crossings`: reads a configuration text of either version, explores its circuit from the states of its
-/// bars, and gives the sink a line for each entry of its behaviour, with the ports and the element steps. It tells no
-/// watch anything.
+/// The command `crossings`: reads a configuration text of either version, explores its circuit from the states of its
+/// bars, and writes to the sink a line for each entry of its behaviour, with the ports and the element steps. It
+/// reports nothing to a watch.
 pub fn answer_crossings<I: Input, K: Sink>(
     alloc: Global,
     most_states: u32,

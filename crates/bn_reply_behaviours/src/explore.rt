@@ -48,7 +48,7 @@ pub(crate) fn explore_net(
     }
 }
 
-// The answer that tells these entries.
+// The answer that prints these entries.
 fn write_entries(
     alloc: Global,
     ports: &Ports,

@@ -1,4 +1,4 @@
-//! The ports that are the lines of a behaviour, as they are asked for.
+//! The ports that are the lines of a behaviour, as the arguments name them.
 
 ghost use Rattle.std.specs.Prelude.{◌≡◌, ◌≤◌, IfOk, Some, length, option_map};
 ghost use Rattle.bn_circuits.specs.RotaryNets.{rotary_circuit};

@@ -19,7 +19,7 @@ use std::alloc::Global;
 const COMMA: u8 = b',';
 
 /// Reads the names of free ports of one side, with a comma between two: the ports, or the place of the first name that
-/// is not that of a free port, or is that of one which is named already.
+/// is not that of a free port or names a port again.
 pub(crate) fn read_names(
     alloc: Global,
     net: &Net<Rotary>,
@@ -67,8 +67,8 @@ fn read_last(
     Ok(Naming::Named(ports))
 }
 
-// Adds the free port with a name. `false` exactly if no free port has it, or the port stands there; then nothing has
-// changed.
+// Adds the free port with a name. `false` exactly if no free port has the name, or the port is in the list already;
+// then nothing has changed.
 fn add_named(
     net: &Net<Rotary>,
     side: Side,

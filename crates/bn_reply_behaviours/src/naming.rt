@@ -1,4 +1,4 @@
-//! What the names of ports are read as.
+//! The result of reading the names of ports.
 
 use bn_behaviour::PortList;
 
@@ -7,7 +7,7 @@ use bn_behaviour::PortList;
 pub(crate) enum Naming {
     /// The ports.
     Named(PortList),
-    /// The first name, counted from 1, that is not that of a free port, or is that of one which is named already.
+    /// The first name, counted from 1, that is not that of a free port or names a port again.
     Misnamed {
         /// Its place.
         place: u32,

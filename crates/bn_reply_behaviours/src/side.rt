@@ -19,7 +19,7 @@ pub(crate) enum Side {
     Output,
 }
 
-// Where the wire of a port of this side leads from or to.
+// The other end of the wire of a port of this side, if it has a wire.
 fn end_at(net: &Net<Rotary>, side: Side, port: bn_circuits::Line) -> Option<bn_circuits::Line>
     requires element { port.element < length net.now.elements }
     requires line { port.line < 4 }

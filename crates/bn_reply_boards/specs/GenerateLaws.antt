@@ -13,7 +13,7 @@ use Rattle.bn_reply_relations.specs.Windows.{ComesTo}
 use Rattle.bn_reply_relations.specs.ToldRuns.{ComesOutOn, IsGiven, TellsOutcome}
 use Rattle.bn_reply_boards.specs.GenerateReply.{GenerateReplies, digits, number, title, window}
 
--- `generate` has one answer to each number of increments
+-- for each number of increments, `generate` has exactly one answer
 abbrev pub GenerateIsSettled : Type 0
 GenerateIsSettled = (k : ℕ) → IsRoundCount k → IsSettled (GenerateReplies k)
 

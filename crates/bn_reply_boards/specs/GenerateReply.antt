@@ -1,4 +1,4 @@
--- What the command `generate` answers: the run of the machine of k increments on a number, in a window that is just
+-- The answer of the command `generate`: the run of the machine of k increments on a number, in a window that is just
 -- large enough (the machine and the window are this project's own example).
 use Rattle.std.specs.Prelude.{◌≡◌, ℕ, ◌+◌, ◌*◌, List, [], ◌∷◌, ◌++◌, None, codes, decimal}
 use Rattle.bn_circuits.specs.declared.place.Place.{Place}
@@ -24,7 +24,7 @@ window k = record { left = 0; right = 5; steps = 10 * k + 1; output = 5 }
 abbrev pub title : ℕ → List ℕ
 title k = line (codes "increments " ∷ decimal k ∷ [])
 
--- the first line, followed by what `run` answers to the machine's table, that number and that window
+-- the first line, followed by the answer of `run` to the machine's table, that number and that window
 pub record GenerateReplies (k : ℕ) (status : Status) (text : List ℕ) (told : List Place) : Type 0 where
   pub ran : List ℕ
   pub runs : RunReplies None number (window k) (increments_text k) status ran told

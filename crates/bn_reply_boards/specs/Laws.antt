@@ -2,7 +2,7 @@
 use Rattle.bn_reply_boards.specs.GenerateLaws.{GenerateIsSettled, GeneratedTablesAreGiven, GeneratedRunsTellOutcomes}
 
 pub record Laws : Type 0 where
-  -- For each number of increments `generate` has an answer, and only one.
+  -- For each number of increments, `generate` has exactly one answer.
   pub generate_has_one_reply : GenerateIsSettled
   -- The text whose run is reported is that of the machine of k increments, in standard form, and the number is a word
   -- of its letters.

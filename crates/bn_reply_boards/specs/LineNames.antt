@@ -1,4 +1,4 @@
--- The names of the lines of cells and of the control (this project's own profile).
+-- The names of the ports of cells and of the control (this project's own profile).
 use Rattle.std.specs.Prelude.{ℕ, ◌+◌, ◌-◌, ◌==◌, ◌≤◌, nat_lt, if◌then◌else◌, List, [], ◌∷◌, ◌++◌, codes, decimal}
 use Rattle.std.specs.Prelude.{slice_index}
 use Rattle.bn_network.specs.declared.cell_line.CellLine.{CellLine}
@@ -7,7 +7,7 @@ use Rattle.bn_network.specs.Controls.{lines_before}
 use Rattle.bn_network.specs.declared.limits.TheConstants.{MOST_SYMBOLS}
 use Rattle.bn_reply_boards.specs.declared.line_names.SymbolCounts.{SymbolCounts}
 
--- the name of a cell's input line
+-- the name of a cell's input port
 abbrev pub cell_line_text : CellLine → List ℕ
 cell_line_text lines.Read = codes "Rd"
 cell_line_text (lines.Write u) = codes "W " ++ decimal u
@@ -26,11 +26,11 @@ answer_line z o =
     if nat_lt o z then lines.Answer o else if o == z then lines.DoneWrite
     else if o == z + 1 then lines.DoneRight else lines.DoneLeft
 
--- the name of the control's line by which tape t answers so
+-- the name of the control's port by which tape t returns this answer
 abbrev pub answer_text : CellLine → ℕ → List ℕ
 answer_text answer t = cell_line_text answer ++ (codes " " ++ decimal t)
 
--- the name of the control's input line i, counted from 0, where the tapes have so many symbols
+-- the name of the control's input port i, counted from 0, if the tapes have these numbers of symbols
 abbrev pub control_line_text : List ℕ → ℕ → List ℕ
 control_line_text zs i =
     if i == 0 then codes "Start"
@@ -42,6 +42,6 @@ control_line_text zs i =
 abbrev pub counts_in : SymbolCounts → List ℕ
 counts_in z = z.one ∷ z.two ∷ z.three ∷ []
 
--- none of them is greater than that of a tape whose cells may tell its symbols apart
+-- each is at most the greatest number of symbols of a tape whose cells can distinguish them
 abbrev pub AreFew : SymbolCounts → Type 0
 AreFew z = (z.one ≤ MOST_SYMBOLS) × (z.two ≤ MOST_SYMBOLS) × (z.three ≤ MOST_SYMBOLS)

@@ -19,8 +19,8 @@ pub record IsShown (f : Flat) (m : Translation) (b : Flattened) : Type 0 where
   pub layout : f.layout ≡ b.layout
   pub elements : size f.network.tables ≡ length b.net.elements
 
--- The state is one of the translation's, and if the one-tape machine is in a state then, that is one of the table's; so
--- is the symbol.
+-- The state is one of the translation's, and if the one-tape machine is in a state then, that state is one of the
+-- table's; the symbol is one of the table's, too.
 pub record IsKnownStuck (t : Named) (m : Translation) (a c : ℕ) : Type 0 where
   pub state : a < m.machine.states
   pub named : (j : ℕ) → machine_state_by m.final_state (name_of m a) ≡ AtState j → j < t.machine.states

@@ -21,9 +21,9 @@ use bn_reply::Status;
 use bn_reply_circuits::Unwritten;
 use std::alloc::Global;
 
-/// Answers `compile` to a word, a window and some bytes: whether they are a table with a machine in standard form, the
-/// word is one of its letters and fits, and the circuit does not have too many elements; and then gives the sink the
-/// configuration text of the circuit at its start, in version 2 and in pieces.
+/// The command `compile` for a word, a window and some bytes: tests whether the bytes are a table with a machine in
+/// standard form, the word is one of its letters and fits, and the circuit does not have too many elements; and then
+/// writes the configuration text of the circuit at its start to the sink, in version 2 and in pieces.
 pub fn answer_compile<K: Sink>(
     alloc: Global,
     word: &[u8],

@@ -19,9 +19,9 @@ use std::alloc::Global;
 /// The number, in binary, to which the machine adds one k times.
 const NUMBER: &[u8] = b"1011";
 
-/// What `generate` answers to a number of increments, from 1 to 4: a line with it, and then how the signal runs on the
-/// circuit of the machine of k increments and the word 1011, in a window of no cell left of cell 0, five right of it,
-/// 10k + 1 steps, and an output of five cells. The watch is told the place after each step.
+/// The answer of `generate` to a number of increments, from 1 to 4: a line with the number, and then the run of the
+/// signal on the circuit of the machine of k increments and the word 1011, in a window of no cell left of cell 0, five
+/// right of it, 10k + 1 steps, and an output of five cells. The place after each step is reported to the watch.
 pub fn reply_generate<W: Watch>(alloc: Global, k: u32, watch: &mut W) -> Result<Reply, NoMemory>
     requires { IsRoundCount k }
     ensures replied { IfOk result (λ r. IsReplied (GenerateReplies k) r (W.told watch.old) (W.told watch.new)) }

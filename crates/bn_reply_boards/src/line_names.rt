@@ -1,4 +1,4 @@
-//! The names of the lines of cells and of the control.
+//! The names of the ports of cells and of the control.
 
 ghost use Rattle.std.specs.Prelude.{◌≡◌, ◌<◌, ◌++◌, OnOk, OnErr};
 ghost use Rattle.bn_bennett_laws.specs.List.{symbols_of};
@@ -12,7 +12,7 @@ use bn_network::CellLine;
 use bn_reply::push;
 use bn_table::Table;
 
-/// Appends the name of a cell's line. After `NoMemory` a prefix of the name may follow the text.
+/// Appends the name of a cell's port. After `NoMemory` a prefix of the name may follow the text.
 pub fn push_cell_line(text: &mut Vec<u8>, line: CellLine) -> Result<(), NoMemory>
     ensures added { OnOk result (text.new.items ≡ text.old.items ++ cell_line_text line) }
     ensures refused { OnErr result (GrewInPart text.old.items text.new.items (cell_line_text line)) }
@@ -62,7 +62,7 @@ pub fn counts_of_table(table: &Table) -> SymbolCounts
     }
 }
 
-/// Appends the name of an input line of the control of a machine whose tapes have this many symbols, counted from 0.
+/// Appends the name of an input port of the control, counted from 0, of a machine whose tapes have this many symbols.
 /// After `NoMemory` a prefix of the name may follow the text.
 pub fn push_control_line(
     text: &mut Vec<u8>,
@@ -86,7 +86,7 @@ pub fn push_control_line(
     }
 }
 
-// Appends the name of the line by which a tape with this many symbols gives its answer at this place.
+// Appends the name of the port by which a tape with this many symbols returns its answer at this place.
 fn push_answer(text: &mut Vec<u8>, symbols: u32, place: u32, tape: u32) -> Result<(), NoMemory>
     requires { symbols < 4294967295 }
     ensures added { OnOk result (text.new.items ≡ text.old.items ++ answer_text (answer_line symbols place) tape) }

@@ -24,10 +24,10 @@ use bn_reply::{Reply, Status};
 use bn_table::Table;
 use std::alloc::Global;
 
-/// What `run` answers to a word, a window, a greatest number of steps if there is one, and some bytes: whether they are
-/// a table with a machine in standard form, the word is one of its letters and fits, and the circuit does not have too
-/// many elements; and then how the signal runs on the circuit, for at most this many steps, or else for as many as its
-/// bound allows. The watch is told the place after each step.
+/// The answer of `run` to a word, a window, a greatest number of steps if there is one, and some bytes: a refusal if
+/// they are not a table with a machine in standard form, the word is not one of its letters or does not fit, or the
+/// circuit has too many elements; otherwise the run of the signal on the circuit, for at most this many steps, or for
+/// as many as its bound allows. The place after each step is reported to the watch.
 pub fn reply_run<W: Watch>(
     alloc: Global,
     word: &[u8],
@@ -90,8 +90,8 @@ pub struct Ran {
     pub quadruple_steps: u64,
 }
 
-/// Runs a circuit that is at its start for at most this many steps, or else for as many as its bound allows. The watch
-/// is told the place after each step. It takes no memory.
+/// Runs a circuit that is at its start for at most this many steps, or else for as many as its bound allows. The place
+/// after each step is reported to the watch. It takes no memory.
 pub fn run_to_exit<W: Watch>(board: &mut Board, given: Option<u64>, watch: &mut W) -> Ran
     ensures ran { (f : Flat) (m : Translation) → IsAtStart f m board.old
         → HasRun given f m board.new result.exit result.quadruple_steps (W.told watch.old) (W.told watch.new) }

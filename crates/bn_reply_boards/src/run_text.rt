@@ -26,7 +26,7 @@ use bn_table::Table;
 use std::alloc::Global;
 
 /// The text of a run that has reached the configuration of this circuit, by this exit, after this many steps of the
-/// machine of quadruples. The table has names for what it names.
+/// machine of quadruples. The table has a name for each state and symbol that is printed.
 pub fn text_of_run(
     alloc: Global,
     table: &Table,
@@ -50,8 +50,8 @@ pub fn text_of_run(
 }
 
 /// Appends the line that says where the signal of a circuit is: inside, about to enter a port of an element, or by
-/// which exit it has left. The table has names for what it names. After `NoMemory` a prefix of the line may follow the
-/// text.
+/// which exit it has left. The table has a name for each state and symbol that is printed. After `NoMemory` a prefix
+/// of the line may follow the text.
 pub fn push_exit(
     text: &mut Vec<u8>,
     table: &Table,
@@ -123,7 +123,7 @@ fn push_stuck(
     push(text, b"\n")
 }
 
-// Appends the name of the table's state that a state of the machine of quadruples stands for.
+// Appends the name of the table's state that a state of the machine of quadruples represents.
 fn push_state(
     text: &mut Vec<u8>,
     table: &Table,

@@ -133,7 +133,7 @@ fn push_quintuple(text: &mut Vec<u8>, symbol: u32) -> Result<(), NoMemory>
     }
 }
 
-// Appends the line of the output, which stands on these cells of tape 3 from the second on.
+// Appends the line of the output, which is in these cells of tape 3 from the second on.
 pub(crate) fn push_output(
     alloc: Global,
     text: &mut Vec<u8>,

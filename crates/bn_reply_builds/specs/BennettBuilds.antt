@@ -19,8 +19,8 @@ use Rattle.bn_reply_relations.specs.Windows.{ComesTo}
 use Rattle.bn_reply_builds.specs.BuildReply.{BuildReplies, IsBuiltFor}
 use Rattle.bn_reply_machines.specs.BennettReply.{bennett_text}
 
--- The table that `bennett` writes reads as Bennett's machine itself, with each number and name; its circuit is the one
--- that the one-tape machine is compiled to; and both start alike.
+-- The table that `bennett` prints reads as Bennett's machine itself, with each number and name; its circuit is the one
+-- that the one-tape machine is compiled to; and both have the same start.
 pub record IsOneBoard (t : Named) (l : Limits) (symbols : List ℕ) (f : Flat) : Type 0 where
   pub reads : ReadsQuadruples (bennett_text t) (table_of f.translation.machine (translation_names t f.translation))
   pub built : IsBuiltFor f.translation.machine l (build_of f)

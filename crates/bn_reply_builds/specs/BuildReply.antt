@@ -1,7 +1,7 @@
--- What the command `build` answers: the configuration text of the circuit of a uniform machine of quadruples in a
+-- The answer of the command `build`: the configuration text of the circuit of a uniform machine of quadruples in a
 -- window, at its start with a word on tape 1, or on each tape (Morita 2017 for the elements; the circuit, the window
--- and the text are this project's own profile). What is wrong with the bytes comes first, then with the machine, the
--- words' letters, the tapes' symbols, the words' lengths, and the number of elements.
+-- and the text are this project's own profile). A fault of the bytes comes first, then of the machine, the words'
+-- letters, the tapes' symbols, the words' lengths, and the number of elements.
 use Rattle.std.specs.Prelude.{◌≡◌, ℕ, ◌<◌, ◌≤◌, List, [], ◌∷◌, length, codes, decimal}
 use Rattle.bn_circuits.specs.declared.place.Place.{Place}
 use Rattle.bn_machine.specs.Outcome.{Limits}
@@ -28,7 +28,7 @@ use Rattle.bn_reply_relations.specs.Windows.{large_line}
 
 -- ---- sizes
 
--- tape t, counted from 1, is the first that has more symbols than a cell may tell apart, and it has z
+-- tape t, counted from 1, is the first that has more symbols than a cell can distinguish, and it has z
 pub record IsCrowded (m : Quadruples) (t z : ℕ) : Type 0 where
   pub tape : IsTape t
   pub count : symbol_count m t ≡ z
@@ -73,8 +73,8 @@ long_word_line (One word) t n = long_line n
 long_word_line (Three first second third) t n = tape_long_line t n
 
 -- The answer to words of these symbols on the tapes, where `tells` is the answer for the build of the machine: a tape
--- has too many symbols; none has, and a word is too long; none is, and the circuit would have too many elements; or
--- that.
+-- has too many symbols; or else a word is too long; or else the circuit would have too many elements; or else that
+-- answer.
 pub data SizedReplies (words : TapeWords) (tells : Build → Status → List ℕ → List Place → Type 0) (m : Quadruples)
     (l : Limits) (one two three : List ℕ) (status : Status) (text : List ℕ) (told : List Place) : Type 0 where
   many : (t z : ℕ) → IsCrowded m t z → text ≡ crowded_line t z → status ≡ statuses.Size → told ≡ []
@@ -90,7 +90,7 @@ pub data SizedReplies (words : TapeWords) (tells : Build → Status → List ℕ
 -- ---- the answer
 
 -- The answer to words, limits and bytes, where `tells` is the answer for a table, the words' symbols and the build of
--- its machine: the first thing that is wrong with the bytes, the machine, the words or the sizes, or that.
+-- its machine: the first fault of the bytes, the machine, the words or the sizes, or else that answer.
 abbrev pub BuiltReplies : (QuadTable → List ℕ → List ℕ → List ℕ → Build → Status → List ℕ → List Place → Type 0)
     → TapeWords → Limits → List ℕ → Status → List ℕ → List Place → Type 0
 BuiltReplies tells words l = QuadReplies (UniformReplies (λ t. WordsReplies words (λ one two three.
@@ -100,10 +100,10 @@ BuiltReplies tells words l = QuadReplies (UniformReplies (λ t. WordsReplies wor
 abbrev pub TellsBuild : Configuration ℕ → Build → Status → List ℕ → List Place → Type 0
 TellsBuild c f = TellsBoard f.network f.layout (board_start f.network.tables (start_from f.machine f.limits c))
 
--- what `build` answers to words on the tapes, limits and bytes
+-- the answer of `build` to words on the tapes, limits and bytes
 abbrev pub BuildReplies : TapeWords → Limits → List ℕ → Status → List ℕ → List Place → Type 0
 BuildReplies = BuiltReplies (λ t one two three. TellsBuild (words_on t.machine one two three))
 
--- it has one answer to all words, limits and bytes
+-- for all words, limits and bytes, it has exactly one answer
 abbrev pub BuildIsSettled : Type 0
 BuildIsSettled = (words : TapeWords) (l : Limits) (bytes : List ℕ) → IsSettled (BuildReplies words l bytes)

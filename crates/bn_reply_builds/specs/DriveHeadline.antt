@@ -50,7 +50,7 @@ pub record IsGiven (words : TapeWords) (bytes : List ℕ) (l : Limits) (t : Quad
   pub named : AreNamedBy words t.names one two three
   pub room : HaveRoom l one two three
 
--- The machine's own run in the window from these words on its tapes makes n steps to d, and ends there so.
+-- The machine's own run in the window from these words on its tapes makes n steps to d, and ends there by this exit.
 pub record IsOwnRun (t : QuadTable) (l : Limits) (one two three : List ℕ) (n : ℕ) (d : Configuration ℕ) (e : Exit) :
     Type 0 where
   pub runs : Reaches (QuadruplesRunTo (rooms_of l) t.machine) n (words_on t.machine one two three) d
@@ -58,10 +58,10 @@ pub record IsOwnRun (t : QuadTable) (l : Limits) (one two three : List ℕ) (n :
 
 -- ---- what is printed
 
--- The tapes that are shown if the run has ended so at d. At the end they are those of d; at a read at which the machine
--- is stuck, those of d without what it has read there, that tape's symbol included; in a state that no quadruple
--- leaves, those without the scanned symbol of tape 1; and if a head leaves a tape's window, as they are within the step
--- that would leave it.
+-- The tapes that are shown if the run has ended at d by this exit. At the end they are those of d; at a read at which
+-- the machine is stuck, those of d without the symbols that it has read there, the last one included; in a state that
+-- no quadruple leaves, those without the scanned symbol of tape 1; and if a head leaves a tape's window, as they are
+-- within the step that would leave it.
 pub data ShowsEnd (m : Quadruples) (d : Configuration ℕ) (e : Exit) (shown : Configuration ℕ) : Type 0 where
   finished : e ≡ Finished → shown ≡ d → ShowsEnd m d e shown
   at_read : (tape : ℕ) (stop : IsStuckAtRead m d tape) → e ≡ Stopped → shown ≡ taken_to stop.rule d tape

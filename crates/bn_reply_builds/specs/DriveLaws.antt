@@ -55,16 +55,16 @@ ErasingBoardsErase =
     → ErasingBoardTells back.renumbering j e f (words_on f.machine z [] []) s at_start x n d
 
 pub record Laws : Type 0 where
-  -- For a table, a build, a start and a greatest number of element steps for which the clock has room there is an
-  -- answer, an exit or none and a text, and only one.
+  -- For a table, a build, a start and a greatest number of element steps for which the clock has room, there is
+  -- exactly one answer, with a text and an exit or none.
   pub drives_have_one_answer : DrivesHaveOneAnswer
-  -- If the circuit stops whose machine is another one with other numbers, as the machine is that is read of what was
-  -- written of that one, it reports how that one's run has ended.
+  -- For a machine that was printed and read again with other numbers: if its circuit stops, it reports how the run of
+  -- the printed machine has ended.
   pub renumbered_builds_tell : RenumberedBuildsTell
-  -- Three words are, with the other numbers, three words: the starts differ in the numbers alone.
+  -- Three words are also three words with the other numbers: the starts differ only in the numbers.
   pub words_are_renumbered : WordsAreRenumbered
-  -- The circuit that erases: for the machine that is read of what `erase` writes of two machines in standard form,
-  -- started with the word x, a circuit that has stopped was left by the end only if each machine halts on the other's
-  -- word, and then its tapes are blank but for the output on tape 3; if both halt so, it was left by the end or by a
+  -- For the machine read from what `erase` prints of two machines in standard form, started with the word x, and a
+  -- circuit that has stopped: the signal left by the end only if each machine halts on the other's word, and then its
+  -- tapes are blank but for the output on tape 3; if both halt in this way, the signal left by the end or by a
   -- window's end.
   pub erasing_boards_erase : ErasingBoardsErase

@@ -26,12 +26,12 @@ drive_exit_line t d Stopped =
     ∷ codes " " ∷ name_in t.names.two (scanned d.two) ∷ codes " " ∷ name_in t.names.three (scanned d.three) ∷ [])
 drive_exit_line t d (Leaving tape s) = window_line tape s
 
--- where the signal is inside: about to enter an element by a line
+-- where the signal is inside: about to enter an element by a port
 abbrev pub inside_line : Place → List ℕ
 inside_line p = line (codes "inside " ∷ line_text (line_of_place p) ∷ [])
 
--- the cells of a tape whose symbols have these names, a space before each, and a question mark for one that shows no
--- symbol
+-- the cells of a tape whose symbols have these names, each after a space, with a question mark for a cell that shows
+-- no symbol
 abbrev pub drive_cells_text : List (List ℕ) → List (Option ℕ) → List ℕ
 drive_cells_text names [] = []
 drive_cells_text names (None ∷ cs) = codes " ?" ++ drive_cells_text names cs
@@ -43,8 +43,8 @@ drive_tape_line names tape s =
     line (codes "tape " ∷ decimal tape ∷ codes " from " ∷ position_text s.first ∷ codes " head " ∷ head_text s.head
     ∷ codes ":" ∷ drive_cells_text names s.cells ∷ [])
 
--- the whole: for a table's machine that is built so, with this line for the exit, after this many steps of the machine,
--- in this configuration of the circuit
+-- the whole text: for a table's machine with this build, with this line for the exit, after this many steps of the
+-- machine, in this configuration of the circuit
 abbrev pub drive_text : QuadTable → Build → List ℕ → ℕ → Config → List ℕ
 drive_text t f exit quadruple_steps d =
     elements_line (build_elements f) ++ (exit ++ (steps_line d.steps ++ (quadruple_line quadruple_steps

@@ -1,4 +1,4 @@
--- What the command `drive` answers to a build, a start and a greatest number of element steps (this project's own
+-- The answer of the command `drive` to a build, a start and a greatest number of element steps (this project's own
 -- profile).
 use Rattle.std.specs.Prelude.{◌≡◌, ℕ, ◌-◌, ◌≤◌, List, Option, Some, None}
 use Rattle.bn_lists.specs.Runs.{Reaches}
@@ -15,9 +15,9 @@ use Rattle.bn_boards.specs.Builds.{Build}
 use Rattle.bn_boards.specs.BuildRuns.{EndsInWindow, BuildRunsTo}
 use Rattle.bn_reply_builds.specs.DriveText.{drive_text, drive_exit_line, inside_line}
 
--- The signal leaves within this many steps by the exit that the machine's own bounded run names, and the text reports
--- it; or after as many steps the signal is inside, which has no exit, and the text says where, with the moments so far
--- less one, which is the number of the machine's steps so far, and 0 before the first moment.
+-- The signal leaves within this many steps by the exit that the machine's own bounded run determines, and the text
+-- reports it; or after this many steps the signal is inside, without an exit, and the text says where, with the
+-- moments so far less one, which is the number of the machine's steps so far, and 0 before the first moment.
 pub data Drives (t : QuadTable) (f : Build) (c : Configuration ℕ) (s : Situation) (at_start : Config) (most : ℕ)
     (exit : Option Exit) (text : List ℕ) : Type 0 where
   leaves : (n : ℕ) (d : Configuration ℕ) (e : Exit) → EndsInWindow f c n d e → (ran : BuildRunsTo f s at_start n d e)

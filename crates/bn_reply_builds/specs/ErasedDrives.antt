@@ -56,8 +56,8 @@ pub record LeavesOutputAlone (j : Joint) (l : Limits) (x text : List ℕ) : Type
   pub text_is : text ≡ elements_line count ++ (line (codes "exit end" ∷ []) ++ (steps_line cost
       ++ (quadruple_line (4 * (v + w) + 4 * (length x + length y) + 10) ++ output_lines j l y)))
 
--- The answer of `drive` to the table that `erase` wrote, and a word, reports the end only if each machine halts on the
--- other's word, and then it reports that output alone; if they do, it never reports a machine that is stuck.
+-- The answer of `drive` to the table that `erase` prints, and a word, reports the end only if each machine halts on
+-- the other's word, and then it reports that output alone; if they do, it never reports a machine that is stuck.
 abbrev pub ErasedCircuitsErase : Type 0
 ErasedCircuitsErase =
     (bytes word table : List ℕ) (silent : List Place) → EraseReplies bytes Done table silent

@@ -34,7 +34,7 @@ use Rattle.bn_erase_laws.specs.EraseWindows.{BothHaltIn, EndsIn}
 abbrev pub TablesHaltIn : Named → Named → List ℕ → Limits → ℕ → ℕ → List ℕ → Type 0
 TablesHaltIn t u = BothHaltIn (joined t u).first (joined t u).second
 
--- In the window the erasing machine of both makes n steps from x to d, and ends there so.
+-- In the window the erasing machine of both makes n steps from x to d, and ends there by this exit.
 abbrev pub TablesEndIn : Named → Named → List ℕ → Limits → ℕ → Configuration ErasingName → Exit → Type 0
 TablesEndIn t u = EndsIn (joined t u).first (joined t u).second
 

@@ -1,5 +1,5 @@
--- What the circuit reports that is built from what `erase` writes: the circuit that erases its input (Bennett 1973, his
--- last construction; the text and its reading are this project's own profile).
+-- The report of the circuit built from what `erase` prints: the circuit that erases its input (Bennett 1973, his last
+-- construction; the text and its reading are this project's own profile).
 use Rattle.std.specs.Prelude.{◌≡◌, ℕ, ◌+◌, ◌*◌, List, length, ◌⊎◌}
 use Rattle.bn_circuits.specs.Situations.{Situation}
 use Rattle.bn_circuits.specs.declared.config.Config.{Config}

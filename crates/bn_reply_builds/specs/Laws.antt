@@ -9,12 +9,12 @@ use Rattle.bn_reply_builds.specs.OwnDrives.{OwnRunsAreThere, OwnRunsAreOne, Driv
 use Rattle.bn_reply_builds.specs.ErasedRunLaws.{ErasedCircuitsComeOut, EndsTellHalts, ErasedCircuitsEnd}
 
 pub record Laws : Type 0 where
-  -- For all words, windows and bytes `build` has an answer, and only one.
+  -- For all words, windows and bytes, `build` has exactly one answer.
   pub build_has_one_reply : BuildIsSettled
-  -- The table that `bennett` writes reads as Bennett's machine itself, and its circuit is the one that the one-tape
+  -- The table that `bennett` prints reads as Bennett's machine itself, and its circuit is the one that the one-tape
   -- machine is compiled to: `bennett | build` prints what `compile` prints.
   pub compiling_is_building : BoardsAreOne × CompilingIsBuilding
-  -- For all words, windows, greatest numbers of steps and bytes `drive` has an answer, and only one.
+  -- For all words, windows, greatest numbers of steps and bytes, `drive` has exactly one answer.
   pub drive_has_one_reply : DriveIsSettled
   -- The answer of `drive` reports the machine's own run in the window: if the signal leaves by an exit within the
   -- greatest number of element steps, the exit that this run names, its steps and its tapes; otherwise that the signal
@@ -29,7 +29,7 @@ pub record Laws : Type 0 where
   pub erased_circuits_erase : ErasedCircuitsErase
   -- Whatever is given, the machine's own run in the window ends, after fewer steps than the window has configurations.
   pub own_runs_are_there : OwnRunsAreThere
-  -- It has one number of steps, one last configuration, and one exit.
+  -- The machine's own run in the window has one number of steps, one last configuration, and one exit.
   pub own_runs_are_one : OwnRunsAreOne
   -- The answer of `drive` reports that run.
   pub drives_tell_their_run : DrivesTellTheirRun
@@ -37,8 +37,8 @@ pub record Laws : Type 0 where
   -- end in exactly its cost, and `drive` reports that end, with y alone, for each number of element steps from the cost
   -- on.
   pub erased_circuits_come_out : ErasedCircuitsComeOut
-  -- It reports the end only if they do.
+  -- `drive` reports the end only if both machines halt in the window, each on the other's word.
   pub ends_tell_halts : EndsTellHalts
   -- Whatever the machines do, the signal leaves in exactly its cost, by the exit that the erasing machine's own run in
-  -- the window names: no drive goes on for ever.
+  -- the window determines: every drive ends.
   pub erased_circuits_end : ErasedCircuitsEnd

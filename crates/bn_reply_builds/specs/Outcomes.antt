@@ -20,7 +20,7 @@ use Rattle.bn_reply_builds.specs.declared.outcome.Outcome.TheVariants.{Inside, E
 abbrev pub stop_at : Configuration ℕ → Stop
 stop_at d = record { state = d.state; one = scanned d.one; two = scanned d.two; three = scanned d.three }
 
--- where the signal is if the machine's own run has ended so
+-- where the signal is if the machine's own run has ended in this configuration by this exit
 abbrev pub outcome_by : Configuration ℕ → Exit → Outcome
 outcome_by d Finished = End
 outcome_by d Stopped = Stuck (stop_at d)

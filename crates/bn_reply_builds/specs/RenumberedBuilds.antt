@@ -10,8 +10,8 @@ use Rattle.bn_renumbering.specs.Renumbering.{Renumbering, IsRenumbered}
 use Rattle.bn_boards.specs.Builds.{Build}
 use Rattle.bn_boards.specs.Laws.{Told}
 
--- What the circuit reports of the machine m, whose configuration x is c with other numbers: how its own machine's run
--- from c has ended, and that the run of m from x has ended so too, after as many steps, and where.
+-- The report of the circuit of the machine m, whose configuration x is c with other numbers: how its own machine's run
+-- from c has ended, and that the run of m from x has ended in the same way, after as many steps, and where.
 pub record TellsRenumbered (k : Renumbering) (f : Build) (m : Quadruples) (c x : Configuration ℕ) (s : Situation)
     (at_start : Config) (t : ℕ) (z : Config) : Type 0 where
   pub told : Told f c s at_start t z

@@ -19,7 +19,7 @@ use Rattle.bn_control.specs.Names.{listed}
 use Rattle.bn_reply_builds.specs.declared.awaited.Answer.{Answer}
 use Rattle.bn_reply_builds.specs.declared.awaited.Read.{Read}
 
--- no tape has more symbols than a cell may tell apart
+-- no tape has more symbols than a cell can distinguish
 abbrev pub HasFewSymbols : Quadruples → Type 0
 HasFewSymbols m = (t : ℕ) → IsTape t → symbol_count m t ≤ MOST_SYMBOLS
 
@@ -29,7 +29,7 @@ pub record IsLeavingQuad (quads : List Quad) (state : ℕ) (q : Quad) : Type 0 w
   pub stands : slice_get quads place ≡ Some q
   pub leaves : q.state ≡ state
 
--- a quadruple of the machine that leaves the state of d, and needs the tapes before this one as they are
+-- a quadruple of the machine that leaves the state of d, and requires that the tapes before this one are as they are
 pub record IsBegun (m : Quadruples) (d : Configuration ℕ) (r : Rule ℕ) (t : ℕ) : Type 0 where
   pub number : ℕ
   pub stands : nth m.rules number ≡ Some r
@@ -37,7 +37,8 @@ pub record IsBegun (m : Quadruples) (d : Configuration ℕ) (r : Rule ℕ) (t : 
   pub before : AdmitsBefore r d t
 
 -- The machine is stuck at d at the answer of a tape, after the symbols that a quadruple reads before; at a first read
--- that may be any. The cells show the tapes of d but for what was read, and its tapes stand in the window.
+-- the quadruple is arbitrary. The cells show the tapes of d without the symbols that were read, and the tapes fit in
+-- the window.
 pub record IsAnswered (m : Quadruples) (l : Limits) (read : Read) (answer : Answer) (shown : Spelled)
     (d : Configuration ℕ) : Type 0 where
   pub tape : IsTape answer.tape

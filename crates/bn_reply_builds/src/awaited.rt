@@ -1,4 +1,4 @@
-//! Which read the control awaits at a loose line, and what the tape has answered.
+//! The read that the control awaits at a loose port, and the answer that the tape returned.
 
 ghost use Rattle.std.specs.Prelude.{◌≡◌, ◌≤◌, ◌<◌, ◌+◌, ◌-◌, ℕ, List, map, Some, slice_get};
 ghost use Rattle.bn_lists.specs.Lists.{nth};
@@ -24,7 +24,7 @@ pub(crate) struct Read {
     pub(crate) before: Symbols,
 }
 
-/// What a tape has answered.
+/// The answer of a tape to a read.
 #[derive(Clone, Copy)]
 pub(crate) struct Answer {
     /// The tape, counted from 1.
@@ -55,7 +55,7 @@ fn read_of(name: StateName) -> Option<Read>
     }
 }
 
-/// The rows of a column of the control's bank, its bottom among them.
+/// The number of rows of a column of the control's bank, its bottom among them.
 pub(crate) fn control_rows(machine: &QuadMachine) -> u32
     requires { HasFewSymbols machine.now }
     ensures rows { result ≡ lines_before machine.now.symbols 3 + 1 }
@@ -64,7 +64,7 @@ pub(crate) fn control_rows(machine: &QuadMachine) -> u32
     letters(machine, 1) + letters(machine, 2) + letters(machine, 3) + 11
 }
 
-/// What a tape has answered by this line of the control, if one has.
+/// The answer that a tape returns by this port of the control, if one does.
 pub(crate) fn answer_at(machine: &QuadMachine, line: u32) -> Answer
     requires { HasFewSymbols machine.now }
     ensures { (t z : ℕ) → IsTape t → z < symbol_count machine.now t
@@ -90,7 +90,7 @@ pub(crate) fn answer_at(machine: &QuadMachine, line: u32) -> Answer
     }
 }
 
-/// How many symbols the tapes of a machine have.
+/// The number of symbols of each tape of a machine.
 pub fn counts_of_machine(machine: &QuadMachine) -> SymbolCounts
     requires valid { IsQuadMachine machine.now }
     requires few { HasFewSymbols machine.now }
@@ -104,7 +104,7 @@ pub fn counts_of_machine(machine: &QuadMachine) -> SymbolCounts
     }
 }
 
-// How many symbols a tape has.
+// The number of symbols of a tape.
 fn letters(machine: &QuadMachine, tape: u32) -> u32
     requires first { 1 ≤ tape }
     requires last { tape ≤ 3 }

@@ -20,10 +20,10 @@ use bn_reply_boards::board_config;
 use bn_reply_circuits::Unwritten;
 use std::alloc::Global;
 
-/// Answers `build` to words on the tapes, a window and some bytes: whether they are a table of quadruples whose machine
-/// is deterministic, reversible and uniform, the words have the names of their tapes' symbols, no tape has too many
-/// symbols, the words fit, and the circuit does not have too many elements; and then gives the sink the configuration
-/// text of the circuit at its start, in version 2 and in pieces.
+/// The command `build` for words on the tapes, a window and some bytes: tests whether the bytes are a table of
+/// quadruples whose machine is deterministic, reversible and uniform, the words have the names of their tapes'
+/// symbols, no tape has too many symbols, the words fit, and the circuit does not have too many elements; and then
+/// writes the configuration text of the circuit at its start to the sink, in version 2 and in pieces.
 pub fn answer_build<K: Sink>(
     alloc: Global,
     words: &TapeWords,
@@ -43,7 +43,7 @@ pub fn answer_build<K: Sink>(
     }
 }
 
-// What `build` answers, before it is written.
+// The answer of `build`, before it is written.
 fn start_of(
     alloc: Global,
     words: &TapeWords,

@@ -29,9 +29,9 @@ use bn_quad::{QuadNames, Uniform};
 use bn_reply::Reply;
 use std::alloc::Global;
 
-/// What `drive` answers to words on the tapes, a window, a greatest number of element steps and some bytes: the
-/// refusals of `build`; otherwise how the signal runs on the circuit from its start, for at most this many steps. The
-/// watch is told the place after each step.
+/// The answer of `drive` to words on the tapes, a window, a greatest number of element steps and some bytes: the
+/// refusals of `build`; otherwise the run of the signal on the circuit from its start, for at most this many steps.
+/// The place after each step is reported to the watch.
 pub fn reply_drive<W: Watch>(
     alloc: Global,
     words: &TapeWords,

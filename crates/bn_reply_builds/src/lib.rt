@@ -1,5 +1,5 @@
-//! Circuits of any uniform machine of quadruples: what `build` and `drive` answer; where the signal is, reported by the
-//! names of the machine's table; and the laws on both.
+//! Circuits of any uniform machine of quadruples: the answers of `build` and `drive`; where the signal is, reported by
+//! the names of the machine's table; and the laws on both.
 #![tactic(auto)]
 
 mod awaited;

@@ -40,25 +40,25 @@ pub struct Stop {
 /// Where the signal is.
 #[derive(Clone, Copy)]
 pub enum Outcome {
-    /// The signal is inside, about to enter this line.
+    /// The signal is inside, about to enter this port.
     Inside(Line),
-    /// It has left by the end line: the machine has halted inside its window.
+    /// The signal has left by the end port: the machine has halted inside its window.
     End,
-    /// It has left where the machine is stuck.
+    /// The signal has left where the machine is stuck.
     Stuck(Stop),
-    /// It has left by the end of a row of cells: a shift would leave the tape's window.
+    /// The signal has left by the end of a row of cells: a shift would leave the tape's window.
     Window {
         /// The tape, counted from 1.
         tape: u32,
         /// The side at which it left.
         side: Side,
     },
-    /// It has left by a loose line that has no name.
+    /// The signal has left by a loose port that has no name.
     Unnamed,
 }
 
 impl Outcome {
-    /// The status of a drive that ends so.
+    /// The status of a drive with this outcome.
     pub fn status(self) -> Status
         ensures { result ≡ outcome_status self }
     {
@@ -96,7 +96,7 @@ pub fn outcome_of(
     }
 }
 
-// The same for a circuit whose signal has left by a line of this element, which the layout calls by this exit.
+// The same for a circuit whose signal has left by a port of this element, for which the layout returns this exit.
 fn outcome_left(
     alloc: Global,
     machine: &Uniform,
@@ -118,7 +118,7 @@ fn outcome_left(
     }
 }
 
-// The same for a circuit whose signal has left by a loose line of the control.
+// The same for a circuit whose signal has left by a loose port of the control.
 fn stuck_by(
     alloc: Global,
     machine: &Uniform,

@@ -76,7 +76,7 @@ fn push_scanned(text: &mut Vec<u8>, names: &TableNames<'_>, stop: Stop) -> Resul
     push_spaced(text, names, 3, stop.three)
 }
 
-// Appends a space and the name of a symbol of a tape, where one has this number.
+// Appends a space and the name of the symbol of a tape with this number, if there is one.
 fn push_spaced(
     text: &mut Vec<u8>,
     names: &TableNames<'_>,
@@ -95,7 +95,7 @@ fn push_spaced(
     push_symbol(text, names, tape, symbol)
 }
 
-/// Appends the name of a state, where one has this number. After `NoMemory` the text is as it was.
+/// Appends the name of the state with this number, if there is one. After `NoMemory` the text is unchanged.
 pub fn push_state(text: &mut Vec<u8>, names: &TableNames<'_>, state: u32) -> Result<(), NoMemory>
     requires { names.now.machine.now.states ≡ length names.now.names.now.states }
     ensures added { OnOk result (text.new.items ≡ text.old.items ++ name_in names.now.names.now.states state) }
@@ -108,7 +108,7 @@ pub fn push_state(text: &mut Vec<u8>, names: &TableNames<'_>, state: u32) -> Res
     }
 }
 
-// Appends the name of a symbol of a tape, where one has this number.
+// Appends the name of the symbol of a tape with this number, if there is one.
 fn push_symbol(
     text: &mut Vec<u8>,
     names: &TableNames<'_>,

@@ -11,8 +11,8 @@ ghost use Rattle.bn_board.specs.Flattened.{IsSameBoard};
 use bn_board::Board;
 use bn_circuits::Watch;
 
-/// Runs a circuit for at most this many steps, and returns the moments from its configuration on, that one among them,
-/// less one. The watch is told the place after each step. It takes no memory.
+/// Runs a circuit for at most this many steps, and returns the number of moments from its configuration on, including
+/// that configuration, less one. The place after each step is reported to the watch. It takes no memory.
 pub(crate) fn run_for<W: Watch>(board: &mut Board, most_steps: u64, watch: &mut W) -> u64
     ensures steps { result
         ≡ moments board.old.layout (rotary_circuit board.old.net) most_steps board.old.config - 1 }

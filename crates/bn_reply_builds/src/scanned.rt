@@ -1,4 +1,4 @@
-//! What the head of a tape scans, by the cells of a board.
+//! The symbol that the head of a tape scans, by the cells of a circuit.
 
 ghost use Rattle.std.specs.Prelude.{◌≡◌, ◌+◌, ℕ, Some, slice_get};
 ghost use Rattle.bn_machine.specs.Tape.{Tape, scanned};
@@ -7,7 +7,7 @@ ghost use Rattle.bn_boards.specs.Layouts.{tape_in};
 
 use bn_board::SpelledTape;
 
-/// The symbol in the cell of a tape's head, where a cell shows the head.
+/// The symbol in the cell of a tape's head, if a cell shows the head.
 pub(crate) fn scanned_on(shown: &SpelledTape) -> u32
     ensures { (left right many : ℕ) (x : Tape) → shown.now ≡ tape_in left many x → many ≡ left + right + 1
         → IsBetween left right x.head → result ≡ scanned x }
@@ -18,7 +18,7 @@ pub(crate) fn scanned_on(shown: &SpelledTape) -> u32
     }
 }
 
-// The symbol that the cell at this place shows, counted from 0, where it shows one.
+// The symbol that the cell at this place, counted from 0, shows, if it shows one.
 fn symbol_at(cells: &[Option<u32>], place: u64) -> u32
     ensures { (s : ℕ) → slice_get cells.now place ≡ Some (Some s) → result ≡ s }
 {

@@ -1,4 +1,4 @@
-//! What of a machine's tapes and of the words on them is too large.
+//! The tests whether a tape has too many symbols or a word is too long.
 
 ghost use Rattle.std.specs.Prelude.{◌≡◌, IfOk, MatchOption};
 ghost use Rattle.bn_qtable.specs.TapeWords.{tape_words_of};
@@ -14,16 +14,16 @@ use bn_quad::QuadMachine;
 use bn_reply::{Reply, Status, too_long};
 use std::alloc::Global;
 
-// A tape with more symbols than a cell may tell apart.
+// A tape with more symbols than a cell can distinguish.
 #[derive(Clone, Copy)]
 pub(crate) struct CrowdedTape {
     // The tape, counted from 1.
     pub(crate) tape: u32,
-    // How many symbols it has, the blank among them.
+    // The number of its symbols, the blank among them.
     pub(crate) symbols: u32,
 }
 
-// The first such tape; `None` exactly where there is none.
+// The first such tape; `None` exactly if there is none.
 pub(crate) fn find_crowded(machine: &QuadMachine) -> Option<CrowdedTape>
     ensures { MatchOption result (IsUncrowded machine.now) (λ found. IsCrowded machine.now found.tape found.symbols) }
 {
@@ -53,11 +53,11 @@ pub(crate) fn too_crowded(alloc: Global, crowded: CrowdedTape) -> Result<Reply, 
 pub(crate) struct LongWord {
     // The tape, counted from 1.
     pub(crate) tape: u32,
-    // How many letters the word has.
+    // The number of letters of the word.
     pub(crate) letters: usize,
 }
 
-// The first tape with such a word; `None` exactly where there is none.
+// The first tape with such a word; `None` exactly if there is none.
 pub(crate) fn find_long(symbols: &TapeSymbols<'_>, windows: &Windows) -> Option<LongWord>
     ensures { MatchOption result
         (HaveRoom (limits_of windows.now) symbols.now.one.now symbols.now.two.now symbols.now.three.now)

@@ -1,4 +1,5 @@
-//! At which configuration a machine is stuck, by the answer for which it has no quadruple and what its cells show.
+//! The configuration at which a machine is stuck, by the answer for which it has no quadruple and the contents of its
+//! cells.
 
 ghost use Rattle.std.specs.Prelude.{◌≡◌, ◌≤◌, ◌++◌, ◌∷◌, [], ℕ, List, true, false};
 ghost use Rattle.std.specs.Prelude.{Some, IfSome, IfNone, is_some, slice_get};
@@ -21,8 +22,8 @@ use bn_board::Spelled;
 use bn_control::Symbols;
 use bn_quad::{Quad, Uniform};
 
-/// The configuration at which the machine is stuck, which has awaited this read and got this answer, where its cells
-/// show this: what it read isn't in the cells.
+/// The configuration at which the machine is stuck, if it has awaited this read and received this answer, and its
+/// cells show this: the cells do not contain the symbols that it has read.
 pub(crate) fn stop_of(machine: &Uniform, read: Read, answer: Answer, shown: &Spelled) -> Stop
     ensures { (l : Limits) (d : Configuration ℕ) → IsAnswered machine.now l read answer shown.now d
         → result ≡ stop_at d }
@@ -117,7 +118,7 @@ fn is_read(quad: &Quad, tape: u32) -> bool
     }
 }
 
-// The first of some symbols, where there is one.
+// The first of some symbols, if there is one.
 fn first_of(symbols: Symbols) -> u32
     ensures { (s : ℕ) (rest : List ℕ) → listed symbols ≡ s ∷ rest → result ≡ s }
 {
@@ -127,7 +128,7 @@ fn first_of(symbols: Symbols) -> u32
     }
 }
 
-// The last of some symbols, where there is one.
+// The last of some symbols, if there is one.
 fn last_of(symbols: Symbols) -> u32
     ensures { (s : ℕ) (front : List ℕ) → listed symbols ≡ front ++ s ∷ [] → result ≡ s }
 {

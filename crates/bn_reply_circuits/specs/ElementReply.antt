@@ -1,4 +1,4 @@
--- What the command `element` answers: the table of a numbered element (Morita 2017 for the numbers; the text is this
+-- The answer of the command `element`: the table of a numbered element (Morita 2017 for the numbers; the text is this
 -- project's own profile).
 use Rattle.std.specs.Prelude.{◌≡◌, ℕ, ◌*◌, ◌≤◌, List, [], ◌∷◌, codes}
 use Rattle.bn_circuits.specs.declared.place.Place.{Place}
@@ -12,14 +12,14 @@ use Rattle.bn_reply.specs.Lines.{line}
 use Rattle.bn_reply.specs.declared.status.Status.{Status}
 use Rattle.bn_reply.specs.declared.status.Status.TheVariants.{Done, Word}
 
--- There are (2k)! elements with k lines. A number that none of them has is refused; else the text is the table of the
--- element, a line for each pair of a state and a line, in rising order.
+-- There are (2k)! elements with k ports. A number that no element has is refused; otherwise the text is the table of
+-- the element, a line for each pair of a state and a port, in rising order.
 pub data ElementReplies (k n : ℕ) (status : Status) (text : List ℕ) (told : List Place) : Type 0 where
   unnumbered : factorial (2 * k) ≤ n → status ≡ Word → text ≡ line (codes "word: number" ∷ []) → told ≡ []
       → ElementReplies k n status text told
   numbered : (moves : List RsmMove) → IsElement k n moves → status ≡ Done → text ≡ lines_of (entries_by moves)
       → told ≡ [] → ElementReplies k n status text told
 
--- it has one answer, and only one
+-- it has exactly one answer
 abbrev pub ElementIsSettled : Type 0
 ElementIsSettled = (k n : ℕ) → IsSettled (ElementReplies k n)

@@ -14,12 +14,12 @@ use Rattle.bn_reply_circuits.specs.FarmReply.{board_line, farm_elements_line, no
 use Rattle.bn_farm.specs.declared.farm_refusal.FarmRefusal.{FarmRefusal}
 use Rattle.bn_farm.specs.declared.farm_refusal.FarmRefusal.TheVariants as farm
 
--- the line that refuses a circuit for what is wrong with one of its lines
+-- the line that refuses a circuit for a fault of one of its lines
 abbrev pub board_fault_text : ℕ → ℕ → List ℕ → List ℕ
 board_fault_text board number what =
     line (codes "text: board " ∷ decimal board ∷ codes " line " ∷ decimal number ∷ codes " " ∷ what ∷ [])
 
--- the line that refuses a schedule for what is wrong with one of its lines
+-- the line that refuses a schedule for a fault of one of its lines
 abbrev pub schedule_fault_text : ℕ → List ℕ → List ℕ
 schedule_fault_text number what = line (codes "text: schedule line " ∷ decimal number ∷ codes " " ∷ what ∷ [])
 

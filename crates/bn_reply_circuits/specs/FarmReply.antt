@@ -1,6 +1,6 @@
--- What the command `farm` answers: several circuits run under a schedule (this project's own profile). What is wrong
--- with the bytes comes first: no line `%`; the first faulty circuit, with its first fault; the first faulty line of the
--- schedule, with its first fault. Then comes the number of all elements.
+-- The answer of the command `farm`: independent circuits under a schedule (this project's own profile). Faults of the
+-- bytes are reported first: no line `%`; the first faulty circuit, with its first fault; the first faulty line of the
+-- schedule, with its first fault. Then the number of all elements is tested.
 use Rattle.std.specs.Prelude.{◌≡◌, ◌≢◌, ℕ, suc, ◌+◌, ◌<◌, ◌≤◌, List, [], ◌∷◌, ◌++◌, length, codes, decimal}
 use Rattle.bn_lists.specs.Lists.{IsFirstWith}
 use Rattle.bn_circuits.specs.declared.place.Place.{Place}
@@ -73,14 +73,14 @@ pub data FarmReplies (bytes : List ℕ) (status : Status) (text : List ℕ) (tol
   read : (parts : List (List ℕ)) (last : List ℕ) (bs : List FarmBoard) → parts ≢ [] → AreParts bytes parts last
       → SpellBoards parts bs → ScheduleReplies bs last status text told → FarmReplies bytes status text told
 
--- it has one answer to all bytes
+-- for all bytes, it has exactly one answer
 abbrev pub FarmIsSettled : Type 0
 FarmIsSettled = (bytes : List ℕ) → IsSettled (FarmReplies bytes)
 
 -- ---- `farm` on the text of `farm`
 
--- The bytes were the text of a farm and a schedule, and the text of the answer to the answer is that of the first
--- circuits, byte for byte, and of the lines of the schedule that made steps, each with the number made.
+-- The bytes were the text of circuits and a schedule, and `farm` on the answer prints the text of the first circuits,
+-- byte for byte, and of the lines of the schedule that made steps, each with the number made.
 pub record ComesBack (bytes again : List ℕ) : Type 0 where
   pub boards : List FarmBoard
   pub schedule : List Event

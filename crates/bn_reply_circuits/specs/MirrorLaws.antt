@@ -16,7 +16,8 @@ use Rattle.bn_reply_relations.specs.CompileReply.{IsFlatSpelling}
 use Rattle.bn_reply_relations.specs.RunReply.{board_after}
 use Rattle.bn_reply_circuits.specs.MirrorReply.{MirrorReplies}
 
--- The bytes spell a configuration, and the text is that of the same in the same version with no steps counted.
+-- The bytes spell a configuration, and the text is that of this configuration in the same version with no steps
+-- counted.
 pub record IsUncounted (bytes text : List ℕ) : Type 0 where
   pub version : Version
   pub spelling : Spelling
@@ -30,7 +31,7 @@ MirroredTextsComeBack =
     → MirrorReplies text status again told → (status ≡ Done) × IsUncounted bytes again
 
 -- The circuit of a machine after any number of steps up to its exit may be spelled, and as many steps of its inverse
--- circuit leave it with the inverse start, and the signal has left by the inverse circuit's end line.
+-- circuit end with the inverse start, where the signal has left by the inverse circuit's end port.
 abbrev pub BoardsComeBack : Type 0
 BoardsComeBack =
     (p : Program) (word : List ℕ) (l : Limits) (f : Flat) → IsFlatOf p word l f → IsAccepted p word l f

@@ -1,4 +1,4 @@
--- What the command `mirror` answers: the text of the inverse circuit of the configuration that a text spells (this
+-- The answer of the command `mirror`: the text of the inverse circuit of the configuration that a text spells (this
 -- project's own profile).
 use Rattle.std.specs.Prelude.{◌≡◌, ℕ, List, []}
 use Rattle.bn_circuits.specs.declared.place.Place.{Place}
@@ -19,12 +19,12 @@ pub record Mirrored (bytes text : List ℕ) : Type 0 where
   pub is_mirror : IsMirror spelling image
   pub written : IsTextOf version image text
 
--- What `mirror` answers: the first fault of bytes that are no configuration text, or the text of the inverse circuit of
--- what they spell. A watch is told nothing.
+-- The answer of `mirror`: the first fault of bytes that are no configuration text, or the text of the inverse circuit
+-- of the configuration that they spell. No place is reported to a watch.
 pub data MirrorReplies (bytes : List ℕ) (status : Status) (text : List ℕ) (told : List Place) : Type 0 where
   misspelled : Misspelled bytes text → status ≡ Text → told ≡ [] → MirrorReplies bytes status text told
   mirrored : Mirrored bytes text → status ≡ Done → told ≡ [] → MirrorReplies bytes status text told
 
--- it has one answer to all bytes
+-- for all bytes, it has exactly one answer
 abbrev pub MirrorIsSettled : Type 0
 MirrorIsSettled = (bytes : List ℕ) → IsSettled (MirrorReplies bytes)

@@ -1,4 +1,4 @@
--- What the command `plan` answers: the floor plan of the circuit that a configuration text spells (this project's own
+-- The answer of the command `plan`: the floor plan of the circuit that a configuration text spells (this project's own
 -- profile).
 use Rattle.std.specs.Prelude.{◌≡◌, ℕ, List, [], ◌∷◌, ◌++◌, codes, decimal, length}
 use Rattle.bn_circuits.specs.declared.line.Wire.{Wire}
@@ -15,7 +15,7 @@ use Rattle.bn_reply.specs.Lines.{line}
 use Rattle.bn_reply.specs.declared.status.Status.{Status}
 use Rattle.bn_reply.specs.declared.status.Status.TheVariants.{Done, Text}
 
--- the line of a wire: its output line, its input line, and its track
+-- the line of a wire: its output port, its input port, and its track
 abbrev pub wire_line : Tracked → List ℕ
 wire_line t = line (codes "wire " ∷ line_text t.from ∷ codes " " ∷ line_text t.to ∷ codes " track " ∷ decimal t.track
     ∷ [])
@@ -48,11 +48,12 @@ pub record Planned (bytes text : List ℕ) : Type 0 where
   pub spelled : Spelled version spelling bytes
   pub tells : TellsPlan spelling.wires spelling.elements text
 
--- What `plan` answers: the first fault of bytes that are no configuration text, or the floor plan. Nothing is told.
+-- The answer of `plan`: the first fault of bytes that are no configuration text, or the floor plan. No place is
+-- reported.
 pub data PlanReplies (bytes : List ℕ) (status : Status) (text : List ℕ) (told : List Place) : Type 0 where
   misspelled : Misspelled bytes text → status ≡ Text → told ≡ [] → PlanReplies bytes status text told
   planned : Planned bytes text → status ≡ Done → told ≡ [] → PlanReplies bytes status text told
 
--- it has one answer to all bytes
+-- for all bytes, it has exactly one answer
 abbrev pub PlanIsSettled : Type 0
 PlanIsSettled = (bytes : List ℕ) → IsSettled (PlanReplies bytes)

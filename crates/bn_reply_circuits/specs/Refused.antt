@@ -20,7 +20,7 @@ use Rattle.bn_reply.specs.declared.reply.Reply.{Reply}
 use Rattle.bn_reply.specs.declared.status.Status.{Status}
 use Rattle.bn_reply.specs.declared.status.Status.TheVariants as statuses
 
--- the line that refuses a text for what is wrong with this line
+-- the line that refuses a text for a fault of the line with this number
 abbrev pub line_text : ℕ → List ℕ → List ℕ
 line_text line what = codes "text: line " ++ (decimal line ++ (codes " " ++ (what ++ 10 ∷ [])))
 
@@ -50,13 +50,13 @@ IsRsmRefused (faults.Number i j) status text = (status ≡ statuses.Text) × (te
 IsRsmRefused (faults.TooMany i) status text = (status ≡ statuses.Text) × (text ≡ rsm_fault_line (faults.TooMany i))
 IsRsmRefused faults.Empty status text = (status ≡ statuses.Text) × (text ≡ rsm_fault_line faults.Empty)
 
--- how reporting that a text is none ends: its line is the reply, unless memory runs out
+-- how the report ends that bytes are no configuration text: its line is the reply, unless memory runs out
 abbrev pub RefusalEnds : NetlistRefusal → Status → Option (List ℕ) → Option (List ℕ) → ℕ → ℕ → Type 0
 RefusalEnds refusal result taken took before now =
     (reply : Result Reply WantOfMemory) × IfOk reply (λ r. IsRefused refusal r.status r.text.items)
     × FinishesReply reply result taken took before now
 
--- how reporting that nothing was read ends
+-- how the report ends that no text was read
 abbrev pub UnreadEnds : FromRefusal → Status → Option (List ℕ) → Option (List ℕ) → ℕ → ℕ → Type 0
 UnreadEnds reading.ReadFault result taken took before now =
     Finishes statuses.ReadFault result taken took before now read_fault_text

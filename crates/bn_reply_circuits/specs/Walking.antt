@@ -7,7 +7,7 @@ use Rattle.bn_packed.specs.declared.direction.Direction.{Direction}
 use Rattle.bn_reply.specs.declared.status.Status.{Status}
 use Rattle.bn_reply_relations.specs.CircuitReply.{CircuitReplies}
 
--- what the command answers that makes at most e steps in this direction: forward it is `step`, backward `back`
+-- the answer of the command that makes at most e steps in this direction: `step` forward, `back` backward
 abbrev pub WalkReplies : Direction → ℕ → List ℕ → Status → List ℕ → List Place → Type 0
 WalkReplies way e = CircuitReplies (λ k c. run_along way k c e) (λ k c. places_along way k e c)
 

@@ -12,8 +12,8 @@ use bn_netlist::{FromRefusal, Spellable, ToRefusal, write_config_to};
 use bn_reply::{Status, give_reply, tell_long_input, tell_read_fault};
 use std::alloc::Global;
 
-/// Gives the text of a configuration that may be spelled in its version, in pieces; or, if the sink fails or memory
-/// runs out, a prefix of it.
+/// Writes the text of a configuration that may be spelled in its version, in pieces. If the sink fails or memory runs
+/// out, the sink has received a prefix of it.
 pub fn give_config<K: Sink, C: Spellable>(alloc: Global, sink: &mut K, config: &C) -> Status
     requires { Admits (C.version config.now) (C.spelling config.now) }
     ensures ends { TextEnds (IsTextOf (C.version config.now) (C.spelling config.now)) result (K.taken sink.old)

@@ -10,9 +10,9 @@ use bn_rlem::{element_count, element_moves};
 use bn_rsm::write_moves;
 use std::alloc::Global;
 
-/// What `element` answers to a number of lines, from 1 to 10, and the number of an element, counted from 0 (Morita
-/// 2017): the table of the reversible element with one bit of memory that has so many lines and that number; or
-/// that there is no such element.
+/// The answer of `element` to a number of ports, from 1 to 10, and the number of an element, counted from 0 (Morita
+/// 2017): the table of the reversible element with one bit of memory that has this many ports and this number; or that
+/// there is no such element.
 pub fn reply_element(alloc: Global, lines: u32, number: u64) -> Result<Reply, NoMemory>
     requires { IsLineCount lines }
     ensures { IfOk result (λ r. ElementReplies lines number r.status r.text.items []) }

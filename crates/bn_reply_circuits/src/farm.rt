@@ -15,8 +15,8 @@ use bn_netlist::NetlistRefusal;
 use bn_reply::{Reply, Status};
 use std::alloc::Global;
 
-/// What `farm` answers: the circuits after the schedule, each followed by a line `%`, and the schedule that undoes it;
-/// or what is wrong with the bytes. (This project's own profile.)
+/// The answer of `farm`: the circuits after the schedule, each followed by a line `%`, and the schedule that undoes
+/// it; or the fault of the bytes. (This project's own profile.)
 pub fn reply_farm(alloc: Global, bytes: &[u8]) -> Result<Reply, NoMemory>
     requires { length bytes.now ≤ MOST_FARM_BYTES }
     ensures { IfOk result (λ r. FarmReplies bytes.now r.status r.text.items []) }
@@ -27,7 +27,7 @@ pub fn reply_farm(alloc: Global, bytes: &[u8]) -> Result<Reply, NoMemory>
     }
 }
 
-// The answer for a farm and a schedule.
+// The answer for independent circuits and their schedule.
 fn play_farm(alloc: Global, mut farm: Farm, schedule: &Schedule) -> Result<Reply, NoMemory>
     requires { AreOnBoards (length farm) schedule.now }
     ensures { IfOk result (λ r. (r.status ≡ Status.Done)
@@ -40,7 +40,7 @@ fn play_farm(alloc: Global, mut farm: Farm, schedule: &Schedule) -> Result<Reply
     })
 }
 
-// The answer to bytes that are no farm with a schedule.
+// The answer to bytes that are not circuits with a schedule.
 fn refuse_farm(alloc: Global, refusal: FarmRefusal) -> Result<Reply, NoMemory>
     ensures { IfOk result (λ r. IsFarmRefused refusal r.status r.text.items) }
 {
@@ -80,14 +80,14 @@ fn refuse_board(alloc: Global, board: u32, fault: NetlistRefusal) -> Result<Vec<
     }
 }
 
-// The line that refuses a circuit for what is wrong with one of its lines.
+// The line that refuses a circuit for a fault of one of its lines.
 fn board_line(alloc: Global, board: u32, line: u64, what: &str) -> Result<Vec<u8>, NoMemory>
     ensures { IfOk result (λ text. text.items ≡ board_fault_text board line what.now) }
 {
     Ok(format!(in alloc; "text: board {board} line {line} {what}\n")?.into_bytes())
 }
 
-// The line that refuses a schedule for what is wrong with one of its lines.
+// The line that refuses a schedule for a fault of one of its lines.
 fn refuse_line(alloc: Global, line: u64, what: &str) -> Result<Vec<u8>, NoMemory>
     ensures { IfOk result (λ text. text.items ≡ schedule_fault_text line what.now) }
 {

@@ -12,8 +12,8 @@ use bn_netlist::{PackedConfig, Version, read_text};
 use bn_reply::{MOST_INPUT_BYTES, Status};
 use std::alloc::Global;
 
-/// Answers `migrate`: reads a configuration text of either version and gives the sink that of the same configuration in
-/// version 2. It tells no watch anything.
+/// The command `migrate`: reads a configuration text of either version and writes that of the same configuration in
+/// version 2 to the sink. It reports nothing to a watch.
 pub fn answer_migrate<I: Input, K: Sink>(alloc: Global, input: &mut I, sink: &mut K) -> Status
     ensures ends { (told : Option (List Place)) → StreamEnds MigrateReplies result
         (outside (I.left input.old) (K.taken sink.old) told (I.faults input.old) (K.faults sink.old))

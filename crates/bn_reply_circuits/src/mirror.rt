@@ -13,9 +13,9 @@ use bn_netlist::{NetConfig, read_text};
 use bn_reply::{MOST_INPUT_BYTES, Status};
 use std::alloc::Global;
 
-/// Answers `mirror`: reads a configuration text of either version and gives the sink that of its inverse circuit, in
-/// the version that was read; or reports the first fault of bytes that are no configuration text. It tells no watch
-/// anything.
+/// The command `mirror`: reads a configuration text of either version and writes that of its inverse circuit to the
+/// sink, in the version that was read; or reports the first fault of bytes that are no configuration text. It reports
+/// nothing to a watch.
 pub fn answer_mirror<I: Input, K: Sink>(alloc: Global, input: &mut I, sink: &mut K) -> Status
     ensures ends { (told : Option (List Place)) → StreamEnds MirrorReplies result
         (outside (I.left input.old) (K.taken sink.old) told (I.faults input.old) (K.faults sink.old))

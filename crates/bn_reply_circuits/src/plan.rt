@@ -17,8 +17,8 @@ use bn_plan::plan;
 use bn_reply::{MOST_INPUT_BYTES, Reply, Status, give_reply};
 use std::alloc::Global;
 
-/// Answers `plan`: reads a configuration text of either version and gives the sink the floor plan of its circuit. It
-/// tells no watch anything.
+/// The command `plan`: reads a configuration text of either version and writes the floor plan of its circuit to the
+/// sink. It reports nothing to a watch.
 pub fn answer_plan<I: Input, K: Sink>(alloc: Global, input: &mut I, sink: &mut K) -> Status
     ensures ends { (told : Option (List Place)) → StreamEnds PlanReplies result
         (outside (I.left input.old) (K.taken sink.old) told (I.faults input.old) (K.faults sink.old))

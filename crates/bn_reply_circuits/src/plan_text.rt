@@ -63,7 +63,7 @@ fn push_counted(text: &mut Vec<u8>, word: &[u8], number: u64) -> Result<(), NoMe
     Ok(())
 }
 
-// A word and a line of an element.
+// A word and a port of an element.
 fn push_named(text: &mut Vec<u8>, word: &[u8], line: Line) -> Result<(), NoMemory>
     requires { line.line < 4 }
     ensures { OnOk result (text.new.items ≡ text.old.items ++ (word.now ++ line_text line)) }

@@ -22,8 +22,8 @@ use bn_reply::{Reply, Status, empty_text, field_text, record_text};
 use bn_rsm::{Rsm, RsmTableRefusal, read_rsm};
 use std::alloc::Global;
 
-/// Answers `realise` to a state, an input line, both counted from 1, and some bytes: whether they are the table of a
-/// machine that has both, and then the text of its bank, in version 2 and in pieces.
+/// The command `realise` for a state, an input port, both counted from 1, and some bytes: tests whether the bytes are
+/// the table of a machine that has both, and then writes the text of its bank, in version 2 and in pieces.
 pub fn answer_realise<K: Sink>(
     alloc: Global,
     state: u32,
@@ -116,8 +116,8 @@ fn bank_in(alloc: Global, rsm: &Rsm, state: u32, line: u32) -> Result<Unwritten,
     }
 }
 
-// The machine's bank in a state, with the signal at an input line, both counted from 0, as a configuration
-// whose text is of version 2.
+// The machine's bank in a state, with the signal at an input port, both counted from 0, as a configuration whose text
+// is of version 2.
 fn bank_config(
     alloc: Global,
     rsm: &Rsm,
@@ -145,7 +145,8 @@ fn bank_config(
     })
 }
 
-// The line by which the signal leaves the bank: the output line of the move, or the loose line if the pair has no move.
+// The port by which the signal leaves the bank: the output port of the move, or the loose port if the pair has no
+// move.
 fn exit_line(rsm: &Rsm, state: u32, line: u32) -> Line
     requires few { bank_elements rsm.now ≤ MOST_ELEMENTS }
     requires state { state < rsm.now.states }

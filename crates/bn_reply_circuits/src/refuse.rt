@@ -26,7 +26,7 @@ pub(crate) fn refuse_config(alloc: Global, refusal: NetlistRefusal) -> Result<Re
     }
 }
 
-// The line that refuses a text for what is wrong with one of its lines.
+// The line that refuses a text for a fault of one of its lines.
 fn refuse_line(alloc: Global, line: u64, what: &str) -> Result<Reply, NoMemory>
     ensures status { IfOk result (λ r. r.status ≡ Status.Text) }
     ensures text { IfOk result (λ r. r.text.items ≡ line_text line what.now) }

@@ -24,8 +24,8 @@ pub enum Unwritten {
 }
 
 impl Unwritten {
-    /// Gives it to a sink, the text of a configuration in pieces, and returns its status; `WriteFault` if the sink
-    /// failed, and `NoMemory` if memory ran out.
+    /// Writes the answer to a sink, the text of a configuration in pieces, and returns its status; `WriteFault` if the
+    /// sink failed, and `NoMemory` if memory ran out.
     pub fn give<K: Sink>(self, alloc: Global, sink: &mut K) -> Status
         requires { IsWritable self }
         ensures ends { (told : Option (List Place)) →

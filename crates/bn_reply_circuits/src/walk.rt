@@ -16,8 +16,8 @@ use bn_packed::Direction;
 use bn_reply::{MOST_INPUT_BYTES, Status};
 use std::alloc::Global;
 
-/// Answers `step`: reads a configuration text and gives the sink that of the configuration after at most `count` steps,
-/// in the version that was read. The watch is told the place after each step.
+/// The command `step`: reads a configuration text and writes that of the configuration after at most `count` steps to
+/// the sink, in the version that was read. The place after each step is reported to the watch.
 pub fn answer_step<I: Input, K: Sink, W: Watch>(
     alloc: Global,
     count: u64,
@@ -33,7 +33,7 @@ pub fn answer_step<I: Input, K: Sink, W: Watch>(
     answer_walk(alloc, Direction::Forward, count, input, sink, watch)
 }
 
-/// Answers `back`: as `answer_step`, after at most `count` steps back.
+/// The command `back`: the same as `answer_step`, after at most `count` steps back.
 pub fn answer_back<I: Input, K: Sink, W: Watch>(
     alloc: Global,
     count: u64,
@@ -49,7 +49,7 @@ pub fn answer_back<I: Input, K: Sink, W: Watch>(
     answer_walk(alloc, Direction::Backward, count, input, sink, watch)
 }
 
-// Answers the command that makes its steps in this direction.
+// The command that makes its steps in this direction.
 fn answer_walk<I: Input, K: Sink, W: Watch>(
     alloc: Global,
     direction: Direction,
@@ -71,7 +71,8 @@ fn answer_walk<I: Input, K: Sink, W: Watch>(
     give_config(alloc, sink, &moved)
 }
 
-// What was read, after at most `count` steps in this direction. The watch is told the place after each step.
+// The configuration that was read, after at most `count` steps in this direction. The place after each step is
+// reported to the watch.
 fn walk<W: Watch>(
     direction: Direction,
     count: u64,

@@ -1,8 +1,8 @@
--- What the command `equal Q R` answers to a table of a sequential machine, a line `%` and a second table: whether state
--- Q of the first machine and state R of the second answer every sequence of input lines alike (Moore 1956; the texts
--- are this project's own profile). States and lines are counted from 1 in words and texts. What is wrong with the texts
--- comes first, then what is wrong with the machines, each time the first table's before the second's, and then the
--- states.
+-- The answer of the command `equal Q R` to a table of a sequential machine, a line `%` and a second table: whether
+-- state Q of the first machine and state R of the second give the same outputs for every sequence of input lines
+-- (Moore 1956; the texts are this project's own profile). States and lines are counted from 1 in arguments and texts.
+-- Faults of the texts are reported first, then those of the machines, each time the first table's before the second's,
+-- and then those of the states.
 use Rattle.std.specs.Prelude.{◌≡◌, ◌+◌, ◌<◌, ◌≤◌, ◌++◌, ℕ, List, [], ◌∷◌, Option, Some, None, codes, decimal}
 use Rattle.bn_base.specs.Cuts.{IsCut, IsUncut}
 use Rattle.bn_circuits.specs.declared.place.Place.{Place}
@@ -22,24 +22,24 @@ use Rattle.bn_reply_equal.specs.Second.{no_second_line, with_second}
 
 -- ---- the texts of a comparison
 
--- each line of a sequence behind a space, and the end of the line
+-- each line of a sequence after a space, and the end of the line
 abbrev pub sequence_text : List ℕ → List ℕ
 sequence_text [] = 10 ∷ []
 sequence_text (i ∷ w) = codes " " ++ (decimal (i + 1) ++ sequence_text w)
 
--- an output line, or `-` where there is no move
+-- an output line, or `-` if there is no move
 abbrev pub output_text : Option ℕ → List ℕ
 output_text None = codes "-"
 output_text (Some o) = decimal (o + 1)
 
--- the lines of a difference: the sequence, and what the two states answer to its last line
+-- the lines of a difference: the sequence, and the outputs of the two states for its last line
 abbrev pub difference_text : List ℕ → Option ℕ → Option ℕ → List ℕ
 difference_text w first second =
     codes "differ" ++ (sequence_text w ++ (line (codes "first " ∷ output_text first ∷ [])
     ++ line (codes "second " ∷ output_text second ∷ [])))
 
--- The answer to a state of each machine, counted from 0: they are equal, or this is the least sequence that tells them
--- apart.
+-- The answer to a state of each machine, counted from 0: they are equal, or this is the least sequence that
+-- distinguishes them.
 pub data ComparisonReplies (m : Machine) (q : ℕ) (n : Machine) (r : ℕ) (text : List ℕ) : Type 0 where
   equal : AreEqual (machine_table m) q (machine_table n) r → text ≡ line (codes "equal" ∷ [])
       → ComparisonReplies m q n r text
@@ -58,8 +58,8 @@ pub data StatesReplies (m : Machine) (q : ℕ) (n : Machine) (r : ℕ) (status :
       → ComparisonReplies m state n other text → status ≡ statuses.Done → told ≡ []
       → StatesReplies m q n r status text told
 
--- The answer to two texts: the fault of the first; that of the second; two moves of the first that agree on a side; two
--- of the second; or the answer to the two machines.
+-- The answer to two texts: the fault of the first; that of the second; two moves of the first that overlap in domain
+-- or in range; two of the second; or the answer to the two machines.
 pub data TablesReplies (q r : ℕ) (first second : List ℕ) (status : Status) (text : List ℕ) (told : List Place) :
     Type 0 where
   faulty : TellsRsmFault first text → status ≡ statuses.Text → told ≡ []
@@ -75,14 +75,13 @@ pub data TablesReplies (q r : ℕ) (first second : List ℕ) (status : Status) (
   reading : (m n : Machine) → ReadsMoves first m → ReadsMoves second n → StatesReplies m q n r status text told
       → TablesReplies q r first second status text told
 
--- What `equal` answers to these states and bytes: no line is the one before a second table; or the answer to the two
--- texts.
+-- The answer of `equal` to these states and bytes: there is no line `%`; or the answer to the two texts.
 pub data EqualReplies (q r : ℕ) (bytes : List ℕ) (status : Status) (text : List ℕ) (told : List Place) : Type 0 where
   uncut : IsUncut bytes → text ≡ no_second_line → status ≡ statuses.Text → told ≡ []
       → EqualReplies q r bytes status text told
   cut : (first second : List ℕ) → IsCut bytes first second → TablesReplies q r first second status text told
       → EqualReplies q r bytes status text told
 
--- it has one answer to all states, counted from 1, and all bytes
+-- for all states, counted from 1, and all bytes, it has exactly one answer
 abbrev pub EqualIsSettled : Type 0
 EqualIsSettled = (q r : ℕ) (bytes : List ℕ) → 1 ≤ q → 1 ≤ r → IsSettled (EqualReplies q r bytes)

@@ -2,5 +2,5 @@
 use Rattle.bn_reply_equal.specs.EqualReply.{EqualIsSettled}
 
 pub record Laws : Type 0 where
-  -- For all states and bytes `equal` has an answer, and only one.
+  -- For all states and bytes, `equal` has exactly one answer.
   pub equal_has_one_reply : EqualIsSettled

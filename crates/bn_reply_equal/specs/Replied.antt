@@ -8,7 +8,7 @@ use Rattle.bn_reply_circuits.specs.RealiseReply.{TellsClash, TellsRsmFault}
 use Rattle.bn_reply_equal.specs.declared.read.ReadTable.{ReadTable}
 use Rattle.bn_reply_equal.specs.declared.read.ReadTable.TheVariants.{Faulty, Clashing, Machine as IsMachine}
 
--- the fault of the text; two moves that agree on a side, where the text has no fault; or the machine
+-- the fault of the text; two moves that overlap in domain or in range, if the text has no fault; or the machine
 abbrev pub IsReadTable : List ℕ → ReadTable → Type 0
 IsReadTable bytes (Faulty text) = TellsRsmFault bytes text.items
 IsReadTable bytes (Clashing text) =

@@ -17,10 +17,10 @@ use bn_reply::{Reply, Status};
 use bn_rsm::Rsm;
 use std::alloc::Global;
 
-/// What `equal` answers to a state of the first machine and one of the second, both counted from 1, and some bytes,
-/// which are a table, a line `%` and a second table: whether there is such a line, both are tables of machines that
-/// have the states, and then whether these answer every sequence of input lines alike, or the least sequence that
-/// they do not.
+/// The answer of `equal` to a state of the first machine and one of the second, both counted from 1, and some bytes,
+/// which are a table, a line `%` and a second table: a refusal if there is no such line, one is not the table of a
+/// machine, or a machine lacks the state; otherwise whether the states give the same outputs for every sequence of
+/// input lines, or the least sequence for which they differ.
 pub fn reply_equal(alloc: Global, state: u32, other: u32, bytes: &[u8]) -> Result<Reply, NoMemory>
     requires state { (1 ≤ state) × (state ≤ MOST_COUNT) }
     requires other { (1 ≤ other) × (other ≤ MOST_COUNT) }
@@ -51,7 +51,7 @@ fn reply_tables(
     }
 }
 
-// The answer if two moves of the first table agree on a side.
+// The answer if two moves of the first table overlap in domain or in range.
 fn reply_clash(alloc: Global, text: Vec<u8>, second: &[u8]) -> Result<Reply, NoMemory>
     ensures { IfOk result (λ r. (state other : ℕ) (first : List ℕ) → IsReadTable first (Clashing text)
         → TablesReplies state other first second.now r.status r.text.items []) }
@@ -92,7 +92,7 @@ fn reply_machine(
     }
 }
 
-// The reply that says by this line that a table is one of no machine.
+// The reply with this line, which says that a table is not that of a machine.
 fn of_machine(text: Vec<u8>) -> Reply
     ensures { result ≡ record { text = text; status = Status.Machine } }
 {

@@ -1,5 +1,5 @@
-//! The reply of the command `equal`: whether a state of one sequential machine and a state of another answer every
-//! sequence of input lines alike.
+//! The reply of the command `equal`: whether a state of one sequential machine and a state of another give the same
+//! outputs for every sequence of input lines.
 #![tactic(auto)]
 
 mod equal;

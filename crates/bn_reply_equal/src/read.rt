@@ -1,4 +1,4 @@
-//! A table of a machine as it is read: its fault, its clash, or the machine.
+//! The result of reading the table of a machine: its fault, its overlap, or the machine.
 
 ghost use Rattle.std.specs.Prelude.{ℕ, List, IfOk};
 ghost use Rattle.bn_rsm.specs.Reading.{IsMoveTableRefusal};
@@ -9,12 +9,12 @@ use bn_reply::{empty_text, field_text, record_text};
 use bn_rsm::{Rsm, RsmTableRefusal, read_rsm};
 use std::alloc::Global;
 
-/// A table as it is read. A refusal is the line that tells it of a first table.
+/// The result of reading a table. A refusal is the line that reports it for a first table.
 #[derive(Drop)]
 pub(crate) enum ReadTable {
     /// The text has a fault.
     Faulty(Vec<u8>),
-    /// Two moves agree on a side.
+    /// Two moves overlap in domain or in range.
     Clashing(Vec<u8>),
     /// The machine.
     Machine(Rsm),

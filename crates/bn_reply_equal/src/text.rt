@@ -25,7 +25,7 @@ pub(crate) fn text_of(alloc: Global, difference: &Difference) -> Result<Vec<u8>,
     Ok(text)
 }
 
-// Appends the lines of a sequence, each behind a space, and ends the line.
+// Appends the lines of a sequence, each after a space, and ends the line.
 fn push_sequence(text: &mut Vec<u8>, word: &[u32]) -> Result<(), NoMemory>
     ensures { OnOk result (text.new.items ≡ text.old.items ++ sequence_text word.now) }
 {
@@ -36,7 +36,7 @@ fn push_sequence(text: &mut Vec<u8>, word: &[u32]) -> Result<(), NoMemory>
     push(text, b"\n")
 }
 
-// Appends an output line, or `-` where there is none.
+// Appends an output line, or `-` if there is none.
 fn push_output(text: &mut Vec<u8>, output: Option<u32>) -> Result<(), NoMemory>
     ensures { OnOk result (text.new.items ≡ text.old.items ++ output_text output) }
 {

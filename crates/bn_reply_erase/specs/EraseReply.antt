@@ -1,4 +1,4 @@
--- What the commands `erase` and `erase =W n` answer: the machine of two tables that leaves only its output (Bennett
+-- The answers of the commands `erase` and `erase =W n`: the machine of two tables that leaves only its output (Bennett
 -- 1973), and its run from a word (the reading of the words and the texts are this project's own profile).
 use Rattle.std.specs.Prelude.{◌≡◌, ℕ, ◌<◌, ◌≤◌, List, [], ◌∷◌, ◌++◌, length, map, codes, decimal}
 use Rattle.bn_circuits.specs.declared.place.Place.{Place}
@@ -47,15 +47,15 @@ erase_text j = lines_of (map (erasing_entry j) (erasing_of j))
 abbrev pub many_line : ℕ → List ℕ
 many_line count = line (codes "size: quadruples " ∷ decimal count ∷ [])
 
--- What is answered to two machines, where `tells` is what is answered where the erasing machine has 20,000 quadruples
--- at most: that it has more, or that.
+-- The answer to two machines, where `tells` is the answer if the erasing machine has at most 20,000 quadruples: that
+-- it has more, or else that answer.
 pub data CountedReplies (tells : Status → List ℕ → List Place → Type 0) (j : Joint) (status : Status) (text : List ℕ)
     (told : List Place) : Type 0 where
   many : MOST_QUADRUPLES < length (erasing_of j) → text ≡ many_line (length (erasing_of j)) → status ≡ statuses.Size
       → told ≡ [] → CountedReplies tells j status text told
   few : length (erasing_of j) ≤ MOST_QUADRUPLES → tells status text told → CountedReplies tells j status text told
 
--- what `erase` answers to these bytes: the erasing machine of the two tables' machines
+-- the answer of `erase` to these bytes: the erasing machine of the two tables' machines
 abbrev pub EraseReplies : List ℕ → Status → List ℕ → List Place → Type 0
 EraseReplies = PairReplies (λ t u. CountedReplies (IsDone (erase_text (joined t u))) (joined t u))
 
@@ -75,7 +75,7 @@ erased_lines j i work output =
 abbrev pub erasing_stuck_line : ℕ → ErasingName → List ℕ
 erasing_stuck_line i name = line (codes "stuck " ∷ erasing_text name ∷ codes " " ∷ decimal i ∷ [])
 
--- the status and the text of a run that comes out so after i steps
+-- the status and the text of a run with this result after i steps
 abbrev pub erasing_status : ErasingOutcome → Status
 erasing_status (Halted work output) = statuses.Done
 erasing_status (Stuck name) = statuses.Stuck
@@ -86,7 +86,7 @@ outcome_text j i (Halted work output) = erased_lines j i work output
 outcome_text j i (Stuck name) = erasing_stuck_line i name
 outcome_text j i Running = running_line i
 
--- The text tells how the erasing machine's run from these symbols comes out, of which at most n steps are made.
+-- The text reports the result of the erasing machine's run from these symbols, with at most n steps.
 pub record TellsErasing (j : Joint) (n : ℕ) (symbols : List ℕ) (status : Status) (text : List ℕ)
     (told : List Place) : Type 0 where
   pub steps : ℕ
@@ -96,7 +96,7 @@ pub record TellsErasing (j : Joint) (n : ℕ) (symbols : List ℕ) (status : Sta
   pub text_is : text ≡ outcome_text j steps outcome
   pub silent : told ≡ []
 
--- What is answered to the symbols of a word: that they are too many, or what is answered to the machines.
+-- The answer to the symbols of a word: that they are too many, or else the answer to the machines.
 pub data LongReplies (j : Joint) (n : ℕ) (symbols : List ℕ) (status : Status) (text : List ℕ)
     (told : List Place) : Type 0 where
   long : MOST_COUNT < length symbols → text ≡ long_line (length symbols) → status ≡ statuses.Size → told ≡ []
@@ -104,7 +104,7 @@ pub data LongReplies (j : Joint) (n : ℕ) (symbols : List ℕ) (status : Status
   short : length symbols ≤ MOST_COUNT → CountedReplies (TellsErasing j n symbols) j status text told
       → LongReplies j n symbols status text told
 
--- what `erase =W n` answers to these bytes: the run of the erasing machine from the word, of at most n steps
+-- the answer of `erase =W n` to these bytes: the run of the erasing machine from the word, with at most n steps
 abbrev pub EraseRunReplies : List ℕ → ℕ → List ℕ → Status → List ℕ → List Place → Type 0
 EraseRunReplies word n = PairReplies (λ t u. WordReplies (LongReplies (joined t u) n) (lettered (joined t u)) word)
 

@@ -1,4 +1,4 @@
--- A run of the erasing machine on tapes in windows, and the run on tapes without ends that it stands for.
+-- A run of the erasing machine on tapes in windows, and the run on tapes without ends that it represents.
 use Rattle.std.specs.Prelude.{◌≡◌, ℕ, ◌<◌, ◌≤◌, List, length, All}
 use Rattle.bn_lists.specs.Runs.{Reaches}
 use Rattle.bn_machine.specs.Machine.{Program}
@@ -24,7 +24,7 @@ pub record AreOf (j : Joint) (first second : Program) : Type 0 where
   pub first_standard : IsStandardMachine j.first
   pub second_standard : IsStandardMachine j.second
 
--- From a state and tapes in windows, so many steps lead to another state and tapes in those windows.
+-- From a state and tapes in windows, this many steps lead to another state and tapes in those windows.
 pub record Reached (p : Quadruples) (made state : ℕ) (w : Tapes) (at : ℕ) (v : Tapes) : Type 0 where
   pub same : AreSameWindows w v
   pub run : Reaches (QuadruplesRunTo (rooms_of w) p) made (configuration state w) (configuration at v)
@@ -34,8 +34,8 @@ abbrev pub IsStep : QuadTurn → Type 0
 IsStep (turns.Moved quad) = Unit {0}
 IsStep _ = ⊥
 
--- From a state and tapes, so many steps, n at most, lead to where the machine answers this turn and leaves this state
--- and these tapes. Where it makes fewer steps than n, the turn is no further step.
+-- From a state and tapes, this many steps, at most n, lead to where the machine returns this turn and leaves this
+-- state and these tapes. If it makes fewer steps than n, the turn is no further step.
 pub record IsRun (p : Quadruples) (n state : ℕ) (w : Tapes) (made : ℕ) (turn : QuadTurn) (after : ℕ)
     (v : Tapes) : Type 0 where
   pub at : ℕ
@@ -45,12 +45,12 @@ pub record IsRun (p : Quadruples) (n state : ℕ) (w : Tapes) (made : ℕ) (turn
   pub last : IsQuadTurn p turn at tapes after v
   pub early : made < n → IsStep turn → ⊥
 
--- the turn doesn't say that a head would leave its window
+-- the turn does not say that a head would leave its window
 abbrev pub StaysInside : QuadTurn → Type 0
 StaysInside (turns.Left tape side) = ⊥
 StaysInside _ = Unit {0}
 
--- how a run comes out that is followed by this turn and leaves this state and these tapes
+-- the result of a run that ends with this turn and leaves this state and these tapes
 abbrev pub ComesOutOf : QuadTurn → ℕ → Tapes → Ending → Type 0
 ComesOutOf turns.Final state v (Halted work output) =
     IsOutput (rewound v.one.tape) work.items × IsOutput (rewound v.three.tape) output.items
@@ -58,7 +58,7 @@ ComesOutOf turns.Stuck state v (Stuck at) = at ≡ state
 ComesOutOf (turns.Moved quad) state v Running = Unit {0}
 ComesOutOf _ state v _ = ⊥
 
--- the ending as it is told of runs over names
+-- the result as it is stated of runs over names
 abbrev pub outcome_of : Erasure → Ending → free.ErasingOutcome
 outcome_of e (Halted work output) = free.Halted work.items output.items
 outcome_of e (Stuck state) = free.Stuck (name_of e state)
@@ -77,8 +77,8 @@ pub record IsErasingOfSome (e : Erasure) : Type 0 where
   pub first_standard : IsStandardMachine first
   pub second_standard : IsStandardMachine second
 
--- the run of the erasing machine from a word, of at most n steps, comes out so after so many steps, whatever two
--- machines in standard form it is of
+-- this is the result of the run of the erasing machine from a word after this many steps, of at most n, for any two
+-- machines in standard form that it is composed from
 pub record HasEnded (e : Erasure) (word : List ℕ) (n steps : ℕ) (ending : Ending) : Type 0 where
   pub state : (p q : Program) → IsErasing p q e → IsStandardMachine p → IsStandardMachine q → IsEndingOf e ending
   pub comes_out : (p q : Program) → IsErasing p q e → IsStandardMachine p → IsStandardMachine q

@@ -57,16 +57,16 @@ ErasingRunsTellBoth =
 -- ---- the laws
 
 pub record Laws : Type 0 where
-  -- For all bytes `erase` has an answer, and only one.
+  -- For all bytes, `erase` has exactly one answer.
   pub erase_has_one_reply : EraseIsSettled
-  -- For all words, numbers of steps and bytes `erase =W n` has an answer, and only one.
+  -- For all words, numbers of steps and bytes, `erase =W n` has exactly one answer.
   pub erase_run_has_one_reply : EraseRunIsSettled
   -- `erase =W n` answers that the run halts exactly if both machines do, each on the other's word, and the number of
   -- steps that the erasing machine then makes is at most n (Bennett 1973).
   pub erasing_runs_tell_both : ErasingRunsTellBoth
   -- The table that `bennett` prints is within the limit of an input.
   pub bennett_texts_may_be_read : BennettTextsMayBeRead
-  -- So is the table that `erase` prints.
+  -- The table that `erase` prints is within the limit of an input.
   pub erase_texts_may_be_read : EraseTextsMayBeRead
-  -- And the table that `inverse` prints.
+  -- The table that `inverse` prints is within the limit of an input.
   pub inverse_texts_may_be_read : InverseTextsMayBeRead

@@ -20,7 +20,7 @@ use Rattle.bn_reply_erase.specs.declared.pair.OpenedPair.TheVariants as opened
 use Rattle.bn_reply_erase.specs.declared.pair.JudgedPair.{JudgedPair}
 use Rattle.bn_reply_erase.specs.declared.pair.JudgedPair.TheVariants as judged
 
--- there is no answer to two tables with machines in standard form, so that an answer is a refusal
+-- two tables with machines in standard form have no answer here, so every answer is a refusal
 abbrev pub nothing : Named → Named → Status → List ℕ → List Place → Type 0
 nothing t u status text told = ⊥
 

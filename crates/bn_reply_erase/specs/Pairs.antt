@@ -1,6 +1,6 @@
--- What the commands on two tables answer: the input is a first table, a line `%`, and a second table. What is wrong
--- with the texts comes first, then what is wrong with the machines, each time the first table's before the second's
--- (this project's own profile).
+-- The answers of the commands on two tables: the input is a first table, a line `%`, and a second table. Faults of the
+-- texts are reported first, then those of the machines, each time the first table's before the second's (this
+-- project's own profile).
 use Rattle.std.specs.Prelude.{◌≡◌, ℕ, List, [], ◌∷◌, ◌++◌, codes, if◌then◌else◌, ◌==◌}
 use Rattle.bn_circuits.specs.declared.place.Place.{Place}
 use Rattle.bn_table.specs.Reading.{Reads}
@@ -21,16 +21,16 @@ abbrev pub with_second : List ℕ → List ℕ
 with_second [] = []
 with_second (byte ∷ rest) = if byte == 32 then byte ∷ codes "second " ++ rest else byte ∷ with_second rest
 
--- The answer to the bytes of a second table, where `tells` is the answer to the table: the fault of bytes that are
--- none, or that.
+-- The answer to the bytes of a second table, where `tells` is the answer to the table: the first fault if the bytes
+-- are not a table, or else that answer.
 pub data SecondReplies (tells : Named → Status → List ℕ → List Place → Type 0) (bytes : List ℕ) (status : Status)
     (text : List ℕ) (told : List Place) : Type 0 where
   faulty : (refusal : List ℕ) → TellsFault bytes refusal → text ≡ with_second refusal → status ≡ statuses.Text
       → told ≡ [] → SecondReplies tells bytes status text told
   read : (t : Named) → Reads bytes t → tells t status text told → SecondReplies tells bytes status text told
 
--- The answer to a second table, where `tells` is the answer if its machine is in standard form: the condition that it
--- does not meet, or that.
+-- The answer to a second table, where `tells` is the answer if its machine is in standard form: the first condition
+-- that the machine does not meet, or else that answer.
 pub data SecondJudged (tells : Status → List ℕ → List Place → Type 0) (t : Named) (status : Status) (text : List ℕ)
     (told : List Place) : Type 0 where
   unfit : (refusal : List ℕ) → TellsWhy t refusal → text ≡ with_second refusal → status ≡ statuses.Machine → told ≡ []

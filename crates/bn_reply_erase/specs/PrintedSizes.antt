@@ -1,4 +1,4 @@
--- How long the tables are that `bennett`, `erase` and `inverse` print: within the limit of an input.
+-- The length of the tables that `bennett`, `erase` and `inverse` print is within the limit of an input.
 use Rattle.std.specs.Prelude.{ℕ, ◌≤◌, List, length}
 use Rattle.bn_qtable.specs.Reading.{ReadsQuadruples}
 use Rattle.bn_qtable.specs.Rows.{QuadTable}
@@ -14,7 +14,7 @@ use Rattle.bn_reply_machines.specs.InverseReply.{inverse_text}
 abbrev pub BennettTextsMayBeRead : Type 0
 BennettTextsMayBeRead = (t : Named) → IsTable t → length (bennett_text t) ≤ MOST_INPUT_BYTES
 
--- the table of the erasing machine of two tables' machines, where it hasn't too many quadruples
+-- the table of the erasing machine of two tables' machines, if it does not have too many quadruples
 abbrev pub EraseTextsMayBeRead : Type 0
 EraseTextsMayBeRead =
     (t u : Named) → IsTable t → IsTable u → length (erasing_of (joined t u)) ≤ MOST_QUADRUPLES

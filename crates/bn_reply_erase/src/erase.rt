@@ -24,9 +24,9 @@ use bn_qtable::write_quads;
 use bn_reply::{OpenedWord, Reply, Status, too_long};
 use std::alloc::Global;
 
-/// What `erase` answers to some bytes, which are a table, a line `%` and a second table: whether there is such a line,
-/// both are tables, both machines are in standard form, and the erasing machine has at most 20,000 quadruples; and then
-/// its table.
+/// The answer of `erase` to some bytes, which are a table, a line `%` and a second table: a refusal if there is no
+/// such line, one is not a table, a machine is not in standard form, or the erasing machine has more than 20,000
+/// quadruples; otherwise its table.
 pub fn reply_erase(alloc: Global, bytes: &[u8]) -> Result<Reply, NoMemory>
     ensures { IfOk result (λ r. EraseReplies bytes.now r.status r.text.items []) }
 {
@@ -39,10 +39,10 @@ pub fn reply_erase(alloc: Global, bytes: &[u8]) -> Result<Reply, NoMemory>
     }
 }
 
-/// What `erase` answers to a word, a greatest number of steps and some bytes, which are a table, a line `%` and a
-/// second table: all that it answers without a word, and after the tests of standard form whether the word is one of
-/// the two tables' letters without the blank's and has at most 1,048,576 of them; and then how the erasing machine's
-/// run from the word ends.
+/// The answer of `erase` to a word, a greatest number of steps and some bytes, which are a table, a line `%` and a
+/// second table: the refusals without a word, and after the tests of standard form a refusal if the word has a letter
+/// that is not one of the two tables' or is the blank's, or more than 1,048,576 letters; otherwise the result of the
+/// erasing machine's run from the word.
 pub fn reply_erase_run(
     alloc: Global,
     word: &[u8],
@@ -154,7 +154,7 @@ fn reply_symbols(
     }
 }
 
-// The answer for a run that ends so.
+// The answer for a run with this result.
 fn reply_ended(
     alloc: Global,
     joined: &Joined,

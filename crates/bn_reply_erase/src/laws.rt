@@ -1,7 +1,7 @@
-//! Laws on what `erase` and `erase =W n` answer. The function does nothing: its contract is the laws.
+//! Laws on the answers of `erase` and `erase =W n`. The function does nothing: its contract is the laws.
 ghost use Rattle.bn_reply_erase.specs.Laws.{Laws};
 
-/// Laws on what `erase` and `erase =W n` answer, a named field each.
+/// Laws on the answers of `erase` and `erase =W n`, a named field each.
 pub fn reply_erase_laws()
     ensures { Laws }
 {}

@@ -28,7 +28,7 @@ pub(crate) fn open_word(alloc: Global, joined: &Joined, word: &[u8]) -> Result<O
     Ok(OpenedWord::Symbols(symbols))
 }
 
-// The symbol of a byte, `None` exactly where it is no joint letter or is the blank's.
+// The symbol of a byte, or `None` exactly if the byte is not a joint letter or is the blank's.
 fn symbol_of(joined: &Joined, byte: u8) -> Option<u32>
     ensures { MatchOption result (¬ IsLetterOf (lettered joined.now) byte) (IsSymbolOf (lettered joined.now) byte) }
 {

@@ -1,4 +1,4 @@
-//! The input of the commands on two tables: both are read and taken over one alphabet, and both machines are judged.
+//! The input of the commands on two tables: both are read and joined over one alphabet, and both machines are tested.
 
 ghost use Rattle.std.specs.Prelude.{◌≡◌, ◌<◌, ◌==◌, Contains, IfOk, IfNone, IfSome, length, position};
 ghost use Rattle.bn_reply_erase.specs.Opened.{AreOpened, IsJudgedPair, IsOpenedPair, IsOpenedSecond};

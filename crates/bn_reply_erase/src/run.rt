@@ -14,18 +14,18 @@ use bn_quad::{IndexedMachine, QuadTurn, Tapes};
 use bn_reply_machines::letter_at;
 use std::alloc::Global;
 
-/// How a run ends.
+/// The result of a run.
 #[derive(Drop)]
 pub(crate) enum Ending {
-    /// It is in the final state; the words on tapes 1 and 3, from cell 1 on.
+    /// The machine is in the final state; the words on tapes 1 and 3, from cell 1 on.
     Halted { work: Vec<u32>, output: Vec<u32> },
     /// No quadruple applies in this state, counted from 0.
     Stuck { state: u32 },
-    /// All steps are made, and there is a next one.
+    /// All steps are made, and a further one is possible.
     Running,
 }
 
-/// The end of a run, and after how many steps it comes.
+/// The result of a run, and the number of steps after which it comes.
 #[derive(Drop)]
 pub(crate) struct Ended {
     pub(crate) steps: u32,
@@ -60,7 +60,7 @@ pub(crate) fn run_word(
     })
 }
 
-// A tape with this word that reaches so far to both sides at least.
+// A tape with this word that reaches at least this many cells to each side.
 fn wide_tape(alloc: Global, side: u32, word: &[u32]) -> Result<Tape, NoMemory>
     requires few { side ≤ MOST_COUNT + 1 }
     requires short { length word.now ≤ MOST_COUNT }
@@ -93,7 +93,7 @@ fn run(
     (steps, machine.step(state, tapes))
 }
 
-// How a run ends that is followed by this turn and leaves this state and these tapes.
+// The result of a run that ends with this turn, and leaves this state and these tapes.
 fn ending_after(
     alloc: Global,
     turn: QuadTurn,

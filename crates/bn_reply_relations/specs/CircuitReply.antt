@@ -1,4 +1,4 @@
--- What the commands on a configuration text of either version answer: `step` and `back`.
+-- The answers of the commands `step` and `back` to a configuration text of either version.
 use Rattle.std.specs.Prelude.{◌≡◌, ℕ, List, [], ◌∷◌, ◌++◌, decimal, codes}
 use Rattle.bn_circuits.specs.Circuits.{Circuit}
 use Rattle.bn_circuits.specs.declared.place.Place.{Place}
@@ -12,7 +12,7 @@ use Rattle.bn_reply.specs.Answering.{IsSettled}
 use Rattle.bn_reply.specs.declared.status.Status.{Status}
 use Rattle.bn_reply.specs.declared.status.Status.TheVariants.{Done, Text}
 
--- how a fault is named
+-- the text of a fault
 abbrev pub fault_name : Fault → List ℕ
 fault_name malformed = codes "syntax"
 fault_name too_many = codes "too many"
@@ -24,7 +24,7 @@ fault_name start_fed = codes "start fed"
 fault_name second_source = codes "two sources"
 fault_name spelled_out = codes "spelling"
 
--- the line that refuses a text for this fault in this line
+-- the line that refuses a text for this fault in the line with this number
 abbrev pub fault_text : ℕ → Fault → List ℕ
 fault_text line fault = codes "text: line " ++ (decimal line ++ (codes " " ++ (fault_name fault ++ 10 ∷ [])))
 
@@ -35,8 +35,8 @@ pub record Misspelled (bytes text : List ℕ) : Type 0 where
   pub first : IsFirstFault bytes line fault
   pub written : text ≡ fault_text line fault
 
--- The bytes spell a configuration; the text is that of the configuration to which its circuit goes, with the same start
--- and end and in the same version, and a watch is told the places on the way.
+-- The bytes spell a configuration; the text is that of the configuration that its circuit reaches, with the same start
+-- and end and in the same version, and the places on the way are reported to a watch.
 pub record Walked (goes : Circuit → Config → Config) (tells : Circuit → Config → List Place) (bytes text : List ℕ)
     (told : List Place) : Type 0 where
   pub version : Version
@@ -45,19 +45,19 @@ pub record Walked (goes : Circuit → Config → Config) (tells : Circuit → Co
   pub written : IsTextOf version (moved_to spelling (goes (circuit_of spelling) spelling.config)) text
   pub places : told ≡ tells (circuit_of spelling) spelling.config
 
--- What such a command answers: the first fault of bytes that are no configuration text, or that text.
+-- The answer of such a command: the first fault of bytes that are no configuration text, or that text.
 pub data CircuitReplies (goes : Circuit → Config → Config) (tells : Circuit → Config → List Place) (bytes : List ℕ)
     (status : Status) (text : List ℕ) (told : List Place) : Type 0 where
   misspelled : Misspelled bytes text → status ≡ Text → told ≡ [] → CircuitReplies goes tells bytes status text told
   walked : Walked goes tells bytes text told → status ≡ Done → CircuitReplies goes tells bytes status text told
 
--- `step` makes at most e steps, and `back` takes at most e back
+-- `step` makes at most e steps, and `back` undoes at most e steps
 abbrev pub StepReplies : ℕ → List ℕ → Status → List ℕ → List Place → Type 0
 StepReplies e = CircuitReplies (λ k c. run k c e) (λ k c. places k e c)
 
 abbrev pub BackReplies : ℕ → List ℕ → Status → List ℕ → List Place → Type 0
 BackReplies e = CircuitReplies (λ k c. back k c e) (λ k c. places_back k e c)
 
--- they have one answer to all numbers of steps and bytes
+-- for all numbers of steps and bytes, each of them has exactly one answer
 abbrev pub CircuitIsSettled : Type 0
 CircuitIsSettled = (e : ℕ) (bytes : List ℕ) → IsSettled (StepReplies e bytes) × IsSettled (BackReplies e bytes)

@@ -1,4 +1,4 @@
--- What holds of the texts that `compile` answers.
+-- Laws on the texts that `compile` prints.
 use Rattle.std.specs.Prelude.{◌≡◌, ◌≢◌, ℕ, ◌+◌, ◌*◌, ◌<◌, List, length, slice_get}
 use Rattle.bn_circuits.specs.Circuits.{target}
 use Rattle.bn_circuits.specs.declared.line.Line.{Line}
@@ -36,7 +36,7 @@ pub record DifferInCells (l : Limits) (b : Layout) (s u : Spelling) : Type 0 whe
       → e ≢ bottom_at (cell_element b 1 c) (cell_line_count (symbol_count_at b 1)) j)
       → slice_get s.config.states e ≡ slice_get u.config.states e
 
--- The texts spell two such configurations of the board of one of two words.
+-- The texts spell two such configurations of the circuits of two words.
 pub record DifferInWord (bytes word : List ℕ) (l : Limits) (text second : List ℕ) : Type 0 where
   pub table : Named
   pub symbols : List ℕ
@@ -58,8 +58,8 @@ TextsDifferInWords =
 
 -- ---- steps
 
--- what `step` makes of this text, `back` takes back: of as many steps, to the text again; and of a part of them, where
--- all were made, to what `step` makes of the rest
+-- `back` undoes what `step` makes of this text: with the same number of steps it returns the text; and with s of r + s
+-- steps, if all were made, it returns what `step` makes of the text with r steps
 pub record StepsBack (text : List ℕ) : Type 0 where
   pub whole : (e : ℕ) (a b : Status) (middle last : List ℕ) (told heard : List Place)
       → StepReplies e text a middle told → BackReplies e middle b last heard → last ≡ text

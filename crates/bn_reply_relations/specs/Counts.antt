@@ -1,7 +1,7 @@
 -- How many of the first numbers have a property.
 use Rattle.std.specs.Prelude.{◌≡◌, ℕ, zero, suc, ◌⊎◌}
 
--- of the numbers below n so many have it
+-- the number of numbers below n that have the property
 abbrev pub Counts : (ℕ → Type 0) → ℕ → ℕ → Type 0
 Counts holds zero count = count ≡ 0
 Counts holds (suc n) zero = (holds n → ⊥) × Counts holds n 0

@@ -33,32 +33,33 @@ use Rattle.bn_reply_relations.specs.MigrateReply.{MigrateIsSettled, MigratedStay
 use Rattle.bn_reply_relations.specs.RunReply.{RunIsSettled}
 use Rattle.bn_reply_relations.specs.TextSizes.{TextsAreShort, TextsMayBeRead}
 
--- two counts of the elements of one machine's board agree, and each board has as many
+-- two counts of the elements of one machine's circuit agree, and they are the size of each of its circuits
 abbrev pub BoardsAreCounted : Type 0
 BoardsAreCounted =
     ((p : Program) (l : Limits) (a b : ℕ) → CountsElements p l a → CountsElements p l b → a ≡ b)
     × ((p : Program) (symbols : List ℕ) (l : Limits) (f : Flat) → IsFlatOf p symbols l f
     → CountsElements p l (size f.network.tables))
 
--- what is given and comes to a board may be compiled
+-- a given input that has a circuit may be compiled
 abbrev pub GivenBoardsAreAccepted : Type 0
 GivenBoardsAreAccepted =
     (bytes letters : List ℕ) (l : Limits) (t : Named) (symbols : List ℕ) (f : Flat)
     → IsGiven bytes letters l t symbols → ComesTo t.machine l symbols f → IsAccepted t.machine symbols l f
 
--- a board at its start has a configuration text, in version 2
+-- a circuit at its start has a configuration text, in version 2
 abbrev pub BoardsAreSpelled : Type 0
 BoardsAreSpelled =
     (p : Program) (symbols : List ℕ) (l : Limits) (f : Flat) → IsFlatOf p symbols l f → IsAccepted p symbols l f
     → (s : Spelling) × IsFlatSpelling f s × ((text : List ℕ) × Spelled Two s text)
 
--- after each number of steps of a board the signal is inside, or it has left by an exit with a name
+-- after each number of steps of a circuit the signal is inside, or it has left by a named exit
 abbrev pub ExitsAreNamed : Type 0
 ExitsAreNamed =
     (p : Program) (symbols : List ℕ) (l : Limits) (f : Flat) → IsFlatOf p symbols l f → IsAccepted p symbols l f
     → (n : ℕ) → (e : Exit) × IsNamedExit f.layout (board_after f n).place e
 
--- the moments that a board's layout finds on its run are counted, however many steps are asked for
+-- the moments that a circuit's layout finds within a number of steps are the run's moments, counted up to the last
+-- step made
 abbrev pub MomentsAreCounted : Type 0
 MomentsAreCounted =
     (p : Program) (symbols : List ℕ) (l : Limits) (f : Flat) → IsFlatOf p symbols l f → IsAccepted p symbols l f
@@ -67,7 +68,7 @@ MomentsAreCounted =
     (moments f.layout f.circuit (board_after f n).steps (flat_start f))
     × (moments f.layout f.circuit n (flat_start f) ≡ moments f.layout f.circuit (board_after f n).steps (flat_start f))
 
--- whatever is told of one board is told of each board of the same machine, word and limits
+-- an answer that reports the run of one circuit reports it for each circuit of the same machine, word and limits
 abbrev pub BoardsTellAlike : Type 0
 BoardsTellAlike =
     (bytes letters : List ℕ) (l : Limits) (t : Named) (symbols : List ℕ) (f g : Flat) (given : Option ℕ)
@@ -80,8 +81,8 @@ abbrev pub found_text : Option ℕ → Named → Flat → Exit → List ℕ
 found_text given t f e =
     run_text t f (reached f given) (moments f.layout f.circuit (budget f given) (flat_start f) - 1) e
 
--- whatever exit the layout finds for the place to which a run comes, it has a name, and what is told is the text with
--- it and with the moments that the layout finds
+-- any exit that the layout finds for the place where a run ends has a name, and with it and the moments that the
+-- layout finds, the text reports the run
 abbrev pub BoardsTellRuns : Type 0
 BoardsTellRuns =
     (bytes letters : List ℕ) (l : Limits) (t : Named) (symbols : List ℕ) (f : Flat) (given : Option ℕ)
@@ -90,7 +91,7 @@ BoardsTellRuns =
     → (e ≢ exit.Unnamed)
     × TellsRun given t f (exit_status e) (found_text given t f e) (places f.circuit (budget f given) (flat_start f))
 
--- and there is one
+-- for the place where a run ends, the layout finds an exit
 abbrev pub BoardsHaveRuns : Type 0
 BoardsHaveRuns =
     (bytes letters : List ℕ) (l : Limits) (t : Named) (symbols : List ℕ) (f : Flat) (given : Option ℕ)
@@ -105,8 +106,8 @@ RunsTellOutcomes =
     → TellsRun None t f status text told
     → (i : ℕ) (o : Outcome) → HasOutcome t.machine symbols l i o → TellsOutcome t l symbols f i o status text
 
--- With a number of steps the status is `Inside` exactly where that is below the cost; from the cost on the run tells
--- what it tells without a number of steps, and below it what the board shows after so many.
+-- With a greatest number of steps the status is `Inside` exactly if that is below the cost. From the cost on the run
+-- reports what it reports without it; below the cost the text is that of the circuit after this many steps.
 abbrev pub RunsStopWithin : Type 0
 RunsStopWithin =
     (bytes letters : List ℕ) (l : Limits) (t : Named) (symbols : List ℕ) (f : Flat) (e : ℕ) (status : Status)
@@ -117,9 +118,9 @@ RunsStopWithin =
     × (cost ≤ e → TellsRun None t f status text told)
     × (e < cost → text ≡ run_text t f (board_after f e) 0 exit.Inside)
 
--- Each machine in standard form, word of its letters and limits that may be asked for have one count of elements and
--- one outcome; and where the word fits and the elements aren't too many, they have a board, and all their boards are
--- the same up to the order of wires, with one cost.
+-- Each machine in standard form, word of its letters and limits within their bounds have one count of elements and one
+-- outcome; and if the word fits and the elements are not too many, they have a circuit, and all their circuits are the
+-- same up to the order of wires, with one cost.
 pub record HasOneOfEach (p : Program) (l : Limits) (symbols : List ℕ) : Type 0 where
   pub count : ℕ
   pub counts : CountsElements p l count
@@ -146,7 +147,7 @@ RepliesTellOutcomes =
     → (t : Named) (symbols : List ℕ) (count i : ℕ) (o : Outcome) → ComesOutOn bytes letters l t symbols count i o
     → TookOutcome given t l symbols count i o status taken took
 
--- the sink took the reply to a run that the words ask for, whatever run that is
+-- the sink took the reply to every run that the arguments ask for
 abbrev pub TookReplies : List (List ℕ) → List ℕ → Status → Option (List ℕ) → Option (List ℕ) → Type 0
 TookReplies words bytes status taken took =
     (letters : List ℕ) (l : Limits) (given : Option ℕ) → AsksRun words letters l given → AreSmall l
@@ -162,48 +163,48 @@ AnswersTellHeadline =
 -- ---- the laws
 
 pub record Laws : Type 0 where
-  -- To all numbers of steps and bytes `step` and `back` have an answer, and only one.
+  -- For all numbers of steps and bytes, `step` and `back` have exactly one answer.
   pub circuits_have_one_reply : CircuitIsSettled
-  -- To all bytes `migrate` has an answer, and only one.
+  -- For all bytes, `migrate` has exactly one answer.
   pub migrate_has_one_reply : MigrateIsSettled
-  -- What was migrated stays as it is when it is migrated once more.
+  -- A migrated text is unchanged by `migrate`.
   pub migrated_stays : MigratedStays
-  -- A configuration text has at most 52 bytes an element and 97 for its header, in either version: it is within the
+  -- A configuration text has at most 52 bytes per element and 97 for its header, in either version, and is within the
   -- limit of an input.
   pub texts_may_be_read : TextsAreShort × TextsMayBeRead
-  -- The elements of a board are counted by its machine and limits alone.
+  -- The machine and the limits alone determine the number of elements of a circuit.
   pub boards_are_counted : BoardsAreCounted
-  -- A table's machine in standard form, a word of its letters and limits that may be asked for may be compiled,
-  -- where their board isn't too large.
+  -- A table's machine in standard form, a word of its letters and limits within their bounds may be compiled, if their
+  -- circuit is not too large.
   pub given_boards_are_accepted : GivenBoardsAreAccepted
-  -- A board at its start has a configuration text.
+  -- A circuit at its start has a configuration text.
   pub boards_are_spelled : BoardsAreSpelled
-  -- After each number of steps the signal of a board is inside, or it has left by an exit with a name.
+  -- After each number of steps the signal of a circuit is inside, or it has left by a named exit.
   pub exits_are_named : ExitsAreNamed
-  -- The moments that a board's layout finds on its run are the run's moments, counted.
+  -- The moments that the layout of a circuit finds on its run are the run's moments, counted.
   pub moments_are_counted : MomentsAreCounted
-  -- What is told of one board is told of each board of the same machine, word and limits.
+  -- An answer for the run of one circuit holds for each circuit of the same machine, word and limits.
   pub boards_tell_alike : BoardsTellAlike
-  -- Where a run comes to, the layout finds an exit.
+  -- For the place where a run ends, the layout finds an exit.
   pub boards_have_runs : BoardsHaveRuns
-  -- The run of a board is told by the exit and the moments that its layout finds.
+  -- The exit and the moments that the layout finds determine the answer of a run.
   pub boards_tell_runs : BoardsTellRuns
-  -- For all words, limits within their bounds, and bytes `compile` has an answer, and only one.
+  -- For all words, limits within their bounds, and bytes, `compile` has exactly one answer.
   pub compile_has_one_reply : CompileIsSettled
-  -- The texts of two words on one table in one window spell one circuit with one start, end and place, whose bars
+  -- The texts of two words on one table in one window spell one circuit with one start, end and place; their bars
   -- differ at most at bottoms of tape 1's cells.
   pub texts_differ_in_words : TextsDifferInWords
   -- What `step` makes of a compiled text, `back` undoes.
   pub compiled_texts_step_back : CompiledTextsStepBack
-  -- For all words, limits within their bounds, numbers of steps and bytes `run` has an answer, and only one.
+  -- For all words, limits within their bounds, numbers of steps and bytes, `run` has exactly one answer.
   pub run_has_one_reply : RunIsSettled
   -- The run of a circuit without a greatest number of steps reports the outcome of the machine's own bounded run.
   pub runs_tell_outcomes : RunsTellOutcomes
   -- With a greatest number of steps the signal is inside exactly if that is below the circuit's cost; otherwise the
   -- report is the one without it.
   pub runs_stop_within : RunsStopWithin
-  -- Each machine, word and limits have one count of elements and one outcome, and a board, the same up to the order
-  -- of wires, with one cost, where the word fits and the board isn't too large.
+  -- Each machine, word and limits have one count of elements and one outcome. If the word fits and the circuit is not
+  -- too large, they have one circuit, up to the order of wires, and one cost.
   pub runs_have_one_of_each : RunsHaveOneOfEach
   -- A reply to a run, if the sink receives its text, reports the outcome of the machine's own bounded run.
   pub replies_tell_outcomes : RepliesTellOutcomes

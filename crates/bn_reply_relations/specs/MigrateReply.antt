@@ -1,4 +1,5 @@
--- What the command `migrate` answers: the text in version 2 of the configuration that a text of either version spells.
+-- The answer of the command `migrate`: the text in version 2 of the configuration that a text of either version
+-- spells.
 use Rattle.std.specs.Prelude.{◌≡◌, ℕ, List, []}
 use Rattle.bn_circuits.specs.declared.place.Place.{Place}
 use Rattle.bn_netlist_laws.specs.Spelling.{Spelling, IsTextOf, Spelled}
@@ -16,16 +17,16 @@ pub record Migrated (bytes text : List ℕ) : Type 0 where
   pub spelled : Spelled version spelling bytes
   pub written : IsTextOf Two spelling text
 
--- What `migrate` answers: the first fault of bytes that are no configuration text, or the text of what they spell in
--- version 2. A watch is told nothing.
+-- The answer of `migrate`: the first fault of bytes that are no configuration text, or the text in version 2 of the
+-- configuration that they spell. No place is reported to a watch.
 pub data MigrateReplies (bytes : List ℕ) (status : Status) (text : List ℕ) (told : List Place) : Type 0 where
   faulty : Misspelled bytes text → status ≡ Text → told ≡ [] → MigrateReplies bytes status text told
   migrated : Migrated bytes text → status ≡ Done → told ≡ [] → MigrateReplies bytes status text told
 
--- it has one answer to all bytes
+-- for all bytes, it has exactly one answer
 abbrev pub MigrateIsSettled : Type 0
 MigrateIsSettled = (bytes : List ℕ) → IsSettled (MigrateReplies bytes)
 
--- What is migrated once more stays as it is.
+-- A migrated text is unchanged by `migrate`.
 abbrev pub MigratedStays : Type 0
 MigratedStays = (bytes text : List ℕ) → MigrateReplies bytes Done text [] → MigrateReplies text Done text []

@@ -1,4 +1,4 @@
--- The text of a run of a board (this project's own profile): what the configuration shows to which the run has come.
+-- The text of a run of a circuit (this project's own profile): what the configuration shows in which the run ends.
 use Rattle.std.specs.Prelude.{ℕ, ◌+◌, zero, suc, ◌==◌, if◌then◌else◌, drop, ℤ, List, [], ◌∷◌, ◌++◌}
 use Rattle.std.specs.Prelude.{Option, Some, None, codes, decimal, slice_index_or}
 use Rattle.bn_circuits.specs.declared.place.Place.{Place}
@@ -24,7 +24,7 @@ use Rattle.bn_reply.specs.Words.{letters_of}
 
 -- ---- where the signal is
 
--- the name of the table's state in which the machine is, and nothing within a quintuple's step
+-- the name of the table's state in which the machine is; empty within a quintuple's step
 abbrev pub state_text : Named → MachineState → List ℕ
 state_text t (AtState j) = slice_index_or t.names j []
 state_text t (Within m) = []
@@ -53,7 +53,7 @@ exit_line t f p Unnamed = []
 
 -- ---- what the cells show
 
--- the position of the head, and a question mark where no cell shows it
+-- the position of the head, or a question mark if no cell shows it
 abbrev pub head_text : Option ℤ → List ℕ
 head_text None = codes "?"
 head_text (Some p) = position_text p
@@ -67,7 +67,7 @@ number_text (suc m) = decimal (suc m)
 abbrev pub symbol_text : Named → ℕ → ℕ → List ℕ
 symbol_text t tape s = if tape == 2 then number_text s else letters_of t (s ∷ [])
 
--- the cells of this tape, a space before each, and a question mark for one that shows no symbol
+-- the cells of this tape, each after a space, with a question mark for a cell that shows no symbol
 abbrev pub cells_text : Named → ℕ → List (Option ℕ) → List ℕ
 cells_text t tape [] = []
 cells_text t tape (None ∷ cs) = codes " ?" ++ cells_text t tape cs
@@ -114,20 +114,20 @@ quadruple_line count = line (codes "quadruple steps " ∷ decimal count ∷ [])
 abbrev pub output_line : Named → List ℕ → List ℕ
 output_line t y = line (codes "output =" ∷ letters_of t y ∷ [])
 
--- the three tapes that the cells of a board show with these bars
+-- the three tapes that the cells of a circuit with these bars show
 abbrev pub shown_lines : Named → Flat → List ℕ → List ℕ
 shown_lines t f states =
     tape_lines t (spelled_tape f.layout states 1) (spelled_tape f.layout states 2) (spelled_tape f.layout states 3)
 
--- the lines behind that of the steps: the tapes, and at the end alone the steps of the machine of quadruples and the
--- output, which is read from cell 1 of tape 3
+-- the lines after that of the steps: the tapes; and only at the end, also the steps of the machine of quadruples and
+-- the output, which is read from cell 1 of tape 3
 abbrev pub rest_text : Named → Flat → Config → ℕ → Exit → List ℕ
 rest_text t f d quadruple_steps End =
     quadruple_line quadruple_steps ++ (shown_lines t f d.states
     ++ output_line t (output_from (drop 1 (spelled_tape f.layout d.states 3).cells)))
 rest_text t f d quadruple_steps _ = shown_lines t f d.states
 
--- the text of a run that has come to this configuration, whose exit is this
+-- the text of a run that ends in this configuration, with this exit
 abbrev pub run_text : Named → Flat → Config → ℕ → Exit → List ℕ
 run_text t f d quadruple_steps exit =
     elements_line (size f.network.tables) ++ (exit_line t f d.place exit

@@ -92,8 +92,8 @@ pub record IsGiven (bytes letters : List ℕ) (l : Limits) (t : Named) (symbols 
   pub spelled : IsSpelledBy t letters symbols
   pub small : AreSmall l
 
--- besides, the word fits, the circuit has this many elements and not too many, and after i steps the machine's own
--- bounded run has this outcome
+-- besides, the word fits, the circuit has this many elements, which are not too many, and after i steps the machine's
+-- own bounded run has this outcome
 pub record ComesOutOn (bytes letters : List ℕ) (l : Limits) (t : Named) (symbols : List ℕ) (count i : ℕ)
     (o : Outcome) : Type 0 where
   pub given : IsGiven bytes letters l t symbols
@@ -104,9 +104,8 @@ pub record ComesOutOn (bytes letters : List ℕ) (l : Limits) (t : Named) (symbo
 
 -- ---- the headline
 
--- The sink received a text. The machine, the word and the limits have a circuit; and the signal of each of their
--- circuits, which has this many elements, leaves in exactly its cost by the exit of this outcome, and the text reports
--- this.
+-- The sink received a text. The machine, the word and the limits have a circuit; and in each of their circuits, which
+-- has this many elements, the signal leaves in exactly its cost by the exit of this outcome, which the text reports.
 pub record TookOutcome (given : Option ℕ) (t : Named) (l : Limits) (symbols : List ℕ) (count i : ℕ) (o : Outcome)
     (status : Status) (taken took : Option (List ℕ)) : Type 0 where
   pub text : List ℕ

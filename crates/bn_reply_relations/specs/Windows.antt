@@ -1,6 +1,6 @@
--- What the commands answer that take a table, a word and four limits, by what is answered of the board (this project's
--- own profile). What is wrong with the bytes comes first, then with the machine, the word's letters, its length, and
--- the number of elements.
+-- The answers of the commands that take a table, a word and four limits, by the answer for the circuit (this project's
+-- own profile). A fault of the bytes comes first, then of the machine, the word's letters, its length, and the number
+-- of elements.
 use Rattle.std.specs.Prelude.{◌≡◌, ℕ, ◌<◌, ◌≤◌, List, [], ◌∷◌, length, codes, decimal}
 use Rattle.bn_circuits.specs.declared.place.Place.{Place}
 use Rattle.bn_machine.specs.Machine.{Program}
@@ -18,7 +18,7 @@ use Rattle.bn_reply.specs.declared.status.Status.{Status}
 use Rattle.bn_reply.specs.declared.status.Status.TheVariants as statuses
 use Rattle.bn_reply.specs.Lines.{long_line}
 
--- the board of this machine in these limits has so many elements, whatever the word
+-- the circuit of this machine in these limits has this many elements, whatever the word
 pub record CountsElements (p : Program) (l : Limits) (count : ℕ) : Type 0 where
   pub translation : Translation
   pub names : List ControlState
@@ -26,19 +26,19 @@ pub record CountsElements (p : Program) (l : Limits) (count : ℕ) : Type 0 wher
   pub numbering : IsNumbering translation.machine names
   pub is : count ≡ elements_by translation.machine l (length names)
 
--- The machine, a word of these symbols and the limits come to this board: the word fits on tape 1, the board is
--- theirs, and it hasn't too many elements.
+-- The machine, a word of these symbols and the limits have this circuit, which may be built: the word fits on tape 1,
+-- the circuit is theirs, and it has not too many elements.
 pub record ComesTo (p : Program) (l : Limits) (symbols : List ℕ) (f : Flat) : Type 0 where
   pub fits : length symbols ≤ l.right
   pub flat : IsFlatOf p symbols l f
   pub few : size f.network.tables ≤ MOST_ELEMENTS
 
--- the line of a circuit of so many elements, which are too many
+-- the line of a circuit of this many elements, which are too many
 abbrev pub large_line : ℕ → List ℕ
 large_line elements = line (codes "size: elements " ∷ decimal elements ∷ [])
 
--- What is answered to a word of these symbols, where `tells` is what is answered of its board: the word is too long;
--- it isn't, and the board has too many elements; or that.
+-- The answer to a word of these symbols, where `tells` is the answer for its circuit: the word is too long; it fits,
+-- and the circuit has too many elements; or the answer for the circuit.
 pub data BoardReplies (tells : Flat → Status → List ℕ → List Place → Type 0) (p : Program) (l : Limits)
     (symbols : List ℕ) (status : Status) (text : List ℕ) (told : List Place) : Type 0 where
   long : l.right < length symbols → text ≡ long_line (length symbols) → status ≡ statuses.Size → told ≡ []
@@ -48,7 +48,7 @@ pub data BoardReplies (tells : Flat → Status → List ℕ → List Place → T
   board : (f : Flat) → ComesTo p l symbols f → tells f status text told
       → BoardReplies tells p l symbols status text told
 
--- what is answered to a word, limits and bytes, where `tells` is what is answered of a table's board
+-- the answer to a word, limits and bytes, where `tells` is the answer for the circuit of a table's machine
 abbrev pub WindowReplies : (Named → Flat → Status → List ℕ → List Place → Type 0) → List ℕ → Limits → List ℕ → Status →
     List ℕ → List Place → Type 0
 WindowReplies tells word l = StandardReplies (λ t. WordReplies (BoardReplies (tells t) t.machine l) t word)

@@ -1,5 +1,5 @@
-//! What the commands on circuits, and `compile` and `run`, answer, each with one answer and only one; and the headline:
-//! what is reported of a run is what the machine's own bounded run names. Definitions and laws; no code.
+//! The answers of the commands on circuits, and of `compile` and `run`, exactly one for each input; and the headline:
+//! the answer of a run reports what the machine's own bounded run determines. Definitions and laws; no code.
 #![tactic(auto)]
 
 mod laws;

@@ -66,7 +66,7 @@ pub record AreClear (s : QuadStage) : Type 0 where
 
 -- ---- a stage
 
--- the same for the three tapes of a machine
+-- the words on the three tapes consist of symbols of their tapes
 pub record AreWordsOn (names : Naming) (words : StartWords) : Type 0 where
   pub one : IsWordOn names.one words.one.now
   pub two : IsWordOn names.two words.two.now

@@ -22,10 +22,10 @@ use bn_reply::{Status, foreign_letter, give_reply};
 use bn_reply_machines::{OpenedQuads, Spelling, TapeNames, foreign_on_tape, open_quads};
 use std::alloc::Global;
 
-/// Answers `moments` for a word on tape 1, a greatest number of steps and some bytes. It refuses, in this order: bytes
-/// that are no table of quadruples whose machine is deterministic and reversible; a word with other letters than those
-/// of tape 1. Otherwise it gives the sink, in pieces, a line for each configuration of the machine's own run from the
-/// start to the last one, and the line that says how the run ends.
+/// The command `moments` for a word on tape 1, a greatest number of steps and some bytes. It refuses, in this order:
+/// bytes that are no table of quadruples whose machine is deterministic and reversible; a word with other letters than
+/// those of tape 1. Otherwise it writes to the sink, in pieces, a line for each configuration of the machine's own run
+/// from the start to the last one, and the line that says how the run ends.
 pub fn answer_moments<K: Sink>(
     alloc: Global,
     word: &[u8],
@@ -52,7 +52,7 @@ pub fn answer_moments<K: Sink>(
     }
 }
 
-/// Answers `moments` for a word on each of the three tapes.
+/// The command `moments` for a word on each of the three tapes.
 pub fn answer_three_moments<K: Sink>(
     alloc: Global,
     first: &[u8],
@@ -91,7 +91,7 @@ pub(crate) struct Asked<'a> {
 }
 
 impl<'a> Asked<'a> {
-    // Answers for a word on tape 1.
+    // The answer for a word on tape 1.
     fn answer_word<K: Sink>(&self, alloc: Global, word: &[u8], sink: &mut K) -> Status
         requires { IsAsked self.now }
         ensures ends { (told : Option (List Place)) → AnswerEnds (TapeWordReplies foreign_line
@@ -106,7 +106,7 @@ impl<'a> Asked<'a> {
         }
     }
 
-    // Answers for a word on each tape: reads the first word.
+    // The answer for a word on each tape: reads the first word.
     fn answer_first<K: Sink>(
         &self,
         alloc: Global,
@@ -195,7 +195,7 @@ impl<'a> Asked<'a> {
         TapeNames::of(self.machine, self.names, tape)
     }
 
-    // Gives the configurations of the run from words of these symbols.
+    // Writes the configurations of the run from words of these symbols.
     fn give<K: Sink>(
         &self,
         alloc: Global,

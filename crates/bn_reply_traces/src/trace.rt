@@ -48,10 +48,10 @@ pub(crate) struct Ended {
     pub(crate) rule: Option<u32>,
 }
 
-/// Answers `trace` for a word, a greatest number of steps and some bytes. It refuses, in this order: bytes that are no
-/// table whose machine is in standard form; a word with other letters. Otherwise it gives the sink, in pieces, a line
-/// for each configuration of the machine's own run from the start to the last one, and the line that says how the run
-/// ends.
+/// The command `trace` for a word, a greatest number of steps and some bytes. It refuses, in this order: bytes that
+/// are no table whose machine is in standard form; a word with other letters. Otherwise it writes to the sink, in
+/// pieces, a line for each configuration of the machine's own run from the start to the last one, and the line that
+/// says how the run ends.
 pub fn answer_trace<K: Sink>(
     alloc: Global,
     word: &[u8],
@@ -71,7 +71,7 @@ pub fn answer_trace<K: Sink>(
     }
 }
 
-// Answers `trace` for a table.
+// The answer of `trace` for a table.
 fn answer_table<K: Sink>(
     alloc: Global,
     word: &[u8],
@@ -92,7 +92,7 @@ fn answer_table<K: Sink>(
     }
 }
 
-// Answers `trace` for a word of a table's letters.
+// The answer of `trace` for a word of a table's letters.
 fn answer_word<K: Sink>(
     alloc: Global,
     word: &[u8],

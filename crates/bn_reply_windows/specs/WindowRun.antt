@@ -15,13 +15,13 @@ use Rattle.bn_extents.specs.LeastWindow.{EndsWithin, IsLeastWindow}
 use Rattle.bn_reply_windows.specs.declared.extent.Extent.{Extent}
 use Rattle.bn_reply_windows.specs.declared.window_run.LeastWindow.{LeastWindow}
 
--- so many letters stand directly right of the head, and then a blank
+-- exactly this many letters are directly right of the head, and then a blank
 pub record HasLetters (t : Tape) (k : ℕ) : Type 0 where
   pub letters : (j : ℕ) → j < k → cell t (t.head +ℤ pos (suc j)) ≢ 0
   pub ended : cell t (t.head +ℤ pos (suc k)) ≡ 0
 
--- So many letters stand directly right of the head of a tape in a window; if they reach position 2,097,152, the last
--- that a tape can have, the rest of the word, of so many letters, continues them.
+-- The number of letters directly right of the head of a tape in a window; if they reach position 2,097,152, the last
+-- that a tape can have, the rest of the word, of this many letters, continues them.
 pub record HasOutputLength (w : Windowed) (rest k : ℕ) : Type 0 where
   pub near : ℕ
   pub letters : HasLetters w.tape near

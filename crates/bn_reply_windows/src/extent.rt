@@ -20,7 +20,7 @@ impl Extent {
         Extent { left: 0, right: 0 }
     }
 
-    /// Takes this position in.
+    /// Extends the extent to this position.
     pub(crate) fn include(&mut self, position: i64)
         requires low { (pos 0 -ℤ pos GREATEST_SIDE) ≤ℤ position }
         requires high { position ≤ℤ pos GREATEST_SIDE }
@@ -32,7 +32,7 @@ impl Extent {
     }
 }
 
-// How many cells the position lies left of 0.
+// The number of cells from the position to 0, if the position is left of 0.
 fn left_of(position: i64) -> u32
     requires low { (pos 0 -ℤ pos GREATEST_SIDE) ≤ℤ position }
     ensures { result ≡ cells_left position }
@@ -40,7 +40,7 @@ fn left_of(position: i64) -> u32
     if position < 0 { (-position) as u32 } else { 0 }
 }
 
-// How many cells the position lies right of 0.
+// The number of cells from 0 to the position, if the position is right of 0.
 fn right_of(position: i64) -> u32
     requires high { position ≤ℤ pos GREATEST_SIDE }
     ensures { result ≡ cells_right position }

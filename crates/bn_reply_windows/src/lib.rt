@@ -1,4 +1,4 @@
-//! What the command `window` answers: the least window of a machine and a word, from the machine's own run, without a
+//! The answer of the command `window`: the least window of a machine and a word, from the machine's own run, without a
 //! circuit.
 #![tactic(auto)]
 

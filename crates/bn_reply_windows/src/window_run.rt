@@ -34,8 +34,8 @@ pub(crate) struct Measured {
 }
 
 impl Measured {
-    // The least window if the run halts with its head at a position and so many letters in its output, from a word with
-    // so many.
+    // The least window if the run halts with its head at a position and this many letters in its output, from a word
+    // of this many letters.
     fn halted(&self, word: usize, head: i64, letters: usize) -> LeastWindow
         requires low { (pos 0 -ℤ pos GREATEST_SIDE) ≤ℤ head }
         requires high { head ≤ℤ pos GREATEST_SIDE }

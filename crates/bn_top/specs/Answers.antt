@@ -1,5 +1,5 @@
--- The answer of the workbench to arguments and bytes: a text, a status, and the places that a watch is told (this
--- project's own profile). It uses the definitions of texts, tables and circuits alone.
+-- The answer of the workbench to arguments and bytes: a text, a status, and the places that are reported to a watch
+-- (this project's own profile). It uses the definitions of texts, tables and circuits alone.
 use Rattle.std.specs.Prelude.{◌≡◌, ℕ, ◌<◌, ◌≤◌, List, [], ◌∷◌, ◌++◌, length, true, false, codes}
 use Rattle.bn_circuits.specs.declared.place.Place.{Place}
 use Rattle.bn_words.specs.Requests.{Request, HasForm, HasNoForm, reads_input, Step, Back, Check, Machine, Trace}

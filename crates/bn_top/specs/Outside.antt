@@ -51,7 +51,7 @@ EndsOn told words WriteFault before after =
 EndsOn told words NoMemory before after = told (λ bytes. IsBegun words bytes before after)
 EndsOn told words status before after = told (λ bytes. IsAnswered words bytes status before after)
 
--- How a call ends: it fails in reading, or it ends so on the bytes that the source holds.
+-- How a call ends: it fails in reading, or it ends in this way on the bytes that the source holds.
 abbrev pub Ends : List (List ℕ) → Status → Outside → Outside → Type 0
 Ends words status before after = FailsReading status before after
     ⊎ EndsOn (IfSome before.left) words status before after

@@ -63,7 +63,8 @@ EndsTellHalts =
     → HasForm (words_of (Drive (One (Letters word)) l most)) (Drive (One (Letters word)) l most)
     → DriveAnswers word l table most Done text told → (v w : ℕ) × (y : List ℕ) × TablesHaltIn t u x l v w y
 
--- If they do, the signal of its circuit leaves by the end, and `drive` answers so.
+-- If both machines halt in the window, each on the other's word, the signal of the circuit leaves by the end, and
+-- `drive` reports it.
 abbrev pub ErasedTablesComeOut : Type 0
 ErasedTablesComeOut =
     (bytes word table : List ℕ) (silent : List Place) → Answers (words_of Erase) bytes Done table silent
@@ -72,8 +73,8 @@ ErasedTablesComeOut =
     → (count : ℕ) × CircuitLeaves (DriveAnswers word l table) count (erasing_steps x y v w) Finished
     (λ cost text. text ≡ erased_end (joined t u) l y count cost (erasing_steps x y v w))
 
--- So with 2^52 element steps or more, which are enough in each window within the limits, it answers the end with y
--- alone, unless the circuit has too many elements.
+-- So with 2^52 element steps or more, which are enough in each window within the limits, `drive` reports the end with
+-- y alone, unless the circuit has too many elements.
 abbrev pub ErasedTablesTellOutput : Type 0
 ErasedTablesTellOutput =
     (bytes word table : List ℕ) (silent : List Place) → Answers (words_of Erase) bytes Done table silent
@@ -84,7 +85,7 @@ ErasedTablesTellOutput =
     → (status ≡ Size) ⊎ ((status ≡ Done) × ((count cost : ℕ)
     × (text ≡ erased_end (joined t u) l y count cost (erasing_steps x y v w))))
 
--- Whatever they do, the signal leaves in exactly its cost, if the word fits on tape 1, and `drive` answers so.
+-- Whatever they do, the signal leaves in exactly its cost, if the word fits on tape 1, and `drive` reports it.
 abbrev pub ErasedTablesEnd : Type 0
 ErasedTablesEnd =
     (bytes word table : List ℕ) (silent : List Place) → Answers (words_of Erase) bytes Done table silent

@@ -36,7 +36,7 @@ use bn_reply_windows::reply_window;
 use bn_words::{ConfigurationRequest, Request, WholeRequest, read_words};
 use std::alloc::Global;
 
-// Answers the arguments of a command line: reads from the input what the command needs, and gives the text to the sink.
+// Runs the command of a command line: reads from the input what the command needs, and writes the answer to the sink.
 pub(crate) fn answer_words<I: Input, K: Sink, W: Watch>(
     alloc: Global,
     words: &[String],
@@ -65,7 +65,7 @@ pub(crate) fn answer_words<I: Input, K: Sink, W: Watch>(
     }
 }
 
-// Answers a command on a configuration text, which is read in pieces.
+// Runs a command on a configuration text, which is read in pieces.
 fn answer_configuration<I: Input, K: Sink, W: Watch>(
     alloc: Global,
     asked: &ConfigurationRequest<'_>,
@@ -102,7 +102,7 @@ fn answer_configuration<I: Input, K: Sink, W: Watch>(
     }
 }
 
-// Answers a command on a whole input: on the bytes that are lent, or on those that are read to the end.
+// Runs a command on a whole input: on the bytes that are lent, or on those that are read to the end.
 fn answer_whole<I: Input, K: Sink, W: Watch>(
     alloc: Global,
     asked: &WholeRequest<'_>,
@@ -125,8 +125,8 @@ fn answer_whole<I: Input, K: Sink, W: Watch>(
     status
 }
 
-// Answers a command on bytes that are lent, as on all that an input had left. Of a longer input it takes one byte more
-// than the limit.
+// Runs a command on bytes that are lent, which are all that the input has left. Of a longer input it takes one byte
+// more than the limit.
 fn answer_lent<K: Sink, W: Watch>(
     alloc: Global,
     asked: &WholeRequest<'_>,
@@ -146,7 +146,7 @@ fn answer_lent<K: Sink, W: Watch>(
     answer_bytes(alloc, asked, bytes, sink, watch)
 }
 
-// Answers a command on an input that is first read to its end.
+// Runs a command on an input that is first read to its end.
 fn answer_read<I: Input, K: Sink, W: Watch>(
     alloc: Global,
     asked: &WholeRequest<'_>,
@@ -168,7 +168,7 @@ fn answer_read<I: Input, K: Sink, W: Watch>(
     }
 }
 
-// Answers a command on these bytes, which are a whole input within the limit.
+// Runs a command on these bytes, which are a whole input within the limit.
 fn answer_bytes<K: Sink, W: Watch>(
     alloc: Global,
     asked: &WholeRequest<'_>,

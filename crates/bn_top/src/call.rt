@@ -21,9 +21,9 @@ use bn_io::{Sink, Source};
 use bn_reply::Status;
 use std::alloc::Global;
 
-/// Answers the arguments of a command line: reads the input from the source if the arguments have a form and the
-/// command reads an input, gives the text to the sink, and returns the status. If the command is `step`, `back`, `run`,
-/// `drive` or `generate`, it tells the watch the place of the signal after each element step.
+/// Runs the command that the arguments of a command line name: reads the input from the source if the arguments have a
+/// form and the command reads an input, writes the text to the sink, and returns the status. For `step`, `back`,
+/// `run`, `drive` and `generate`, the place of the signal after each element step is reported to the watch.
 pub fn workbench<S: Source, K: Sink, W: Watch>(
     alloc: Global,
     words: &Vec<String>,

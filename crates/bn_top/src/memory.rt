@@ -13,9 +13,9 @@ use bn_lists::NoMemory;
 use bn_reply::{Reply, Status};
 use std::alloc::Global;
 
-/// Answers the arguments of a command line on an input in memory, which is not copied: the text and the status are
-/// those that `workbench` gives if its source holds this input. If the command is `step`, `back`, `run`, `drive` or
-/// `generate`, it tells the watch the place of the signal after each element step.
+/// Runs the command that the arguments of a command line name on an input in memory, which is not copied: the text and
+/// the status are those of `workbench` if its source holds this input. For `step`, `back`, `run`, `drive` and
+/// `generate`, the place of the signal after each element step is reported to the watch.
 pub fn reply_in_memory<W: Watch>(
     alloc: Global,
     words: &[String],

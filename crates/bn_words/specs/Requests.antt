@@ -19,8 +19,9 @@ use Rattle.bn_words.specs.declared.request.Request.TheVariants as variants
 use Rattle.bn_words.specs.declared.request.ConfigurationRequest.TheVariants as config
 use Rattle.bn_words.specs.declared.request.WholeRequest.TheVariants as whole
 
--- What is asked for, a case for each form: numbers, the letters of an input word, words on tapes, the limits of a
--- window, a greatest number of steps, which may be missing, and the names of ports, which may be missing too.
+-- The request of the arguments, a case for each form: numbers, the letters of an input word, words on tapes, the
+-- limits of a window, a greatest number of steps, which may be missing, and the names of ports, which may be missing
+-- too.
 pub data Request : Type 0 where
   Step : ℕ → Request
   Back : ℕ → Request

@@ -28,7 +28,7 @@ pub record IsCount (word : List ℕ) (number : ℕ) : Type 0 where
 abbrev pub IsNoCount : List ℕ → Type 0
 IsNoCount word = (number : ℕ) → IsCount word number → ⊥
 
--- the argument is the decimal text of this number, which is at least 1 and at most so great
+-- the argument is the decimal text of this number, which is at least 1 and at most the limit
 pub record IsNumberFromOne (most : ℕ) (word : List ℕ) (number : ℕ) : Type 0 where
   pub spelled : word ≡ decimal number
   pub some : 1 ≤ number

@@ -83,21 +83,22 @@ pub enum WholeRequest<'a> {
         /// The greatest number of steps.
         most_steps: u32,
     },
-    /// `trace =W n`: each moment of that run.
+    /// `trace =W n`: each configuration of that run.
     Trace {
         /// The letters of the word.
         word: &'a [u8],
         /// The greatest number of steps.
         most_steps: u32,
     },
-    /// `moments =W n`: each moment of the run of a machine of quadruples from the word W on tape 1, of at most n steps.
+    /// `moments =W n`: each configuration of the run of a machine of quadruples from the word W on tape 1, with at
+    /// most n steps.
     Moments {
         /// The letters of the word.
         word: &'a [u8],
         /// The greatest number of steps.
         most_steps: u32,
     },
-    /// `moments =W1 =W2 =W3 n`: each moment of its run from a word on each tape.
+    /// `moments =W1 =W2 =W3 n`: each configuration of the run from a word on each tape.
     ThreeMoments {
         /// The letters of the word on tape 1.
         first: &'a [u8],
@@ -161,7 +162,7 @@ pub enum WholeRequest<'a> {
         word: &'a [u8],
         /// The window.
         window: Windows,
-        /// The greatest number of steps, where there is one.
+        /// The greatest number of steps, if there is one.
         most_steps: Option<u64>,
     },
     /// `run =W auto`: the run of that circuit in the automatic window.
