@@ -24,3 +24,4 @@ pub use laws::reply_builds_laws;
 pub use opening::{OpenedBuild, open_build};
 pub use outcome::{Outcome, Stop, outcome_of};
 pub use outcome_text::{TableNames, push_outcome, push_state, push_tapes};
+pub use sizes::{CrowdedTape, find_crowded, too_crowded};

@@ -14,17 +14,17 @@ use bn_quad::QuadMachine;
 use bn_reply::{Reply, Status, too_long};
 use std::alloc::Global;
 
-// A tape with more symbols than a cell can distinguish.
+/// A tape of a machine of quadruples with more symbols than a cell can distinguish.
 #[derive(Clone, Copy)]
-pub(crate) struct CrowdedTape {
-    // The tape, counted from 1.
-    pub(crate) tape: u32,
-    // The number of its symbols, the blank among them.
-    pub(crate) symbols: u32,
+pub struct CrowdedTape {
+    /// The tape, counted from 1.
+    pub tape: u32,
+    /// The number of its symbols, the blank among them.
+    pub symbols: u32,
 }
 
-// The first such tape; `None` exactly if there is none.
-pub(crate) fn find_crowded(machine: &QuadMachine) -> Option<CrowdedTape>
+/// The first tape with too many symbols; `None` exactly if there is none.
+pub fn find_crowded(machine: &QuadMachine) -> Option<CrowdedTape>
     ensures { MatchOption result (IsUncrowded machine.now) (λ found. IsCrowded machine.now found.tape found.symbols) }
 {
     for tape in 1..4 {
@@ -36,8 +36,8 @@ pub(crate) fn find_crowded(machine: &QuadMachine) -> Option<CrowdedTape>
     None
 }
 
-// The answer that a tape has too many symbols.
-pub(crate) fn too_crowded(alloc: Global, crowded: CrowdedTape) -> Result<Reply, NoMemory>
+/// The answer that a tape has too many symbols.
+pub fn too_crowded(alloc: Global, crowded: CrowdedTape) -> Result<Reply, NoMemory>
     ensures status { IfOk result (λ r. r.status ≡ Status.Size) }
     ensures text { IfOk result (λ r. r.text.items ≡ crowded_line crowded.tape crowded.symbols) }
 {

@@ -1,0 +1,3 @@
+pub mod StageLemmas
+pub mod MeasureLemmas
+pub mod RoomLemmas

@@ -1,0 +1,3 @@
+pub mod RoomReply
+pub mod RoomRun
+pub mod Laws

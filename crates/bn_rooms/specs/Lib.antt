@@ -1,0 +1,5 @@
+pub mod OneSided
+pub mod Reach
+pub mod LeastRoom
+pub mod RoomOutcome
+pub mod Laws
