@@ -1,5 +1,5 @@
 -- The answers of `look` and `play` by what was opened, played and refused.
-use Rattle.std.specs.Prelude.{◌≡◌, ℕ, ◌≤◌, List, [], ◌++◌, Result, Ok, Err, IfOk, refl}
+use Rattle.std.specs.Prelude.{◌≡◌, ℕ, ◌≤◌, List, [], ◌++◌, Some, Result, Ok, Err, IfOk, refl}
 use Rattle.std.proofs.Common.{arith, sym, ap, subst, ◌∙◌}
 use Rattle.bn_lists.specs.Runs.{Reaches}
 use Rattle.bn_lists.specs.declared.memory.NoMemory.{NoMemory as WantOfMemory}
@@ -28,9 +28,9 @@ use Rattle.bn_session.specs.Scripts.{IsFirstScriptFault, IsRefusalOf, IsScript}
 use Rattle.bn_session.specs.declared.command.Command.{Command}
 use Rattle.bn_session.specs.declared.refusal.ScriptRefusal.{ScriptRefusal}
 use Rattle.bn_session.proofs.PlayedLemmas.{follow-all}
-use Rattle.bn_reply_views.specs.ScriptReply.{played}
-use Rattle.bn_reply_views.specs.Viewing.{IsScriptRefused}
-use Rattle.bn_reply_views.proofs.ScriptLemmas.{script_refused}
+use Rattle.bn_reply_scripts.specs.ScriptReply.{played}
+use Rattle.bn_reply_scripts.specs.Refusing.{IsScriptRefused}
+use Rattle.bn_reply_scripts.proofs.ScriptLemmas.{script_refused}
 use Rattle.bn_reply_looks.specs.Built.{AreNames, CanBeShown, IsRunOf, ShowsRun}
 use Rattle.bn_reply_looks.specs.Looking.{ShowsBuild}
 use Rattle.bn_reply_looks.specs.LookReply.{TellsLook}
@@ -151,16 +151,16 @@ module _ (m : Quadruples) (names : Naming) (b : Flattened) (script : List ℕ) w
   Answers r = (f : Build) (c : Configuration ℕ) → IsRunOf m f c b → b.config ≡ start_of f c
       → TellsPlay script (table_of m names) c f r.status r.text.items []
 
-  pub played_replies : (commands : List Command) → IsScript names.states script commands
+  pub played_replies : (commands : List Command) → IsScript (Some names.states) script commands
       → (result : Result Reply WantOfMemory) → IfOk result (λ r. r.status ≡ statuses.Done)
       → IfOk result (λ r. (f : Build) (c : Configuration ℕ) → IsRunOf m f c b → b.config ≡ start_of f c
       → IsPlayOf (table_of m names) c f commands r.text.items) → IfOk result Answers
   played_replies commands read (Err e) status text = tt
   played_replies commands read (Ok r) status text = λ f c of begun. played commands read (text f c of begun) status refl
 
-  pub refused_replies : (refusal : ScriptRefusal) → IsRefusalOf (IsFirstScriptFault names.states script) refusal
+  pub refused_replies : (refusal : ScriptRefusal) → IsRefusalOf (IsFirstScriptFault (Some names.states) script) refusal
       → (result : Result Reply WantOfMemory) → IfOk result (λ r. IsScriptRefused refusal r.status r.text.items)
       → IfOk result Answers
   refused_replies refusal first (Err e) h = tt
   refused_replies refusal first (Ok r) h = λ f c of begun.
-      script_refused names.states (IsPlayOf (table_of m names) c f) script refusal first r h
+      script_refused (Some names.states) (IsPlayOf (table_of m names) c f) script refusal first r h

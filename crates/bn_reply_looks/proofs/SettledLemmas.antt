@@ -30,8 +30,8 @@ use Rattle.bn_session.specs.Laws.{IsOnRun}
 use Rattle.bn_session.specs.Plays.{Plays, Session, session}
 use Rattle.bn_session.specs.declared.command.Command.{Command}
 use Rattle.bn_session.proofs.PlayedLemmas.{follow-all, on-by, one-all, there-all}
-use Rattle.bn_reply_views.proofs.AlikeLemmas.{plays_alike}
-use Rattle.bn_reply_views.proofs.ScriptLemmas.{cut_settled, script_answered, script_as, script_once, script_status}
+use Rattle.bn_reply_scripts.proofs.AlikeLemmas.{plays_alike}
+use Rattle.bn_reply_scripts.proofs.ScriptLemmas.{cut_settled, script_answered, script_as, script_once, script_status}
 use Rattle.bn_reply_looks.specs.Looking.{ShowsBuild}
 use Rattle.bn_reply_looks.specs.LookReply.{LookIsSettled, TellsLook}
 use Rattle.bn_reply_looks.specs.PlayReply.{IsPlayOf, PlayIsSettled, TellsPlay}
@@ -161,13 +161,14 @@ module _ (t : QuadTable) (l : Limits) (one two three : List ℕ) (inputs : AreIn
 
   plays_told : (script : List ℕ) → AreApart t.names.states → AreToldOnce (TellsPlay script t c) t.machine l
   plays_told script apart = record {
-    some = λ f h. script_answered t.names.states (IsPlayOf t c f) script (play_there f h);
+    some = λ f h. script_answered (Some t.names.states) (IsPlayOf t c f) script (play_there f h);
     one = λ f g h k s u a b x y told also.
-        script_once t.names.states (IsPlayOf t c g) script apart (play_once g k) s u a b x y
-        (script_as t.names.states t.names.states (IsPlayOf t c f) (IsPlayOf t c g) script refl (play_as f g h k) s a x
+        script_once (Some t.names.states) (IsPlayOf t c g) script apart (play_once g k) s u a b x y
+        (script_as (Some t.names.states) (Some t.names.states) (IsPlayOf t c f) (IsPlayOf t c g) script refl
+        (play_as f g h k) s a x
         told)
         also;
-    status = λ f h s text told tells. script_status t.names.states (IsPlayOf t c f) script s text told tells;
+    status = λ f h s text told tells. script_status (Some t.names.states) (IsPlayOf t c f) script s text told tells;
   }
 
 -- ---- the commands

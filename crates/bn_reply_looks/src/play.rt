@@ -22,7 +22,7 @@ use bn_qtable::TapeWords;
 use bn_quad::{QuadNames, Uniform};
 use bn_reply::{Reply, Status};
 use bn_reply_builds::{OpenedBuild, open_build};
-use bn_reply_views::{refuse_script, without_script};
+use bn_reply_scripts::{refuse_script, without_script};
 use bn_session::{Script, play, read_script};
 use std::alloc::Global;
 

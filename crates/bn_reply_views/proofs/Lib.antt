@@ -1,5 +1,3 @@
-pub mod AlikeLemmas
-pub mod ScriptLemmas
 pub mod SessionSettledLemmas
 pub mod SessionClosedLemmas
 pub mod ShowingLemmas

@@ -1,5 +1,5 @@
 -- A view, a session and `step` of one number of steps show one place.
-use Rattle.std.specs.Prelude.{◌≡◌, ℕ, ◌≤◌, List, [], ◌∷◌, ◌++◌, None, refl}
+use Rattle.std.specs.Prelude.{◌≡◌, ℕ, ◌≤◌, List, [], ◌∷◌, ◌++◌, None, Some, refl}
 use Rattle.std.proofs.Common.{sym, ap, subst, ◌∙◌}
 use Rattle.std.proofs.lemmas.List.{append-nil}
 use Rattle.bn_reply_relations.specs.CompileReply.{CompileReplies}
@@ -47,20 +47,20 @@ use Rattle.bn_reply_relations.proofs.SettledLemmas.{circuits_settled}
 use Rattle.bn_circuits.specs.declared.place.Place.{Place}
 use Rattle.bn_base.specs.Number.{greatest}
 use Rattle.bn_session.specs.Plays.{Plays, Session, place_line, session}
-use Rattle.bn_session.specs.Scripts.{IsScript}
+use Rattle.bn_session.specs.Scripts.{Names, IsScript}
 use Rattle.bn_session.specs.Sentences.{Step, View, script_text}
 use Rattle.bn_session.specs.declared.command.Command.{Command}
 use Rattle.bn_session.specs.declared.command.Command.TheVariants as commands
 use Rattle.bn_session.proofs.OneReading.{scripts-one}
 use Rattle.bn_reply_views.specs.Showing.{TellsLayers}
-use Rattle.bn_reply_views.specs.ScriptReply.{cut, faulty, played, uncut}
+use Rattle.bn_reply_scripts.specs.ScriptReply.{cut, faulty, played, uncut}
 use Rattle.bn_reply_views.specs.SessionReply.{SessionReplies, TellsSession, state_names_of}
 use Rattle.bn_reply_views.specs.PlaceLaws.{PlacesAreOneInAll, SessionsShowViews}
 
 -- ---- the script of one step
 
 -- its text asks for one step
-one_step : (names : List (List ℕ)) (script : List ℕ) (steps : ℕ) → script ≡ script_text (Step steps ∷ [])
+one_step : (names : Names) (script : List ℕ) (steps : ℕ) → script ≡ script_text (Step steps ∷ [])
     → steps ≤ greatest → IsScript names script (commands.Step steps ∷ [])
 one_step names script steps is low = record {
   sentences = Step steps ∷ [];
@@ -69,7 +69,7 @@ one_step names script steps is low = record {
 }
 
 -- likewise of one step and a view
-step_and_view : (names : List (List ℕ)) (script : List ℕ) (steps : ℕ) → script ≡ script_text (Step steps ∷ View ∷ [])
+step_and_view : (names : Names) (script : List ℕ) (steps : ℕ) → script ≡ script_text (Step steps ∷ View ∷ [])
     → steps ≤ greatest → IsScript names script (commands.Step steps ∷ commands.View ∷ [])
 step_and_view names script steps is low = record {
   sentences = Step steps ∷ View ∷ [];
@@ -217,9 +217,9 @@ module _ (table script word : List ℕ) (l : Limits) (steps : ℕ) (text stepped
       → answered ≡ place_line c None
   by_step answered silent is_script g comes (faulty n e is k status_is quiet) = absurd (cc)
   by_step answered silent is_script g comes (played xs is plays status_is quiet) =
-      let same = scripts-one (state_names_of t g) script xs (commands.Step steps ∷ [])
+      let same = scripts-one (Some (state_names_of t g)) script xs (commands.Step steps ∷ [])
       (states_apart tables_machines table t h.symbols l g h.reads comes) is
-      (one_step (state_names_of t g) script steps is_script low) in
+      (one_step (Some (state_names_of t g)) script steps is_script low) in
       one_place t g steps xs plays.0 answered same plays.1 ∙ ap (λ (x : Config). place_line x None)
       (sym (same_place g comes))
 
@@ -228,9 +228,9 @@ module _ (table script word : List ℕ) (l : Limits) (steps : ℕ) (text stepped
       → TellsSession script t g Done answered silent → answered ≡ place_line c None ++ seen
   by_step_and_view answered seen silent small is_script v g comes (faulty n e is k status_is quiet) = absurd (cc)
   by_step_and_view answered seen silent small is_script v g comes (played xs is plays status_is quiet) =
-      let same = scripts-one (state_names_of t g) script xs (commands.Step steps ∷ commands.View ∷ [])
+      let same = scripts-one (Some (state_names_of t g)) script xs (commands.Step steps ∷ commands.View ∷ [])
       (states_apart tables_machines table t h.symbols l g h.reads comes) is
-      (step_and_view (state_names_of t g) script steps is_script low) in
+      (step_and_view (Some (state_names_of t g)) script steps is_script low) in
       let both = place_and_layers t g steps xs plays.0 answered same plays.1 in
       let shown = same_text small g comes both.0 seen both.1 v in
       both.2 ∙ (λ i. place_line (sym (same_place g comes) i) None ++ shown i)

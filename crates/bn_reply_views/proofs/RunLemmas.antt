@@ -9,8 +9,8 @@ use Rattle.bn_boards.specs.Layouts.{moment_at}
 use Rattle.bn_boards.specs.Flats.{Flat, flat_start}
 use Rattle.bn_session.specs.Plays.{Session, label_that_holds, place_line}
 use Rattle.bn_session.specs.declared.command.Command.{Command}
-use Rattle.bn_session.specs.declared.command.Command.TheVariants.{Step, Back, Go, Rev, BreakState, BreakElement, Drop}
-use Rattle.bn_session.specs.declared.command.Command.TheVariants.{View}
+use Rattle.bn_session.specs.declared.command.Command.TheVariants.{Step, Back, Go, Rev, BreakState, BreakElement}
+use Rattle.bn_session.specs.declared.command.Command.TheVariants.{BreakLine, Drop, View}
 use Rattle.bn_session.proofs.PlayedLemmas.{goes-least, on-all, on-by}
 use Rattle.bn_reply_views.specs.Showing.{TellsLayers}
 use Rattle.bn_reply_views.specs.SessionLaws.{GoesStopAtLeastHit, IsMove, ToldPlacesAreOfTheRun, PlaysOneWithLayers}
@@ -37,6 +37,7 @@ told_place t f (Rev e) s end text plays moves = (
 )
 told_place t f (BreakState label a) s end text plays moves = absurd moves
 told_place t f (BreakElement label e) s end text plays moves = absurd moves
+told_place t f (BreakLine label e l) s end text plays moves = absurd moves
 told_place t f (Drop label) s end text plays moves = absurd moves
 told_place t f View s end text plays moves = absurd moves
 

@@ -1,5 +1,5 @@
 -- What `session` answers is one.
-use Rattle.std.specs.Prelude.{◌≡◌, ℕ, List, [], refl}
+use Rattle.std.specs.Prelude.{◌≡◌, ℕ, List, [], Some, refl}
 use Rattle.std.proofs.Common.{sym, ap, subst, ◌∙◌}
 use Rattle.std.proofs.lemmas.Slice.Eq.{bytes_eq-Decides}
 use Rattle.std.specs.Prelude.{bytes_eq}
@@ -44,8 +44,8 @@ use Rattle.bn_session.specs.Plays.{Plays, Session, session}
 use Rattle.bn_session.specs.declared.command.Command.{Command}
 use Rattle.bn_session.proofs.PlayedLemmas.{follow-all, on-by, one-all, there-all}
 use Rattle.bn_reply_views.specs.SessionReply.{IsAnswerTo, SessionIsSettled, TellsSession, state_names_of}
-use Rattle.bn_reply_views.proofs.ScriptLemmas.{cut_settled, script_answered, script_as, script_once, script_status}
-use Rattle.bn_reply_views.proofs.AlikeLemmas.{plays_alike}
+use Rattle.bn_reply_scripts.proofs.ScriptLemmas.{cut_settled, script_answered, script_as, script_once, script_status}
+use Rattle.bn_reply_scripts.proofs.AlikeLemmas.{plays_alike}
 
 -- the printed names of a translation's states are apart
 pub states_apart : TablesAreMachines → (bytes : List ℕ) (t : Named) (symbols : List ℕ) (l : Limits) (f : Flat)
@@ -89,8 +89,8 @@ module _ (f g : Flat) (same : AreSameFlats f g) (limits : f.limits ≡ g.limits)
       → (script : List ℕ) (status : Status) (text : List ℕ) (told : List Place) →
       TellsSession script t f status text told → TellsSession script t g status text told
   told_there p symbols l flat script =
-      script_as (state_names_of t f) (state_names_of t g) (IsAnswerTo t f) (IsAnswerTo t g) script
-      (ap (λ (x : Translation). (translation_names t x).states) same.translation) answer_there
+      script_as (Some (state_names_of t f)) (Some (state_names_of t g)) (IsAnswerTo t f) (IsAnswerTo t g) script
+      (ap (λ (x : Translation). Some (translation_names t x).states) same.translation) answer_there
     where
       answer_there : (xs : List Command) (text : List ℕ) → IsAnswerTo t f xs text → IsAnswerTo t g xs text
       answer_there xs text plays =
@@ -130,12 +130,12 @@ module _ (f : Flat) (p : Program) (symbols : List ℕ) (l : Limits) (flat : IsFl
       (session (flat_start f) []) end text (starts f) plays
 
   one_told : AreApart (state_names_of t f) → IsOneAnswer (TellsSession script t f)
-  one_told apart = script_once (state_names_of t f) (IsAnswerTo t f) script apart (λ xs a b plays others.
+  one_told apart = script_once (Some (state_names_of t f)) (IsAnswerTo t f) script apart (λ xs a b plays others.
       (one-all f.circuit (moment_at f.layout) OnRun one_text xs (session (flat_start f) []) plays.0 others.0 a b
       (on_run xs plays.0 a plays.1) (on_run xs others.0 b others.1)).1)
 
   some_told : HasAnswer (TellsSession script t f)
-  some_told = script_answered (state_names_of t f) (IsAnswerTo t f) script (λ xs.
+  some_told = script_answered (Some (state_names_of t f)) (IsAnswerTo t f) script (λ xs.
       let made = there-all f.circuit (moment_at f.layout) (TellsLayers t f) (IsOnRun f.circuit (flat_start f))
       (λ x s u text on plays. on-by f.circuit (moment_at f.layout) (TellsLayers t f) (flat_start f) refl
       flat.is_board.circuit x s u text on plays)
@@ -153,7 +153,7 @@ module _ (machines : TablesAreMachines) (flats : FlatsAreThere) (ones : FlatsAre
       → IsSettled (WindowReplies (TellsSession script) word l table)
   script_settled script word l table small =
       window_settled (TellsSession script) word l table machines flats counted small some one
-      (λ t f. script_status (state_names_of t f) (IsAnswerTo t f) script)
+      (λ t f. script_status (Some (state_names_of t f)) (IsAnswerTo t f) script)
     where
       some : (t : Named) (symbols : List ℕ) (f : Flat) → IsGiven table word l t symbols → ComesTo t.machine l symbols f
           → HasAnswer (TellsSession script t f)

@@ -1,4 +1,3 @@
-pub mod ScriptReply
 pub mod SessionReply
 pub mod Viewing
 pub mod Kept

@@ -1,6 +1,6 @@
 -- The answer of the command `session`: a script played on the circuit of a machine and a word in a window (circuit,
 -- script and text are this project's own definitions).
-use Rattle.std.specs.Prelude.{ℕ, List, []}
+use Rattle.std.specs.Prelude.{ℕ, List, [], Some}
 use Rattle.bn_circuits.specs.declared.place.Place.{Place}
 use Rattle.bn_machine.specs.Outcome.{Limits}
 use Rattle.bn_table.specs.Rows.{Named}
@@ -13,7 +13,7 @@ use Rattle.bn_network.specs.Limits.{AreSmall}
 use Rattle.bn_reply_relations.specs.Windows.{WindowReplies}
 use Rattle.bn_session.specs.Plays.{Plays, Session, session}
 use Rattle.bn_session.specs.declared.command.Command.{Command}
-use Rattle.bn_reply_views.specs.ScriptReply.{CutReplies, ScriptReplies}
+use Rattle.bn_reply_scripts.specs.ScriptReply.{CutReplies, ScriptReplies}
 use Rattle.bn_reply_views.specs.Showing.{TellsLayers}
 
 -- the printed names of the states of a circuit's reversible machine, by number
@@ -28,7 +28,7 @@ IsAnswerTo t f commands text =
 
 -- the answer to a script and a circuit at its start
 abbrev pub TellsSession : List ℕ → Named → Flat → Status → List ℕ → List Place → Type 0
-TellsSession script t f = ScriptReplies (state_names_of t f) (IsAnswerTo t f) script
+TellsSession script t f = ScriptReplies (Some (state_names_of t f)) (IsAnswerTo t f) script
 
 -- The answer of `session` to a word, limits and these bytes.
 abbrev pub SessionReplies : List ℕ → Limits → List ℕ → Status → List ℕ → List Place → Type 0

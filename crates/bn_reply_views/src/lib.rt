@@ -3,14 +3,12 @@
 
 mod laws;
 mod place_text;
-mod script_text;
 mod session;
 mod view;
 mod view_text;
 mod viewer;
 
 pub use laws::reply_views_laws;
-pub use script_text::{refuse_script, without_script};
 pub use session::reply_session;
 pub use view::reply_view;
 pub use view_text::{push_element, push_module};

@@ -10,7 +10,6 @@ ghost use Rattle.bn_view.specs.Viewed.{IsBoardFor};
 ghost use Rattle.bn_reply_views.specs.SessionReply.{IsAnswerTo, SessionReplies, TellsSession};
 ghost use Rattle.bn_reply_views.specs.Viewing.{MayShow};
 
-use crate::script_text::{refuse_script, without_script};
 use crate::viewer::Viewer;
 use bn_base::cut_input;
 use bn_bennett::{Translated, names};
@@ -19,6 +18,7 @@ use bn_lists::NoMemory;
 use bn_network_assembly::Windows;
 use bn_reply::{Reply, Status};
 use bn_reply_boards::{OpenedInput, open_input};
+use bn_reply_scripts::{refuse_script, without_script};
 use bn_session::{Script, play, read_script};
 use bn_table::Table;
 use std::alloc::Global;

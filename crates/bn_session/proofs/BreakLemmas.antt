@@ -1,5 +1,6 @@
 -- Breakpoints as they are kept.
-use Rattle.std.specs.Prelude.{bytes_eq, ◌≡◌, ◌≢◌, ℕ, ◌<◌, ◌≤◌, nat_lt, ◌||◌, Bool, true, false, cond, List, [], ◌∷◌}
+use Rattle.std.specs.Prelude.{bytes_eq, ◌≡◌, ◌≢◌, ℕ, ◌<◌, ◌≤◌, ◌==◌, nat_lt, ◌||◌, Bool, true, false, cond, List, []}
+use Rattle.std.specs.Prelude.{◌∷◌}
 use Rattle.std.specs.Prelude.{◌++◌, length, slice_index_or, slice_set, Option, Some, None, is_some, IsSome, MatchOption}
 use Rattle.std.specs.Prelude.{refl}
 use Rattle.std.specs.Option.{unwrap_or}
@@ -18,9 +19,9 @@ use Rattle.bn_session.specs.Labels.{stands}
 use Rattle.bn_session.specs.Breakpoints.{Breakpoint, breakpoint, holds, first_label, some_holds, labels_of}
 use Rattle.bn_session.specs.Breakpoints.{without_break}
 use Rattle.bn_session.specs.Kept.{Entry, condition_at, kept_break, kept_breaks, HaveValues, IsFree, mark_at, IsMarked}
-use Rattle.bn_session.specs.Kept.{with_mark, AreKept}
+use Rattle.bn_session.specs.Kept.{marked_at, with_mark, AreKept}
 use Rattle.bn_session.specs.declared.condition.Condition.{Condition}
-use Rattle.bn_session.specs.declared.condition.Condition.TheVariants.{AtState, AtElement}
+use Rattle.bn_session.specs.declared.condition.Condition.TheVariants.{AtState, AtElement, AtLine}
 
 -- a breakpoint holds exactly where there is a first that holds
 pub first-some : (place : Place) (moment : Option ℕ) (bs : List Breakpoint)
@@ -87,23 +88,38 @@ past_true [] e h = refl
 past_true (m ∷ marks) zero h = absurd (omega arith)
 past_true (m ∷ marks) (suc e) h = past_true marks e (omega arith)
 
-marked_still : (marks : List Bool) (x added : Condition) → IsMarked marks x → IsMarked (with_mark marks added) x
-marked_still marks (AtState s) added h = tt
-marked_still marks (AtElement e) (AtState s) h = h
-marked_still marks (AtElement e) (AtElement f) h = elim (cases_lt f (length marks)) [
+still_at : (marks : List Bool) (e f : ℕ) → slice_index_or marks e true ≡ true
+    → slice_index_or (marked_at marks f) e true ≡ true
+still_at marks e f h = elim (cases_lt f (length marks)) [
   | inl low ↦ (let test : nat_lt f (length marks) ≡ true = grind (arith, nat_tests) in rw test
       (slice_true marks e f low h))
   | inr high ↦ (let test : nat_lt f (length marks) ≡ false = grind (arith, nat_tests) in rw test h)
 ]
 
-pub marked_now : (marks : List Bool) (x : Condition) → IsMarked (with_mark marks x) x
-marked_now marks (AtState s) = tt
-marked_now marks (AtElement e) = elim (cases_lt e (length marks)) [
+now_at : (marks : List Bool) (e : ℕ) → slice_index_or (marked_at marks e) e true ≡ true
+now_at marks e = elim (cases_lt e (length marks)) [
   | inl low ↦ (let test : nat_lt e (length marks) ≡ true = grind (arith, nat_tests) in rw test
       (get_or-set_same marks e true true low))
   | inr high ↦ (let test : nat_lt e (length marks) ≡ false = grind (arith, nat_tests) in rw test
       (past_true marks e high))
 ]
+
+-- a mark stays, whatever is added
+stays_at : (marks : List Bool) (e : ℕ) (added : Condition) → slice_index_or marks e true ≡ true
+    → slice_index_or (with_mark marks added) e true ≡ true
+stays_at marks e (AtState s) h = h
+stays_at marks e (AtElement f) h = still_at marks e f h
+stays_at marks e (AtLine f l) h = still_at marks e f h
+
+marked_still : (marks : List Bool) (x added : Condition) → IsMarked marks x → IsMarked (with_mark marks added) x
+marked_still marks (AtState s) added h = tt
+marked_still marks (AtElement e) added h = stays_at marks e added h
+marked_still marks (AtLine e l) added h = stays_at marks e added h
+
+pub marked_now : (marks : List Bool) (x : Condition) → IsMarked (with_mark marks x) x
+marked_now marks (AtState s) = tt
+marked_now marks (AtElement e) = now_at marks e
+marked_now marks (AtLine e l) = now_at marks e
 
 pub kept_marked : (slab : Slab Condition) (es : List Entry) (marks : List Bool) (added : Condition)
     → AreKept slab es marks → AreKept slab es (with_mark marks added)
@@ -118,10 +134,9 @@ none_holds slab [] marks place kept none = refl
 none_holds slab (e ∷ es) marks place (some, free, marked, rest) none =
     rw (one (condition_at slab e.1) place marked none, none_holds slab es marks place rest none) refl
   where
-    one : (x : Condition) (place : Place) → IsMarked marks x → mark_at marks place ≡ false → holds place None x ≡ false
-    one (AtState s) place marked none = refl
-    one (AtElement n) (Left f line) marked none = refl
-    one (AtElement n) (Enter f line) marked none = elim (eqb_tells f n) [
+    other_element : (n f : ℕ) → slice_index_or marks n true ≡ true → slice_index_or marks f true ≡ false
+        → (f == n) ≡ false
+    other_element n f marked none = elim (eqb_tells f n) [
       | inl same ↦ (let is : f ≡ n = same.1 in absurd (clash (sym marked
           ∙ ap (λ k. slice_index_or marks k true) (sym is) ∙ none)))
       | inr other ↦ other.0
@@ -129,6 +144,13 @@ none_holds slab (e ∷ es) marks place (some, free, marked, rest) none =
       where
         clash : true ≡ false → ⊥
         clash e = cc
+
+    one : (x : Condition) (place : Place) → IsMarked marks x → mark_at marks place ≡ false → holds place None x ≡ false
+    one (AtState s) place marked none = refl
+    one (AtElement n) (Left f line) marked none = refl
+    one (AtElement n) (Enter f line) marked none = other_element n f marked none
+    one (AtLine n l) (Left f line) marked none = refl
+    one (AtLine n l) (Enter f line) marked none = rw (other_element n f marked none) refl
 
 -- ---- a label more, a label less
 

@@ -1,24 +1,25 @@
 -- Bytes are read in one way: two readings go on together.
 use Rattle.std.specs.Prelude.{◌≡◌, ◌≢◌, ℕ, ◌+◌, ◌≤◌, true, false, List, [], ◌∷◌, ◌++◌, length, fold, slice_get, Some}
-use Rattle.std.specs.Prelude.{Contains, ◌⊎◌, refl}
+use Rattle.std.specs.Prelude.{is_some, Contains, ◌⊎◌, refl}
 use Rattle.std.proofs.Common.{sym, ap, subst, ◌∙◌, arith, inl, inr, append_assoc}
 use Rattle.std.proofs.lemmas.List.{append-nil}
 use Rattle.std.proofs.lemmas.Bool.{cases_lt}
 use Rattle.std.proofs.lemmas.Option.{slice_get-get_or, slice_get_within}
-use Rattle.bn_quad.specs.Names.{AreApart}
 use Rattle.bn_session.specs.Labels.{standing_after, standing_by}
-use Rattle.bn_session.specs.Sentences.{ScriptSentence, Step, Back, Go, Rev, BreakState, BreakElement, Drop, View}
+use Rattle.bn_session.specs.Sentences.{ScriptSentence, Step, Back, Go, Rev, BreakState, BreakElement, BreakLine}
+use Rattle.bn_session.specs.Sentences.{Drop, View}
 use Rattle.bn_session.specs.Sentences.{IsSayableInScript, script_sentence_text, script_text}
-use Rattle.bn_session.specs.Scripts.{Asks, AskFor, IsScript, ScriptFault, malformed, no_state, same_break, no_break}
+use Rattle.bn_session.specs.Scripts.{Names, state_names, Asks, AskFor, IsScript, ScriptFault, malformed, no_state}
+use Rattle.bn_session.specs.Scripts.{same_break, no_break}
 use Rattle.bn_session.specs.Scripts.{IsFaultyLine, IsMalformedLine, BeginsFaulty, BeginsWithFaultyLine}
 use Rattle.bn_session.specs.Scripts.{IsFirstScriptFault}
-use Rattle.bn_session.specs.Laws.{ScriptsAreOne, FaultyScriptsAreNone, FirstFaultsAreOne}
+use Rattle.bn_session.specs.Laws.{AreNamesApart, ScriptsAreOne, FaultyScriptsAreNone, FirstFaultsAreOne}
 use Rattle.bn_session.specs.declared.command.Command.{Command}
 use Rattle.bn_session.specs.declared.command.Command.TheVariants as commands
 use Rattle.bn_session.proofs.LineLemmas.{lines-same}
 
 -- a sentence asks for one command
-asks-one : (names standing : List (List ℕ)) (s : ScriptSentence) (x y : Command) → AreApart names
+asks-one : (names : Names) (standing : List (List ℕ)) (s : ScriptSentence) (x y : Command) → AreNamesApart names
     → Asks names standing s x → Asks names standing s y → x ≡ y
 asks-one names standing (Step e) x y apart a b = a ∙ sym b
 asks-one names standing (Back e) x y apart a b = a ∙ sym b
@@ -27,6 +28,7 @@ asks-one names standing (Rev e) x y apart a b = a ∙ sym b
 asks-one names standing (BreakState label name) x y apart (m, at_m, new, is_x) (n, at_n, too, is_y) =
     is_x ∙ ap (λ k. commands.BreakState label k) (apart.same name m n at_m at_n) ∙ sym is_y
 asks-one names standing (BreakElement label e) x y apart a b = a.1 ∙ sym b.1
+asks-one names standing (BreakLine label e l) x y apart a b = a.1 ∙ sym b.1
 asks-one names standing (Drop label) x y apart a b = a.1 ∙ sym b.1
 asks-one names standing View x y apart a b = a ∙ sym b
 
@@ -39,15 +41,20 @@ there names name n at =
     same_name a b e = cc
 
 -- a sentence that asks for a command has no fault
-asks_no_fault : (names standing : List (List ℕ)) (s : ScriptSentence) (x : Command) (fault : ScriptFault)
+asks_no_fault : (names : Names) (standing : List (List ℕ)) (s : ScriptSentence) (x : Command) (fault : ScriptFault)
     → Asks names standing s x → IsFaultyLine names standing s fault → ⊥
-asks_no_fault names standing (BreakState label name) x no_state (n, at, new, is) none = none (there names name n at)
+asks_no_fault names standing (BreakState label name) x no_state (n, at, new, is) none =
+    none (there (state_names names) name n at)
 asks_no_fault names standing (BreakState label name) x same_break (n, at, new, is) (among, stand) =
     clash (sym stand ∙ new)
   where
     clash : true ≡ false → ⊥
     clash e = cc
 asks_no_fault names standing (BreakElement label e) x same_break a stand = let new = a.0 in clash (sym stand ∙ new)
+  where
+    clash : true ≡ false → ⊥
+    clash e = cc
+asks_no_fault names standing (BreakLine label e l) x same_break a stand = let new = a.0 in clash (sym stand ∙ new)
   where
     clash : true ≡ false → ⊥
     clash e = cc
@@ -60,7 +67,8 @@ asks_no_fault names standing s x fault a h = h
 -- ---- two readings
 
 -- the second reading goes on where the first ends
-record Continues (names standing : List (List ℕ)) (ss : List ScriptSentence) (xs : List Command) (left : List ℕ)
+record Continues (names : Names) (standing : List (List ℕ)) (ss : List ScriptSentence) (xs : List Command)
+    (left : List ℕ)
     (ts : List ScriptSentence) (ys : List Command) (other : List ℕ) : Type 0 where
   more : List ScriptSentence
   others : List Command
@@ -69,8 +77,9 @@ record Continues (names standing : List (List ℕ)) (ss : List ScriptSentence) (
   text : left ≡ script_text more ++ other
   asked : AskFor names (fold standing_after standing xs) more others
 
-continues : (names standing : List (List ℕ)) (ss ts : List ScriptSentence) (xs ys : List Command) (left other : List ℕ)
-    → AreApart names → AskFor names standing ss xs → AskFor names standing ts ys
+continues : (names : Names) (standing : List (List ℕ)) (ss ts : List ScriptSentence) (xs ys : List Command)
+    (left other : List ℕ)
+    → AreNamesApart names → AskFor names standing ss xs → AskFor names standing ts ys
     → script_text ss ++ left ≡ script_text ts ++ other → length ss ≤ length ts
     → Continues names standing ss xs left ts ys other
 continues names standing [] ts xs ys left other apart none asked e short =
@@ -84,7 +93,8 @@ continues names standing (s ∷ ss) (t ∷ ts) xs ys left other apart (x, xs', x
     sym (append_assoc (script_sentence_text s) (10 ∷ script_text ss) left) ∙ e
     ∙ append_assoc (script_sentence_text t) (10 ∷ script_text ts) other
     in
-    let both = lines-same s t (script_text ss ++ left) (script_text ts ++ other) sayable sayable_t first in
+    let both = lines-same (is_some names) s t (script_text ss ++ left) (script_text ts ++ other) sayable sayable_t first
+    in
     let same_x : y ≡ x = asks-one names standing s y x apart (subst (λ u. Asks names standing u y) (sym both.0) asks_t)
     asks in
     let go_on = continues names (standing_after standing x) ss ts xs' ys' left other apart rest
@@ -104,29 +114,29 @@ line_left : (line behind : List ℕ) → line ++ 10 ∷ behind ≡ [] → ⊥
 line_left [] behind e = cc
 line_left (x ∷ xs) behind e = cc
 
-faulty_left : (names standing : List (List ℕ)) (left : List ℕ) (fault : ScriptFault)
+faulty_left : (names : Names) (standing : List (List ℕ)) (left : List ℕ) (fault : ScriptFault)
     → BeginsFaulty names standing left fault → left ≢ []
 faulty_left names standing left fault h e = line_left (script_sentence_text h.says) h.behind (sym h.begins ∙ e)
 
 -- what is left and has a fault isn't empty
-fault_left : (names standing : List (List ℕ)) (left : List ℕ) (fault : ScriptFault)
+fault_left : (names : Names) (standing : List (List ℕ)) (left : List ℕ) (fault : ScriptFault)
     → BeginsWithFaultyLine names standing left fault → left ≢ []
 fault_left names standing left malformed h e = h.some e
 fault_left names standing left no_state h e = faulty_left names standing left no_state h e
 fault_left names standing left same_break h e = faulty_left names standing left same_break h e
 fault_left names standing left no_break h e = faulty_left names standing left no_break h e
 
-faulty_asks : (names standing : List (List ℕ)) (left behind : List ℕ) (s : ScriptSentence) (x : Command)
+faulty_asks : (names : Names) (standing : List (List ℕ)) (left behind : List ℕ) (s : ScriptSentence) (x : Command)
     (fault : ScriptFault) → BeginsFaulty names standing left fault → left ≡ script_sentence_text s ++ 10 ∷ behind
-    → IsSayableInScript s → Asks names standing s x → ⊥
+    → IsSayableInScript (is_some names) s → Asks names standing s x → ⊥
 faulty_asks names standing left behind s x fault h begins sayable asks =
-    let same = (lines-same h.says s h.behind behind h.sayable sayable (sym h.begins ∙ begins)).0 in
+    let same = (lines-same (is_some names) h.says s h.behind behind h.sayable sayable (sym h.begins ∙ begins)).0 in
     asks_no_fault names standing s x fault asks (subst (λ t. IsFaultyLine names standing t fault) same h.faulty)
 
 -- what is left and has a fault begins with no line that asks for a command
-fault_asks : (names standing : List (List ℕ)) (left behind : List ℕ) (s : ScriptSentence) (x : Command)
+fault_asks : (names : Names) (standing : List (List ℕ)) (left behind : List ℕ) (s : ScriptSentence) (x : Command)
     (fault : ScriptFault) → BeginsWithFaultyLine names standing left fault
-    → left ≡ script_sentence_text s ++ 10 ∷ behind → IsSayableInScript s → Asks names standing s x → ⊥
+    → left ≡ script_sentence_text s ++ 10 ∷ behind → IsSayableInScript (is_some names) s → Asks names standing s x → ⊥
 fault_asks names standing left behind s x malformed h begins sayable asks = h.unsaid s behind sayable begins
 fault_asks names standing left behind s x no_state h begins sayable asks =
     faulty_asks names standing left behind s x no_state h begins sayable asks
@@ -136,7 +146,8 @@ fault_asks names standing left behind s x no_break h begins sayable asks =
     faulty_asks names standing left behind s x no_break h begins sayable asks
 
 -- so no reading goes on there
-stops : (names standing : List (List ℕ)) (left other : List ℕ) (fault : ScriptFault) (more : List ScriptSentence)
+stops : (names : Names) (standing : List (List ℕ)) (left other : List ℕ) (fault : ScriptFault)
+    (more : List ScriptSentence)
     (others : List Command) → BeginsWithFaultyLine names standing left fault → left ≡ script_text more ++ other
     → AskFor names standing more others → more ≡ []
 stops names standing left other fault [] others h text asked = refl
@@ -145,7 +156,7 @@ stops names standing left other fault (s ∷ more) others h text (x, xs, is, say
     (text ∙ append_assoc (script_sentence_text s) (10 ∷ script_text more) other) sayable asks)
 
 -- a sentence has one first fault
-sentence_fault : (names standing : List (List ℕ)) (s : ScriptSentence) (fault other : ScriptFault)
+sentence_fault : (names : Names) (standing : List (List ℕ)) (s : ScriptSentence) (fault other : ScriptFault)
     → IsFaultyLine names standing s fault → IsFaultyLine names standing s other → fault ≡ other
 sentence_fault names standing (BreakState label name) no_state no_state a b = refl
 sentence_fault names standing (BreakState label name) no_state same_break a b = absurd (a b.0)
@@ -157,24 +168,29 @@ sentence_fault names standing (BreakState label name) fault other a b = absurd a
 sentence_fault names standing (BreakElement label e) same_break same_break a b = refl
 sentence_fault names standing (BreakElement label e) same_break other a b = absurd b
 sentence_fault names standing (BreakElement label e) fault other a b = absurd a
+sentence_fault names standing (BreakLine label e l) same_break same_break a b = refl
+sentence_fault names standing (BreakLine label e l) same_break other a b = absurd b
+sentence_fault names standing (BreakLine label e l) fault other a b = absurd a
 sentence_fault names standing (Drop label) no_break no_break a b = refl
 sentence_fault names standing (Drop label) no_break other a b = absurd b
 sentence_fault names standing (Drop label) fault other a b = absurd a
 sentence_fault names standing s fault other a b = absurd a
 
-both_faulty : (names standing : List (List ℕ)) (left : List ℕ) (fault other : ScriptFault)
+both_faulty : (names : Names) (standing : List (List ℕ)) (left : List ℕ) (fault other : ScriptFault)
     → BeginsFaulty names standing left fault → BeginsFaulty names standing left other → fault ≡ other
 both_faulty names standing left fault other a b =
-    let same = (lines-same a.says b.says a.behind b.behind a.sayable b.sayable (sym a.begins ∙ b.begins)).0 in
+    let same = (lines-same (is_some names) a.says b.says a.behind b.behind a.sayable b.sayable
+    (sym a.begins ∙ b.begins)).0 in
     sentence_fault names standing b.says fault other (subst (λ t. IsFaultyLine names standing t fault) same a.faulty)
     b.faulty
 
-malformed_faulty : (names standing : List (List ℕ)) (left : List ℕ) (fault : ScriptFault) → IsMalformedLine left
+malformed_faulty : (names : Names) (standing : List (List ℕ)) (left : List ℕ) (fault : ScriptFault)
+    → IsMalformedLine names left
     → BeginsFaulty names standing left fault → ⊥
 malformed_faulty names standing left fault a b = a.unsaid b.says b.behind b.sayable b.begins
 
 -- what is left has one first fault
-one_fault : (names standing : List (List ℕ)) (left : List ℕ) (fault other : ScriptFault)
+one_fault : (names : Names) (standing : List (List ℕ)) (left : List ℕ) (fault other : ScriptFault)
     → BeginsWithFaultyLine names standing left fault → BeginsWithFaultyLine names standing left other → fault ≡ other
 one_fault names standing left malformed malformed a b = refl
 one_fault names standing left malformed no_state a b = absurd (malformed_faulty names standing left no_state a b)
@@ -203,11 +219,12 @@ no_text [] e = refl
 no_text (s ∷ ss) e = absurd (line_left (script_sentence_text s) (script_text ss)
     (sym (append-nil (script_sentence_text s ++ 10 ∷ script_text ss)) ∙ sym e))
 
-same_commands : (names standing : List (List ℕ)) (more : List ScriptSentence) (others : List Command) → more ≡ []
+same_commands : (names : Names) (standing : List (List ℕ)) (more : List ScriptSentence) (others : List Command)
+    → more ≡ []
     → AskFor names standing more others → others ≡ []
 same_commands names standing more others none asked = subst (λ ss. AskFor names standing ss others) none asked
 
-shorter_one : (names : List (List ℕ)) (bytes : List ℕ) (xs ys : List Command) → AreApart names
+shorter_one : (names : Names) (bytes : List ℕ) (xs ys : List Command) → AreNamesApart names
     → (a : IsScript names bytes xs) (b : IsScript names bytes ys) → length a.sentences ≤ length b.sentences → xs ≡ ys
 shorter_one names bytes xs ys apart a b short =
     let text : script_text a.sentences ++ [] ≡ script_text b.sentences ++ [] =
@@ -242,7 +259,7 @@ faulty-none names bytes line fault xs apart a b =
     no_right [] ys e = e
     no_right (x ∷ xs) ys e = absurd (cc)
 
-shorter_fault : (names : List (List ℕ)) (bytes : List ℕ) (line number : ℕ) (fault other : ScriptFault) → AreApart names
+shorter_fault : (names : Names) (bytes : List ℕ) (line number : ℕ) (fault other : ScriptFault) → AreNamesApart names
     → (a : IsFirstScriptFault names bytes line fault) (b : IsFirstScriptFault names bytes number other)
     → length a.before ≤ length b.before
     → (line ≡ number) × (fault ≡ other)

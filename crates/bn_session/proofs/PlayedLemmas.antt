@@ -18,9 +18,9 @@ use Rattle.bn_session.specs.Plays.{place_line, label_line, PlaysOne, Plays}
 use Rattle.bn_session.specs.Laws.{PlaysAreOne, PlaysAreThere, PlacesAreOfTheRun, PlaysAgree, IsOnRun, IsLeastHit}
 use Rattle.bn_session.specs.Laws.{is_hit, is_none, GoesStopAtLeast}
 use Rattle.bn_session.specs.declared.command.Command.{Command}
-use Rattle.bn_session.specs.declared.command.Command.TheVariants.{Step, Back, Go, Rev, BreakState, BreakElement, Drop}
-use Rattle.bn_session.specs.declared.command.Command.TheVariants.{View}
-use Rattle.bn_session.specs.declared.condition.Condition.TheVariants.{AtState, AtElement}
+use Rattle.bn_session.specs.declared.command.Command.TheVariants.{Step, Back, Go, Rev, BreakState, BreakElement}
+use Rattle.bn_session.specs.declared.command.Command.TheVariants.{BreakLine, Drop, View}
+use Rattle.bn_session.specs.declared.condition.Condition.TheVariants.{AtState, AtElement, AtLine}
 
 -- ---- where a way stops
 
@@ -88,6 +88,7 @@ module _ (k : Circuit) (moment : Config → Option ℕ) (shows : Config → List
         )
     one-by (BreakState label a) s t u text other p q = (p.0 ∙ sym q.0, p.1 ∙ sym q.1)
     one-by (BreakElement label e) s t u text other p q = (p.0 ∙ sym q.0, p.1 ∙ sym q.1)
+    one-by (BreakLine label e l) s t u text other p q = (p.0 ∙ sym q.0, p.1 ∙ sym q.1)
     one-by (Drop label) s t u text other p q = (p.0 ∙ sym q.0, p.1 ∙ sym q.1)
     one-by View s t u text other p q = (p.0 ∙ sym q.0, one_text s.config text other p.1 q.1)
 
@@ -128,6 +129,11 @@ module _ (k : Circuit) (moment : Config → Option ℕ) (shows : Config → List
     )
     there-by (BreakElement label e) s fits = (
       session s.config (s.breaks ++ breakpoint label (AtElement e) ∷ []),
+      label_line (codes "break ") label,
+      (refl, refl),
+    )
+    there-by (BreakLine label e l) s fits = (
+      session s.config (s.breaks ++ breakpoint label (AtLine e l) ∷ []),
       label_line (codes "break ") label,
       (refl, refl),
     )
@@ -209,6 +215,7 @@ module _ (k : Circuit) (moment : Config → Option ℕ) (shows : Config → List
           (λ j. back_on s.config j on) p.0
       on-by (BreakState label a) s t text on p = subst (IsOnRun k c0) (sym p.0) on
       on-by (BreakElement label e) s t text on p = subst (IsOnRun k c0) (sym p.0) on
+      on-by (BreakLine label e l) s t text on p = subst (IsOnRun k c0) (sym p.0) on
       on-by (Drop label) s t text on p = subst (IsOnRun k c0) (sym p.0) on
       on-by View s t text on p = subst (IsOnRun k c0) (sym p.0) on
 
@@ -229,6 +236,7 @@ module _ (k : Circuit) (moment : Config → Option ℕ) (shows : Config → List
         follow-by (Rev e) s t text on p = p
         follow-by (BreakState label a) s t text on p = p
         follow-by (BreakElement label e) s t text on p = p
+        follow-by (BreakLine label e l) s t text on p = p
         follow-by (Drop label) s t text on p = p
         follow-by View s t text on p = (p.0, follow s.config text on p.1)
 

@@ -1,6 +1,6 @@
 -- Bytes are read to their end, or to their first fault.
 use Rattle.std.specs.Prelude.{◌≡◌, ◌≢◌, bytes_eq, ℕ, zero, suc, ◌+◌, ◌<◌, true, false, List, [], ◌∷◌, ◌++◌, length}
-use Rattle.std.specs.Prelude.{position, Option, Some, None, Contains, ◌⊎◌, refl}
+use Rattle.std.specs.Prelude.{position, Option, Some, None, is_some, Contains, ◌⊎◌, refl}
 use Rattle.std.specs.List.{list_any}
 use Rattle.std.proofs.Common.{sym, ap, ◌∙◌, arith, inl, inr, get_or}
 use Rattle.std.proofs.lemmas.Bool.{cases_Bool}
@@ -12,9 +12,11 @@ use Rattle.std.proofs.lemmas.Slice.Eq.{bytes_eq-Decides}
 use Rattle.bn_base.specs.Line.{IsInLine}
 use Rattle.bn_csv.proofs.PlaceFacts.{found, missing}
 use Rattle.bn_session.specs.Labels.{stands, standing_after, standing_by}
-use Rattle.bn_session.specs.Sentences.{ScriptSentence, Step, Back, Go, Rev, BreakState, BreakElement, Drop, View}
+use Rattle.bn_session.specs.Sentences.{ScriptSentence, Step, Back, Go, Rev, BreakState, BreakElement, BreakLine}
+use Rattle.bn_session.specs.Sentences.{Drop, View}
 use Rattle.bn_session.specs.Reading.{sentence_in}
-use Rattle.bn_session.specs.Scripts.{Asks, IsScript, ScriptFault, malformed, no_state, same_break, no_break}
+use Rattle.bn_session.specs.Scripts.{Names, state_names, Asks, IsScript, ScriptFault, malformed, no_state, same_break}
+use Rattle.bn_session.specs.Scripts.{no_break}
 use Rattle.bn_session.specs.Scripts.{IsFaultyLine, BeginsWithFaultyLine, IsFirstScriptFault}
 use Rattle.bn_session.specs.Progress.{AsksNext, HasRead}
 use Rattle.bn_session.specs.Laws.{ScriptsReadOrFault}
@@ -51,7 +53,7 @@ not_among names name none (k, inside, here) =
     clash : true ≡ false → ⊥
     clash e = cc
 
-module _ (names standing : List (List ℕ)) where
+module _ (names : Names) (standing : List (List ℕ)) where
   -- a sentence asks for a command, or has a fault
   asks_or_fails : (s : ScriptSentence) → ((x : Command) × Asks names standing s x)
       ⊎ ((fault : ScriptFault) × IsFaultyLine names standing s fault)
@@ -59,22 +61,34 @@ module _ (names standing : List (List ℕ)) where
   asks_or_fails (Back e) = inl (commands.Back e, refl)
   asks_or_fails (Go e) = inl (commands.Go e, refl)
   asks_or_fails (Rev e) = inl (commands.Rev e, refl)
-  asks_or_fails (BreakState label name) = by (position (bytes_eq name) names) refl (cases_Bool (stands label standing))
+  asks_or_fails (BreakState label name) = by (position (bytes_eq name) (state_names names)) refl
+      (cases_Bool (stands label standing))
     where
-      by : (o : Option ℕ) → position (bytes_eq name) names ≡ o → (stands label standing ≡ true)
+      by : (o : Option ℕ) → position (bytes_eq name) (state_names names) ≡ o → (stands label standing ≡ true)
           ⊎ (stands label standing ≡ false) → ((x : Command) × Asks names standing (BreakState label name) x)
           ⊎ ((fault : ScriptFault) × IsFaultyLine names standing (BreakState label name) fault)
-      by None e stand = inr (no_state, not_among names name (missing name names e))
-      by (Some n) e (inr new) = inl (commands.BreakState label n, (n, (found name names n e).1, new, refl))
+      by None e stand = inr (no_state, not_among (state_names names) name (missing name (state_names names) e))
+      by (Some n) e (inr new) = inl (
+        commands.BreakState label n,
+        (n, (found name (state_names names) n e).1, new, refl),
+      )
       by (Some n) e (inl stand) =
-          let at = (found name names n e).1 in
-          let inside = slice_get_within names n name at in
-          inr (same_break, ((n, inside, same_name _ _ (sym (slice_get-get_or names n name inside) ∙ at)), stand))
+          let at = (found name (state_names names) n e).1 in
+          let inside = slice_get_within (state_names names) n name at in
+          inr (
+            same_break,
+            (
+              (n, inside, same_name _ _ (sym (slice_get-get_or (state_names names) n name inside) ∙ at)),
+              stand,
+            ),
+          )
         where
           same_name : (a b : List ℕ) → Some a ≡ Some b → a ≡ b
           same_name a b e = cc
   asks_or_fails (BreakElement label e) = elim (cases_Bool (stands label standing))
       [ inl stand ↦ inr (same_break, stand) | inr new ↦ inl (commands.BreakElement label e, (new, refl)) ]
+  asks_or_fails (BreakLine label e l) = elim (cases_Bool (stands label standing))
+      [ inl stand ↦ inr (same_break, stand) | inr new ↦ inl (commands.BreakLine label e l, (new, refl)) ]
   asks_or_fails (Drop label) = elim (cases_Bool (stands label standing))
       [ inl stand ↦ inl (commands.Drop label, (stand, refl)) | inr new ↦ inr (no_break, new) ]
   asks_or_fails View = inl (commands.View, refl)
@@ -86,12 +100,13 @@ module _ (names standing : List (List ℕ)) where
         → Next left
     fails : (fault : ScriptFault) → BeginsWithFaultyLine names standing left fault → Next left
 
-  next_line : (left line rest : List ℕ) (o : Option ScriptSentence) → sentence_in line ≡ o → IsInLine line
+  next_line : (left line rest : List ℕ) (o : Option ScriptSentence) → sentence_in (is_some names) line ≡ o
+      → IsInLine line
       → left ≡ line ++ 10 ∷ rest → Next left
   next_line left line rest None e in_line begins = fails malformed
-      (line_fault_begins names standing left line rest malformed in_line begins (unsaid line e))
+      (line_fault_begins names standing left line rest malformed in_line begins (unsaid (is_some names) line e))
   next_line left line rest (Some s) e in_line begins =
-      let said : IsSaid line s = sentence_in-takes line s e in
+      let said : IsSaid (is_some names) line s = sentence_in-takes (is_some names) line s e in
       elim (asks_or_fails s) [
         | inl a ↦ asks a.0 rest (record {
           says = s;
@@ -111,9 +126,9 @@ module _ (names standing : List (List ℕ)) where
         where
           some : (bytes : List ℕ) → left ≡ bytes → IsInLine left → Next left
           some [] e all = ended e
-          some (x ∷ xs) e all = fails malformed (cut_is_malformed left all
+          some (x ∷ xs) e all = fails malformed (cut_is_malformed names left all
               (λ none. let h : x ∷ xs ≡ [] = sym e ∙ none in cc))
-      by (inr (line, rest, all, is)) = next_line left line rest (sentence_in line) refl all is
+      by (inr (line, rest, all, is)) = next_line left line rest (sentence_in (is_some names) line) refl all is
 
 -- bytes are a script, or have a first fault
 pub read_or_fault : ScriptsReadOrFault

@@ -1,16 +1,16 @@
 -- Where watched ways end.
-use Rattle.std.specs.Prelude.{◌≡◌, ℕ, ◌+◌, ◌-◌, ◌<◌, ◌≤◌, Bool, List, true, false, refl, ◌⊎◌}
+use Rattle.std.specs.Prelude.{◌≡◌, ℕ, ◌+◌, ◌-◌, ◌<◌, ◌≤◌, ◌==◌, Bool, List, Option, true, false, refl, ◌⊎◌}
+use Rattle.std.specs.Bool.{OnTrue, OnFalse}
 use Rattle.std.proofs.Common.{zero, suc, arith, sym, ap, subst, ◌∙◌, inl, inr}
 use Rattle.std.proofs.lemmas.Bool.{cases_Bool}
-use Rattle.bn_circuits.specs.Circuits.{Circuit, IsCircuit, IsConfig, Goes, IsStuck, IsFirst}
+use Rattle.bn_circuits.specs.Circuits.{Circuit, IsCircuit, IsConfig}
 use Rattle.bn_circuits.specs.Stepping.{run, back, advance, retreat}
 use Rattle.bn_circuits.proofs.RunLemmas.{run-zero, back-zero, run_composes, back_composes, next-stuck, previous-first}
 use Rattle.bn_circuits.proofs.StepLemmas.{Goes-next, Goes-previous}
 use Rattle.bn_circuits.specs.declared.config.Config.{Config}
 use Rattle.bn_circuits.specs.RotaryNets.{rotary_circuit}
-use Rattle.bn_boards.specs.Layouts.{moment_at}
 use Rattle.bn_board.specs.Flattened.{Flattened, IsBoardKept, IsSameBoard}
-use Rattle.bn_packed.specs.Running.{GoesTo, IsAtEnd, run_along}
+use Rattle.bn_packed.specs.Running.{GoesTo, IsAtEnd, LeadsTo, run_along}
 use Rattle.bn_packed.specs.declared.direction.Direction.{Direction}
 use Rattle.bn_packed.specs.declared.direction.Direction.TheVariants.{Forward, Backward}
 use Rattle.bn_session.specs.Breakpoints.{Breakpoint}
@@ -105,6 +105,11 @@ back-once : (k : Circuit) (c : Config) → back k c 1 ≡ retreat k c
 unfolding back
 back-once k c = refl
 
+-- a step in a direction is a run of one step
+pub once_run : (way : Direction) (k : Circuit) (c : Config) → run_along way k c 1 ≡ once_along way k c
+once_run Forward k c = run-once k c
+once_run Backward k c = back-once k c
+
 run-shifts : (k : Circuit) (c : Config) (j : ℕ) → run k c (suc j) ≡ run k (advance k c) j
 run-shifts k c j = run_composes k c 1 j (suc j) (omega arith) ∙ ap (λ x. run k x j) (run-once k c)
 
@@ -120,33 +125,45 @@ walk-stops Forward k test e c d is = subst (IsStop test (run k c) e) (sym is)
 walk-stops Backward k test e c d is = subst (IsStop test (back k c) e) (sym is)
     (walked test (retreat k) (back k) (back-zero k) (back-shifts k) e c)
 
--- ---- on a board that is the same as at the start, but for its configuration
+-- ---- on a circuit that is the same as at the start, but for its configuration
 
-module _ (a b : Flattened) (same : IsSameBoard a b) where
-  pub tested_on : (breaks : List Breakpoint) (c : Config) (x : Bool) → x ≡ stops (moment_at b.layout) breaks c
-      → stops (moment_at a.layout) breaks c ≡ x
-  tested_on breaks c x is = ap (λ l. stops (moment_at l) breaks c) (sym same.layout) ∙ sym is
+pub tested_on : (moment later : Config → Option ℕ) → later ≡ moment → (breaks : List Breakpoint) (c : Config) (x : Bool)
+    → x ≡ stops later breaks c → stops moment breaks c ≡ x
+tested_on moment later same breaks c x is = ap (λ m. stops m breaks c) (sym same) ∙ sym is
 
-  module _ (kept : IsBoardKept b) where
-    pub circuit_of : IsCircuit (rotary_circuit a.net)
-    circuit_of = subst (λ n. IsCircuit (rotary_circuit n)) same.net kept.circuit
+-- ---- a step in a direction
 
-    pub config_of : IsConfig (rotary_circuit a.net) b.config
-    config_of = subst (λ n. IsConfig (rotary_circuit n) b.config) same.net kept.reached.good
+-- where a run of one step makes none, nothing has changed
+pub none_made : (way : Direction) (k : Circuit) (n : ℕ) (c d : Config) → LeadsTo way k n c d → n ≤ 1
+    → (n == 1) ≡ false → d ≡ c
+none_made Forward k zero c d path few none = sym path
+none_made Backward k zero c d path few none = path
+none_made way k (suc zero) c d path few none = absurd (cc)
+none_made way k (suc (suc n)) c d path few none = absurd (omega arith)
 
-  module _ (circuit : IsCircuit (rotary_circuit a.net)) where
-    -- a step in this direction
-    pub goes_once : (way : Direction) (c d : Config) → GoesTo way (rotary_circuit b.net) c d
-        → once_along way (rotary_circuit a.net) c ≡ d
-    goes_once Forward c d goes = rw (Goes-next (rotary_circuit a.net) c d
-        (subst (λ n. Goes (rotary_circuit n) c d) same.net goes)) refl
-    goes_once Backward c d goes = rw (Goes-previous (rotary_circuit a.net) circuit d c
-        (subst (λ n. Goes (rotary_circuit n) d c) same.net goes)) refl
+module _ (k : Circuit) (circuit : IsCircuit k) where
+  pub goes_once : (way : Direction) (c d : Config) → GoesTo way k c d → d ≡ once_along way k c
+  goes_once Forward c d goes = rw (Goes-next k c d goes) refl
+  goes_once Backward c d goes = rw (Goes-previous k circuit d c goes) refl
 
-    -- where there is none
-    pub stays_once : (way : Direction) (c : Config) → IsConfig (rotary_circuit a.net) c
-        → IsAtEnd way (rotary_circuit b.net) c → once_along way (rotary_circuit a.net) c ≡ c
-    stays_once Forward c good stuck = rw (next-stuck (rotary_circuit a.net) c
-        (subst (λ n. IsStuck (rotary_circuit n) c) same.net stuck)) refl
-    stays_once Backward c good first = rw (previous-first (rotary_circuit a.net) circuit c good
-        (subst (λ n. IsFirst (rotary_circuit n) c) same.net first)) refl
+  -- where there is none
+  pub stays_once : (way : Direction) (c : Config) → IsConfig k c → IsAtEnd way k c → c ≡ once_along way k c
+  stays_once Forward c good stuck = rw (next-stuck k c stuck) refl
+  stays_once Backward c good first = rw (previous-first k circuit c good first) refl
+
+-- a step of a board, or none
+pub board_stepped : (a b : Flattened) (way : Direction) (made : Bool)
+    → OnTrue made (GoesTo way (rotary_circuit a.net) a.config b.config) → OnFalse made (b ≡ a)
+    → OnFalse made (IsAtEnd way (rotary_circuit a.net) a.config) → IsSameBoard a b → IsBoardKept b
+    → b.config ≡ once_along way (rotary_circuit a.net) a.config
+board_stepped a b way true goes kept ended same board =
+    goes_once (rotary_circuit a.net) (subst (λ n. IsCircuit (rotary_circuit n)) same.net board.circuit) way a.config
+    b.config goes
+board_stepped a b way false goes kept ended same board =
+    ap (λ (x : Flattened). x.config) kept
+    ∙ stays_once (rotary_circuit a.net) (subst (λ n. IsCircuit (rotary_circuit n)) same.net board.circuit) way a.config
+    (subst (λ (x : Flattened). IsConfig (rotary_circuit x.net) x.config) kept board.reached.good) ended
+
+pub board_kept : (a b : Flattened) (made : Bool) → OnFalse made (b ≡ a) → OnFalse made (b.config ≡ a.config)
+board_kept a b true kept = tt
+board_kept a b false kept = ap (λ (x : Flattened). x.config) kept

@@ -1,10 +1,11 @@
 -- Breakpoints, and where they hold.
-use Rattle.std.specs.Prelude.{bytes_eq, ℕ, ◌==◌, Bool, false, List, [], ◌∷◌, Option, Some, None, map, if◌then◌else◌}
+use Rattle.std.specs.Prelude.{bytes_eq, ℕ, ◌==◌, ◌&&◌, Bool, false, List, [], ◌∷◌, Option, Some, None, map}
+use Rattle.std.specs.Prelude.{if◌then◌else◌}
 use Rattle.std.specs.List.{list_any}
 use Rattle.bn_circuits.specs.declared.place.Place.{Place}
 use Rattle.bn_circuits.specs.declared.place.Place.TheVariants.{Enter, Left}
 use Rattle.bn_session.specs.declared.condition.Condition.{Condition}
-use Rattle.bn_session.specs.declared.condition.Condition.TheVariants.{AtState, AtElement}
+use Rattle.bn_session.specs.declared.condition.Condition.TheVariants.{AtState, AtElement, AtLine}
 
 -- a label, and when the breakpoint holds
 pub record Breakpoint : Type 0 where
@@ -24,10 +25,16 @@ abbrev pub enters : ℕ → Place → Bool
 enters e (Enter f line) = f == e
 enters e (Left f line) = false
 
+-- the signal is about to enter this port of this element
+abbrev pub enters_line : ℕ → ℕ → Place → Bool
+enters_line e l (Enter f line) = f == e && line == l
+enters_line e l (Left f line) = false
+
 -- whether a breakpoint holds at this place of the signal, where this is a moment of this state, or no moment
 abbrev pub holds : Place → Option ℕ → Condition → Bool
 holds place moment (AtState state) = is_state_number state moment
 holds place moment (AtElement e) = enters e place
+holds place moment (AtLine e l) = enters_line e l place
 
 -- the label of the first of the breakpoints that holds, in the order in which they were set
 abbrev pub first_label : Place → Option ℕ → List Breakpoint → Option (List ℕ)

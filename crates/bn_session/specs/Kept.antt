@@ -9,7 +9,7 @@ use Rattle.bn_circuits.specs.declared.place.Place.{Place}
 use Rattle.bn_circuits.specs.declared.place.Place.TheVariants.{Enter, Left}
 use Rattle.bn_session.specs.Breakpoints.{Breakpoint, breakpoint}
 use Rattle.bn_session.specs.declared.condition.Condition.{Condition}
-use Rattle.bn_session.specs.declared.condition.Condition.TheVariants.{AtState, AtElement}
+use Rattle.bn_session.specs.declared.condition.Condition.TheVariants.{AtState, AtElement, AtLine}
 
 -- an owned label, with its key
 abbrev pub Entry : Type 0
@@ -45,11 +45,17 @@ mark_at marks (Left e line) = false
 abbrev pub IsMarked : List Bool → Condition → Type 0
 IsMarked marks (AtState state) = Unit {0}
 IsMarked marks (AtElement e) = slice_index_or marks e true ≡ true
+IsMarked marks (AtLine e l) = slice_index_or marks e true ≡ true
 
--- the marks with one added
+-- the marks with one at this element, if there is such an element
+abbrev pub marked_at : List Bool → ℕ → List Bool
+marked_at marks e = if nat_lt e (length marks) then slice_set marks e true else marks
+
+-- the marks with one added for a condition
 abbrev pub with_mark : List Bool → Condition → List Bool
 with_mark marks (AtState state) = marks
-with_mark marks (AtElement e) = if nat_lt e (length marks) then slice_set marks e true else marks
+with_mark marks (AtElement e) = marked_at marks e
+with_mark marks (AtLine e l) = marked_at marks e
 
 -- each key has a value, no two labels have the same key, and elements have their marks
 abbrev pub AreKept : Slab Condition → List Entry → List Bool → Type 0

@@ -2,7 +2,7 @@
 use Rattle.std.specs.Prelude.{bytes_eq, ◌≡◌, ℕ, Bool, true, false, List, [], ◌∷◌, ◌++◌, fold, if◌then◌else◌}
 use Rattle.std.specs.List.{list_any}
 use Rattle.bn_session.specs.declared.command.Command.{Command}
-use Rattle.bn_session.specs.declared.command.Command.TheVariants.{BreakState, BreakElement, Drop}
+use Rattle.bn_session.specs.declared.command.Command.TheVariants.{BreakState, BreakElement, BreakLine, Drop}
 
 -- whether a breakpoint with this label stands
 abbrev pub stands : List ℕ → List (List ℕ) → Bool
@@ -17,6 +17,7 @@ without label (x ∷ xs) = if bytes_eq label x then xs else x ∷ without label 
 abbrev pub standing_after : List (List ℕ) → Command → List (List ℕ)
 standing_after standing (BreakState label state) = standing ++ label ∷ []
 standing_after standing (BreakElement label element) = standing ++ label ∷ []
+standing_after standing (BreakLine label e l) = standing ++ label ∷ []
 standing_after standing (Drop label) = without label standing
 standing_after standing _ = standing
 
@@ -28,6 +29,7 @@ standing_by commands = fold standing_after [] commands
 abbrev pub IsOrderly : List (List ℕ) → Command → Type 0
 IsOrderly standing (BreakState label state) = stands label standing ≡ false
 IsOrderly standing (BreakElement label element) = stands label standing ≡ false
+IsOrderly standing (BreakLine label e l) = stands label standing ≡ false
 IsOrderly standing (Drop label) = stands label standing ≡ true
 IsOrderly standing _ = Unit {0}
 

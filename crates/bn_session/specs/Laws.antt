@@ -5,34 +5,38 @@ use Rattle.bn_circuits.specs.Circuits.{Circuit, Goes, IsCircuit}
 use Rattle.bn_circuits.specs.Stepping.{run}
 use Rattle.bn_circuits.specs.declared.config.Config.{Config}
 use Rattle.bn_quad.specs.Names.{AreApart}
-use Rattle.bn_session.specs.Scripts.{IsScript, IsFirstScriptFault, ScriptFault}
+use Rattle.bn_session.specs.Scripts.{Names, state_names, IsScript, IsFirstScriptFault, ScriptFault}
 use Rattle.bn_session.specs.Plays.{Session, stops, given, PlaysOne, Plays}
 use Rattle.bn_session.specs.declared.command.Command.{Command}
 use Rattle.bn_session.specs.declared.command.Command.TheVariants.{Go}
 
+-- no two states have one name
+abbrev pub AreNamesApart : Names → Type 0
+AreNamesApart names = AreApart (state_names names)
+
 -- bytes are a script of at most one list of commands
 abbrev pub ScriptsAreOne : Type 0
 ScriptsAreOne =
-    (names : List (List ℕ)) (bytes : List ℕ) (xs ys : List Command) → AreApart names → IsScript names bytes xs
+    (names : Names) (bytes : List ℕ) (xs ys : List Command) → AreNamesApart names → IsScript names bytes xs
     → IsScript names bytes ys → xs ≡ ys
 
 -- bytes with a first error are no script
 abbrev pub FaultyScriptsAreNone : Type 0
 FaultyScriptsAreNone =
-    (names : List (List ℕ)) (bytes : List ℕ) (line : ℕ) (fault : ScriptFault) (xs : List Command) → AreApart names
+    (names : Names) (bytes : List ℕ) (line : ℕ) (fault : ScriptFault) (xs : List Command) → AreNamesApart names
     → IsFirstScriptFault names bytes line fault → IsScript names bytes xs → ⊥
 
 -- there is at most one first error
 abbrev pub FirstFaultsAreOne : Type 0
 FirstFaultsAreOne =
-    (names : List (List ℕ)) (bytes : List ℕ) (line number : ℕ) (fault other : ScriptFault) → AreApart names
+    (names : Names) (bytes : List ℕ) (line number : ℕ) (fault other : ScriptFault) → AreNamesApart names
     → IsFirstScriptFault names bytes line fault → IsFirstScriptFault names bytes number other
     → (line ≡ number) × (fault ≡ other)
 
 -- bytes are a script, or have a first error
 abbrev pub ScriptsReadOrFault : Type 0
 ScriptsReadOrFault =
-    (names : List (List ℕ)) (bytes : List ℕ)
+    (names : Names) (bytes : List ℕ)
     → ((xs : List Command) × IsScript names bytes xs)
     ⊎ ((line : ℕ) × (fault : ScriptFault) × IsFirstScriptFault names bytes line fault)
 

@@ -8,4 +8,5 @@ pub mod Kept
 pub mod Plays
 pub mod Walks
 pub mod Boards
+pub mod Same
 pub mod Laws

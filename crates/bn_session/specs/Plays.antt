@@ -8,9 +8,9 @@ use Rattle.bn_circuits.specs.declared.config.Config.{Config}
 use Rattle.bn_netlist_laws.specs.Sentences.{place_text}
 use Rattle.bn_session.specs.Breakpoints.{Breakpoint, breakpoint, first_label, some_holds, without_break}
 use Rattle.bn_session.specs.declared.command.Command.{Command}
-use Rattle.bn_session.specs.declared.command.Command.TheVariants.{Step, Back, Go, Rev, BreakState, BreakElement, Drop}
-use Rattle.bn_session.specs.declared.command.Command.TheVariants.{View}
-use Rattle.bn_session.specs.declared.condition.Condition.TheVariants.{AtState, AtElement}
+use Rattle.bn_session.specs.declared.command.Command.TheVariants.{Step, Back, Go, Rev, BreakState, BreakElement}
+use Rattle.bn_session.specs.declared.command.Command.TheVariants.{BreakLine, Drop, View}
+use Rattle.bn_session.specs.declared.condition.Condition.TheVariants.{AtState, AtElement, AtLine}
 
 -- a session between two commands: a configuration, and the breakpoints in the order in which they were set
 pub record Session : Type 0 where
@@ -75,6 +75,9 @@ PlaysOne k moment shows (BreakState label state) s t text =
     × (text ≡ label_line (codes "break ") label)
 PlaysOne k moment shows (BreakElement label e) s t text =
     (t ≡ session s.config (s.breaks ++ breakpoint label (AtElement e) ∷ []))
+    × (text ≡ label_line (codes "break ") label)
+PlaysOne k moment shows (BreakLine label e l) s t text =
+    (t ≡ session s.config (s.breaks ++ breakpoint label (AtLine e l) ∷ []))
     × (text ≡ label_line (codes "break ") label)
 PlaysOne k moment shows (Drop label) s t text =
     (t ≡ session s.config (without_break label s.breaks)) × (text ≡ label_line (codes "drop ") label)

@@ -4,7 +4,7 @@ ghost use Rattle.std.specs.Prelude.{◌≡◌, ◌++◌, ◌∷◌, [], None, So
 ghost use Rattle.std.specs.Option.{option_map};
 ghost use Rattle.bn_session.specs.Labels.{stands};
 ghost use Rattle.bn_session.specs.Breakpoints.{breakpoint, holds, first_label, some_holds, labels_of, without_break};
-ghost use Rattle.bn_session.specs.Kept.{kept_breaks, HaveValues, mark_at, with_mark};
+ghost use Rattle.bn_session.specs.Kept.{kept_breaks, HaveValues, mark_at, marked_at, with_mark};
 
 use crate::condition::Condition;
 use bn_circuits::Place;
@@ -144,11 +144,20 @@ fn is_marked(marks: &[bool], place: Place) -> bool
 fn mark(marks: &mut [bool], condition: Condition)
     ensures { marks.new ≡ with_mark marks.old condition }
 {
-    if let Condition::AtElement(element) = condition {
-        let element = element as usize;
-        if element < marks.len() {
-            marks[element] = true;
-        }
+    match condition {
+        Condition::AtState(_) => {}
+        Condition::AtElement(element) => mark_element(marks, element),
+        Condition::AtLine { element, .. } => mark_element(marks, element),
+    }
+}
+
+// Marks an element, if the circuit has it.
+fn mark_element(marks: &mut [bool], element: u64)
+    ensures { marks.new ≡ marked_at marks.old element }
+{
+    let element = element as usize;
+    if element < marks.len() {
+        marks[element] = true;
     }
 }
 
@@ -163,6 +172,13 @@ fn holds(place: Place, moment: Option<u32>, condition: Condition) -> bool
                 element: entered,
                 ..
             } => u64::from(entered) == element,
+            Place::Left { .. } => false,
+        },
+        Condition::AtLine { element, line } => match place {
+            Place::Enter {
+                element: entered,
+                line: port,
+            } => u64::from(entered) == element && port == line,
             Place::Left { .. } => false,
         },
     }

@@ -28,8 +28,17 @@ pub enum Command {
         /// The element's number: at most 2^62. The circuit may have no such element.
         element: u64,
     },
+    /// Sets a breakpoint that holds where the signal is about to enter a port of an element, both counted from 0.
+    BreakLine {
+        /// The breakpoint's label.
+        label: Label,
+        /// The element's number: at most 2^62. The circuit may have no such element.
+        element: u64,
+        /// The port: `NORTH`, `EAST`, `SOUTH` or `WEST`.
+        line: u32,
+    },
     /// Removes the breakpoint with this label.
     Drop(Label),
-    /// Shows the layers of the circuit.
+    /// Shows the circuit.
     View,
 }

@@ -7,4 +7,11 @@ pub(crate) enum Condition {
     AtState(u32),
     /// Where the signal enters an element, counted from 0.
     AtElement(u64),
+    /// Where the signal is about to enter this port of an element, both counted from 0.
+    AtLine {
+        /// The element.
+        element: u64,
+        /// The port.
+        line: u32,
+    },
 }

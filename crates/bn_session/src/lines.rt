@@ -5,8 +5,8 @@ ghost use Rattle.std.specs.Option.{option_copied};
 ghost use Rattle.bn_netlist_laws.specs.Sentences.{line_of_place, line_text, place_text};
 ghost use Rattle.bn_session.specs.Plays.{named_text, place_line, label_line};
 
+use crate::playable::Playable;
 use bn_base::push_u64;
-use bn_board::Board;
 use bn_circuits::Place;
 use bn_element::{EAST, NORTH, SOUTH};
 use bn_lists::NoMemory;
@@ -14,17 +14,17 @@ use std::alloc::Global;
 
 // Appends the line with the place of the signal, and the label that is reported there. After `NoMemory` nothing was
 // appended.
-pub(crate) fn write_place(
+pub(crate) fn write_place<W, C: Playable<W>>(
     alloc: Global,
-    board: &Board,
+    circuit: &C,
     named: Option<&[u8]>,
     out: &mut Vec<u8>,
 ) -> Result<(), NoMemory>
     ensures ok { OnOk result (out.new.items ≡ out.old.items
-        ++ place_line board.now.config (option_copied named.entry)) }
+        ++ place_line (C.config circuit.now) (option_copied named.entry)) }
     ensures err { OnErr result (out.new.items ≡ out.old.items) }
 {
-    let line = place_line(alloc, board, named)?;
+    let line = place_line::<W, C>(alloc, circuit, named)?;
     push(out, &line)
 }
 
@@ -43,13 +43,17 @@ pub(crate) fn write_label(
 }
 
 // The line with the place of the signal.
-fn place_line(alloc: Global, board: &Board, named: Option<&[u8]>) -> Result<Vec<u8>, NoMemory>
-    ensures { IfOk result (λ line. line.items ≡ place_line board.now.config (option_copied named.entry)) }
+fn place_line<W, C: Playable<W>>(
+    alloc: Global,
+    circuit: &C,
+    named: Option<&[u8]>,
+) -> Result<Vec<u8>, NoMemory>
+    ensures { IfOk result (λ line. line.items ≡ place_line (C.config circuit.now) (option_copied named.entry)) }
 {
     let mut line = Vec::new(alloc);
-    push_place(&mut line, board.place())?;
+    push_place(&mut line, circuit.place())?;
     push(&mut line, b" steps ")?;
-    push_u64(&mut line, board.steps())?;
+    push_u64(&mut line, circuit.steps())?;
     push_named(&mut line, named)?;
     Ok(line)
 }
@@ -65,7 +69,17 @@ fn label_line(alloc: Global, word: &[u8], label: &[u8]) -> Result<Vec<u8>, NoMem
     Ok(line)
 }
 
-// Appends the place of the signal.
+/// The text of a place: the port that the signal is about to enter, or the port by which it has left.
+pub fn place_text(alloc: Global, place: Place) -> Result<Vec<u8>, NoMemory>
+    requires { (line_of_place place).line < 4 }
+    ensures { IfOk result (λ text. text.items ≡ place_text place) }
+{
+    let mut text = Vec::new(alloc);
+    push_place(&mut text, place)?;
+    Ok(text)
+}
+
+// Appends the text of a place.
 fn push_place(text: &mut Vec<u8>, place: Place) -> Result<(), NoMemory>
     requires { (line_of_place place).line < 4 }
     ensures { OnOk result (text.new.items ≡ text.old.items ++ place_text place) }

@@ -2,7 +2,7 @@ use Rattle.bn_network_assembly.specs.Assembled.{limits_of}
 use Rattle.bn_network.specs.Starts.{words_on}
 use Rattle.bn_qtable.specs.TapeWords.{tape_words_of}
 use Rattle.bn_reply_builds.specs.BuildReply.{BuiltReplies}
-use Rattle.bn_reply_views.proofs.ScriptLemmas.{cut_replies}
+use Rattle.bn_reply_scripts.proofs.ScriptLemmas.{cut_replies}
 use Rattle.bn_reply_looks.specs.PlayReply.{TellsPlay}
 use Rattle.bn_reply_looks.proofs.play.reply_play.Goals as goal
 

@@ -1,7 +1,7 @@
 use Rattle.bn_network_assembly.specs.Assembled.{limits_of}
 use Rattle.bn_reply_relations.specs.Windows.{WindowReplies}
 use Rattle.bn_reply_views.specs.SessionReply.{TellsSession}
-use Rattle.bn_reply_views.proofs.ScriptLemmas.{cut_replies}
+use Rattle.bn_reply_scripts.proofs.ScriptLemmas.{cut_replies}
 use Rattle.bn_reply_views.proofs.session.reply_session.Goals as goal
 
 pub returns-in-Some : goal.returns-in-Some

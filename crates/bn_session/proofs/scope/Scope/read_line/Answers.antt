@@ -19,7 +19,7 @@ returns-in_err-command-in-Whole-clause-refused c =
 pub returns-in-Cut-clause-refused : goal.returns-in-Cut-clause-refused
 returns-in-Cut-clause-refused c = (
   refl,
-  cut_line c.args.lines.now c.next_line.follows.lender-at-none c.next_line.result
+  cut_line c.args.self.now.states c.args.lines.now c.next_line.follows.lender-at-none c.next_line.result
       c.in-Cut.field-0 c.in-Cut.is c.next_line.follows.holds-at-none,
 )
 

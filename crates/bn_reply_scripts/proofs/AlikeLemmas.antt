@@ -8,8 +8,8 @@ use Rattle.bn_circuits.specs.declared.config.Config.{Config}
 use Rattle.bn_circuits.proofs.AlikeLemmas.{run-alike, back-alike}
 use Rattle.bn_session.specs.Plays.{Session, session, IsStop, at_hit, at_last, stops, PlaysOne, Plays}
 use Rattle.bn_session.specs.declared.command.Command.{Command}
-use Rattle.bn_session.specs.declared.command.Command.TheVariants.{Step, Back, Go, Rev, BreakState, BreakElement, Drop}
-use Rattle.bn_session.specs.declared.command.Command.TheVariants.{View}
+use Rattle.bn_session.specs.declared.command.Command.TheVariants.{Step, Back, Go, Rev, BreakState, BreakElement}
+use Rattle.bn_session.specs.declared.command.Command.TheVariants.{BreakLine, Drop, View}
 
 -- two ways that are alike stop alike
 stop_as : (test : Config → Bool) (far near : ℕ → Config) (e : ℕ) (d : Config) → ((j : ℕ) → far j ≡ near j)
@@ -39,6 +39,7 @@ module _ (k l : Circuit) (alike : AreAlike k l) (moment : Config → Option ℕ)
   )
   one_alike (BreakState label a) s t text p = p
   one_alike (BreakElement label e) s t text p = p
+  one_alike (BreakLine label e l) s t text p = p
   one_alike (Drop label) s t text p = p
   one_alike View s t text p = p
 

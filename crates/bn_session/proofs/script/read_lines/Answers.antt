@@ -4,7 +4,7 @@ use Rattle.std.proofs.Common.{subst, ◌∙◌}
 use Rattle.bn_session.specs.Progress.{Advances}
 use Rattle.bn_session.proofs.ScriptLemmas.{one_more_read}
 use Rattle.bn_session.proofs.PlayLemmas.{asked_orderly}
-use Rattle.bn_session.proofs.script.read_script.Goals as goal
+use Rattle.bn_session.proofs.script.read_lines.Goals as goal
 
 pub loop-commands-preserved : goal.loop-commands-preserved
 loop-commands-preserved c =
@@ -15,7 +15,7 @@ loop-commands-preserved c =
     c.read_line.new.self.standing) before.invariant.states line in
     let items : c.push.new.self.items ≡ before.commands.items ++ c.in-Some.command ∷ [] =
     rw c.if-is_err.ensures.negation at c.push.ensures.items in
-    let more = one_more_read c.args.names.now.states before.scope.standing c.args.bytes.now before.lines
+    let more = one_more_read c.args.states before.scope.standing c.args.bytes.now before.lines
     c.read_line.new.lines before.commands.items c.in-Some.command c.read_line.new.self.standing
     before.invariant.read before.invariant.standing next in
     rw items (record {
@@ -25,5 +25,5 @@ loop-commands-preserved c =
     })
 
 pub invariant_of-result : goal.invariant_of-result
-invariant_of-result c = asked_orderly c.args.names.now.states [] c.loop-commands.invariant.read.sentences
+invariant_of-result c = asked_orderly c.args.states [] c.loop-commands.invariant.read.sentences
     c.loop-commands.commands.items c.loop-commands.invariant.read.asked

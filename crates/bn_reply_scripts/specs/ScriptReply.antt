@@ -6,7 +6,7 @@ use Rattle.bn_circuits.specs.declared.place.Place.{Place}
 use Rattle.bn_reply.specs.Lines.{line}
 use Rattle.bn_reply.specs.declared.status.Status.{Status}
 use Rattle.bn_reply.specs.declared.status.Status.TheVariants as statuses
-use Rattle.bn_session.specs.Scripts.{ScriptFault, IsFirstScriptFault, IsScript, malformed, no_break, no_state}
+use Rattle.bn_session.specs.Scripts.{Names, ScriptFault, IsFirstScriptFault, IsScript, malformed, no_break, no_state}
 use Rattle.bn_session.specs.Scripts.{same_break}
 use Rattle.bn_session.specs.declared.command.Command.{Command}
 
@@ -25,9 +25,10 @@ script_fault_line number fault = line (codes "text: script line " ∷ decimal nu
 abbrev pub uncut_line : List ℕ
 uncut_line = line (codes "text: no script" ∷ [])
 
--- The answer to a script with states of these names, where `plays commands text` states that the text is the answer to
--- these commands: the script's first error, or that answer. A watch receives nothing.
-pub data ScriptReplies (names : List (List ℕ)) (plays : List Command → List ℕ → Type 0) (script : List ℕ)
+-- The answer to a script for a machine's circuit with states of these names, or for another circuit, where `plays
+-- commands text` states that the text is the answer to these commands: the script's first error, or that answer. A
+-- watch receives nothing.
+pub data ScriptReplies (names : Names) (plays : List Command → List ℕ → Type 0) (script : List ℕ)
     (status : Status) (text : List ℕ) (told : List Place) : Type 0 where
   faulty : (number : ℕ) (fault : ScriptFault) → IsFirstScriptFault names script number fault
       → text ≡ script_fault_line number fault → status ≡ statuses.Text → told ≡ []

@@ -6,29 +6,29 @@ use Rattle.bn_base.specs.Cuts.{IsCut}
 use Rattle.bn_base.proofs.CutLemmas.{cuts-never_both, cuts-one}
 use Rattle.bn_base.proofs.CutOrNot.{cut_or_not}
 use Rattle.bn_circuits.specs.declared.place.Place.{Place}
-use Rattle.bn_quad.specs.Names.{AreApart}
 use Rattle.bn_reply.specs.Answering.{HasAnswer, IsOneAnswer, IsSettled}
 use Rattle.bn_reply.specs.Codes.{IsReplyStatus}
 use Rattle.bn_reply.specs.declared.reply.Reply.{Reply}
 use Rattle.bn_reply.specs.declared.status.Status.{Status}
 use Rattle.bn_reply.specs.declared.status.Status.TheVariants as statuses
 use Rattle.bn_reply.proofs.SettledLemmas.{agree}
-use Rattle.bn_session.specs.Scripts.{ScriptFault, IsFirstScriptFault, IsRefusalOf, IsScript, malformed, no_break}
+use Rattle.bn_session.specs.Laws.{AreNamesApart}
+use Rattle.bn_session.specs.Scripts.{Names, ScriptFault, IsFirstScriptFault, IsRefusalOf, IsScript, malformed, no_break}
 use Rattle.bn_session.specs.Scripts.{no_state, same_break}
 use Rattle.bn_session.specs.declared.command.Command.{Command}
 use Rattle.bn_session.specs.declared.refusal.ScriptRefusal.{ScriptRefusal}
 use Rattle.bn_session.specs.declared.refusal.ScriptRefusal.TheVariants as refusals
 use Rattle.bn_session.proofs.OneReading.{faults-one, faulty-none, scripts-one}
 use Rattle.bn_session.proofs.SomeReading.{read_or_fault}
-use Rattle.bn_reply_views.specs.ScriptReply.{CutReplies, ScriptReplies, cut, faulty, played, script_fault_line, uncut}
-use Rattle.bn_reply_views.specs.ScriptReply.{uncut_line}
-use Rattle.bn_reply_views.specs.Viewing.{IsScriptRefused}
+use Rattle.bn_reply_scripts.specs.ScriptReply.{CutReplies, ScriptReplies, cut, faulty, played, script_fault_line, uncut}
+use Rattle.bn_reply_scripts.specs.ScriptReply.{uncut_line}
+use Rattle.bn_reply_scripts.specs.Refusing.{IsScriptRefused}
 
 -- ---- a script
 
-module _ (names : List (List ℕ)) (plays : List Command → List ℕ → Type 0) (script : List ℕ) where
+module _ (names : Names) (plays : List Command → List ℕ → Type 0) (script : List ℕ) where
   -- one answer, where commands have one
-  pub script_once : AreApart names → ((xs : List Command) (text other : List ℕ) → plays xs text → plays xs other
+  pub script_once : AreNamesApart names → ((xs : List Command) (text other : List ℕ) → plays xs text → plays xs other
       → text ≡ other)
       → IsOneAnswer (ScriptReplies names plays script)
   script_once apart once s u a b x y (faulty n e h text_is status_is silent)
@@ -92,7 +92,7 @@ module _ (names : List (List ℕ)) (plays : List Command → List ℕ → Type 0
   script_refused = refused
 
 -- what other commands answer is an answer too
-pub script_as : (names others : List (List ℕ)) (plays so : List Command → List ℕ → Type 0) (script : List ℕ)
+pub script_as : (names others : Names) (plays so : List Command → List ℕ → Type 0) (script : List ℕ)
     → names ≡ others
     → ((xs : List Command) (text : List ℕ) → plays xs text → so xs text)
     → (s : Status) (text : List ℕ) (told : List Place)

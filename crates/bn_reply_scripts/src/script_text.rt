@@ -1,8 +1,8 @@
 //! The answers to an input without a script, and to a script with an error.
 
 ghost use Rattle.std.specs.Prelude.{◌≡◌, IfOk};
-ghost use Rattle.bn_reply_views.specs.ScriptReply.{uncut_line};
-ghost use Rattle.bn_reply_views.specs.Viewing.{IsScriptRefused, what_line};
+ghost use Rattle.bn_reply_scripts.specs.ScriptReply.{uncut_line};
+ghost use Rattle.bn_reply_scripts.specs.Refusing.{IsScriptRefused, what_line};
 
 use bn_lists::NoMemory;
 use bn_reply::{Reply, Status};

@@ -1,0 +1,2 @@
+pub mod ScriptReply
+pub mod Refusing
