@@ -1,0 +1,5 @@
+pub mod WalkView
+pub mod Refused
+pub mod WalkReply
+pub mod Walking
+pub mod Laws
