@@ -1,0 +1,5 @@
+pub mod PartLemmas
+pub mod PlaceLemmas
+pub mod MovedLemmas
+pub mod WireLemmas
+pub mod LawLemmas

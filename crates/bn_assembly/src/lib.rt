@@ -1,0 +1,6 @@
+//! Circuits of rotary elements that realise networks of modules, each by a bank or by one rotary element.
+#![tactic(auto)]
+
+mod laws;
+
+pub use laws::assembly_laws;

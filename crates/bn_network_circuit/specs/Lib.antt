@@ -1,0 +1,3 @@
+pub mod Realised
+pub mod Soundness
+pub mod Laws
