@@ -21,7 +21,8 @@ from places import TOP, crates, rooms, run, text_of
 
 ARCHITECTURE = "docs/develop/architecture.md"
 MOST_CHAIN = 15
-MOST_CRATES = 62
+# 53 before `element`, `behaviour`, `crossings`, `equal`, `window`, `room`, `walk` and the texts of networks, and their crates.
+MOST_CRATES = 53 + 17
 WIDTH = 120
 PLACES = [
     "*.md",

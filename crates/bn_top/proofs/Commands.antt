@@ -7,7 +7,7 @@ use Rattle.bn_words.specs.Requests.{HasForm, IsAllowed, Request, of_configuratio
 use Rattle.bn_words.specs.Requests.{Check, Machine, Trace, Moments, ThreeMoments, Reversible, Inverse, Bennett, Realise}
 use Rattle.bn_words.specs.Requests.{Standard, Build, Compile, Drive, Layout, Run, RunAuto, View, Session, Look, Play}
 use Rattle.bn_words.specs.Requests.{Plan, Migrate, Mirror, Farm, Generate, Element, Erase, EraseRun, Window}
-use Rattle.bn_words.specs.Requests.{Behaviour, Crossings, Equal}
+use Rattle.bn_words.specs.Requests.{Behaviour, Crossings, Equal, Room, Walk}
 use Rattle.bn_words.specs.declared.request.ConfigurationRequest as configuration
 use Rattle.bn_words.specs.declared.request.ConfigurationRequest.TheVariants as configuration_variants
 use Rattle.bn_words.specs.declared.request.WholeRequest as whole
@@ -33,6 +33,8 @@ use Rattle.bn_reply_behaviours.specs.CrossingsReply.{crossings_text}
 use Rattle.bn_reply_behaviours.proofs.SettledLemmas.{exploring_settled}
 use Rattle.bn_reply_equal.proofs.SettledLemmas.{equal_settled}
 use Rattle.bn_reply_windows.proofs.WindowLemmas.{window_settled}
+use Rattle.bn_reply_rooms.proofs.RoomLemmas.{room_settled}
+use Rattle.bn_reply_walks.proofs.SettledLemmas.{walk_settled}
 use Rattle.bn_reply_machines.proofs.StandardLemmas.{standard_settled}
 use Rattle.bn_reply_circuits.proofs.PlanReplyLemmas.{plan_settled}
 use Rattle.bn_reply_circuits.proofs.ElementReplyLemmas.{element_settled}
@@ -89,6 +91,8 @@ settled_by (Window word n) allowed = window_settled word n
 settled_by (Behaviour n e names) allowed = λ bytes. exploring_settled behaviour_text n e names bytes allowed.0.0
 settled_by (Crossings n e names) allowed = λ bytes. exploring_settled crossings_text n e names bytes allowed.0.0
 settled_by (Equal q r) allowed = λ bytes. equal_settled q r bytes allowed.0.0 allowed.1.0
+settled_by (Room words n) allowed = room_settled words n
+settled_by Walk allowed = walk_settled
 
 -- what is asked for has one answer and only one
 pub settled : (words : List (List ℕ)) (request : Request) → HasForm words request → (bytes : List ℕ)
@@ -166,3 +170,5 @@ whole_reads whole_variants.Erase = refl
 whole_reads (whole_variants.EraseRun word n) = refl
 whole_reads (whole_variants.Window word n) = refl
 whole_reads (whole_variants.Equal q r) = refl
+whole_reads (whole_variants.Room words n) = refl
+whole_reads whole_variants.Walk = refl

@@ -6,7 +6,7 @@ use Rattle.bn_words.specs.Requests.{Request, HasForm, HasNoForm, reads_input, St
 use Rattle.bn_words.specs.Requests.{Moments, ThreeMoments, Reversible, Inverse, Bennett, Realise, Standard, Build}
 use Rattle.bn_words.specs.Requests.{Compile, Drive, Layout, Run, RunAuto, View, Session, Look, Play, Plan, Migrate}
 use Rattle.bn_words.specs.Requests.{Mirror, Farm, Generate, Element, Erase, EraseRun, Window, Behaviour}
-use Rattle.bn_words.specs.Requests.{Crossings, Equal}
+use Rattle.bn_words.specs.Requests.{Crossings, Equal, Room, Walk}
 use Rattle.bn_reply_relations.specs.CompileReply.{CompileReplies}
 use Rattle.bn_reply.specs.declared.limits.TheConstants.{MOST_INPUT_BYTES}
 use Rattle.bn_reply_relations.specs.RunReply.{RunReplies}
@@ -39,6 +39,8 @@ use Rattle.bn_reply_windows.specs.WindowReply.{WindowReplies}
 use Rattle.bn_reply_behaviours.specs.BehaviourReply.{BehaviourReplies}
 use Rattle.bn_reply_behaviours.specs.CrossingsReply.{CrossingsReplies}
 use Rattle.bn_reply_equal.specs.EqualReply.{EqualReplies}
+use Rattle.bn_reply_rooms.specs.RoomReply.{RoomReplies}
+use Rattle.bn_reply_walks.specs.WalkReply.{WalkReplies}
 use Rattle.bn_reply.specs.Streams.{size_text}
 use Rattle.bn_reply.specs.declared.status.Status.{Status}
 use Rattle.bn_reply.specs.declared.status.Status.TheVariants.{Usage, Size}
@@ -83,6 +85,8 @@ Replies (Window word n) = WindowReplies word n
 Replies (Behaviour n e names) = BehaviourReplies n e names
 Replies (Crossings n e names) = CrossingsReplies n e names
 Replies (Equal q r) = EqualReplies q r
+Replies (Room words n) = RoomReplies words n
+Replies Walk = WalkReplies
 
 -- The answer, by the first case that applies: the arguments have no form; they ask for a command that reads no input;
 -- the input is too long; otherwise the answer to the request and the input.

@@ -30,8 +30,10 @@ use bn_reply_looks::{reply_look, reply_play};
 use bn_reply_machines::{
     reply_bennett, reply_check, reply_inverse, reply_machine, reply_reversible, reply_standard,
 };
+use bn_reply_rooms::reply_room;
 use bn_reply_traces::{answer_moments, answer_three_moments, answer_trace};
 use bn_reply_views::{reply_session, reply_view};
+use bn_reply_walks::reply_walk;
 use bn_reply_windows::reply_window;
 use bn_words::{ConfigurationRequest, Request, WholeRequest, read_words};
 use std::alloc::Global;
@@ -253,5 +255,9 @@ fn answer_bytes<K: Sink, W: Watch>(
         WholeRequest::Equal { state, other } => {
             give_reply(sink, reply_equal(alloc, state, other, bytes))
         }
+        WholeRequest::Room { words, most_steps } => {
+            give_reply(sink, reply_room(alloc, &words, most_steps, bytes))
+        }
+        WholeRequest::Walk => give_reply(sink, reply_walk(alloc, bytes)),
     }
 }

@@ -51,6 +51,8 @@ mod quadruples;
 #[cfg(test)]
 mod reversed;
 #[cfg(test)]
+mod rooms;
+#[cfg(test)]
 mod sessions;
 #[cfg(test)]
 mod standard;
@@ -58,5 +60,7 @@ mod standard;
 mod streams;
 #[cfg(test)]
 mod versions;
+#[cfg(test)]
+mod walks;
 #[cfg(test)]
 mod windows;

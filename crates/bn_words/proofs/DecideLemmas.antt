@@ -16,7 +16,7 @@ use Rattle.bn_words.specs.Laws.{WordsHaveAFormOrNone}
 use Rattle.bn_words.specs.Requests.{HasForm, HasNoForm, IsAllowed, IsOrdinal, Request, words_of}
 use Rattle.bn_words.specs.Requests.{Step, Back, Machine, Trace, Moments, ThreeMoments, Realise, Build, Compile, Drive}
 use Rattle.bn_words.specs.Requests.{Layout, Run, View, Session, Look, Play, Generate, Element, EraseRun, Window}
-use Rattle.bn_words.specs.Requests.{Behaviour, Crossings, Equal, IsFromOneTo}
+use Rattle.bn_words.specs.Requests.{Behaviour, Crossings, Equal, IsFromOneTo, Room}
 use Rattle.bn_network.specs.declared.limits.TheConstants.{MOST_DRIVE_STEPS}
 use Rattle.bn_words.proofs.FormLemmas.{only, only_form}
 
@@ -123,6 +123,7 @@ allowed_or_not (Behaviour n e names) = explored_or_not n e
 allowed_or_not (Crossings n e names) = explored_or_not n e
 allowed_or_not (Equal q r) = both (IsOrdinal q) (IsOrdinal r) (ordinal_or_not q MOST_COUNT)
     (ordinal_or_not r MOST_COUNT)
+allowed_or_not (Room w n) = low_or_not n MOST_COUNT
 allowed_or_not r = inl tt
 
 -- ---- whether words have a form

@@ -14,7 +14,7 @@ use Rattle.bn_words.specs.Requests.{HasForm, IsAllowed, Request, word_argument, 
 use Rattle.bn_words.specs.Requests.{Trace, Moments, ThreeMoments, Reversible, Inverse, Bennett, Realise, Standard}
 use Rattle.bn_words.specs.Requests.{Build, Compile, Drive, Layout, Run, RunAuto, View, Session, Look, Play, Plan}
 use Rattle.bn_words.specs.Requests.{Migrate, Mirror, Farm, Generate, Element, Erase, EraseRun, Window}
-use Rattle.bn_words.specs.Requests.{Behaviour, Crossings, Equal}
+use Rattle.bn_words.specs.Requests.{Behaviour, Crossings, Equal, Room, Walk}
 use Rattle.bn_words.proofs.Numbers.{read-whole}
 
 -- ---- what one word would say
@@ -80,6 +80,7 @@ alone name =
     else if bytes_eq name (codes "mirror") then Some Mirror
     else if bytes_eq name (codes "farm") then Some Farm
     else if bytes_eq name (codes "erase") then Some Erase
+    else if bytes_eq name (codes "walk") then Some Walk
     else None
 
 abbrev with_number : List ℕ → List ℕ → Option Request
@@ -100,12 +101,14 @@ with_pair name a b =
     else if bytes_eq name (codes "behaviour") then Some (Behaviour (value a) (value b) None)
     else if bytes_eq name (codes "crossings") then Some (Crossings (value a) (value b) None)
     else if bytes_eq name (codes "equal") then Some (Equal (value a) (value b))
+    else if bytes_eq name (codes "room") then Some (Room (One (tape_word a)) (value b))
     else Some (EraseRun (letters a) (value b))
 
 abbrev with_four : List ℕ → List ℕ → List ℕ → List ℕ → List ℕ → Option Request
 with_four name a b c d =
     if bytes_eq name (codes "behaviour") then Some (Behaviour (value a) (value b) (Some (names c d)))
     else if bytes_eq name (codes "crossings") then Some (Crossings (value a) (value b) (Some (names c d)))
+    else if bytes_eq name (codes "room") then Some (Room (tape_words a b c) (value d))
     else Some (ThreeMoments (letters a) (letters b) (letters c) (value d))
 
 abbrev with_window : List ℕ → List ℕ → Limits → Option Request
@@ -229,6 +232,14 @@ again (Equal q r) h =
     let state = value_again q (omega (arith, h.0.1)) in
     let other = value_again r (omega (arith, h.1.1)) in
     λ t. Some (Equal (state t) (other t))
+again (Room (One w) n) h =
+    let word = tape_word_again w in
+    let steps = value_again n (omega (arith, h)) in
+    λ t. Some (Room (One (word t)) (steps t))
+again (Room (Three u v w) n) h =
+    let words = tape_words_again u v w in
+    let steps = value_again n (omega (arith, h)) in
+    λ t. Some (Room (words t) (steps t))
 again r h = refl
 
 pub only_form : (words : List (List ℕ)) (r : Request) → HasForm words r → only words ≡ Some r

@@ -9,7 +9,7 @@ use Rattle.bn_gen.specs.declared.machine.TheConstants.{MOST_INCREMENTS}
 use Rattle.bn_qtable.specs.TapeWords.{One, Three}
 use Rattle.bn_words.specs.Requests.{HasNoForm, Step, Back, Machine, Trace, Moments, ThreeMoments, Realise}
 use Rattle.bn_words.specs.Requests.{Build, Compile, Drive, Layout, Run, RunAuto, View, Session, Look, Play, Generate}
-use Rattle.bn_words.specs.Requests.{Element, EraseRun, Window, Behaviour, Crossings, Equal}
+use Rattle.bn_words.specs.Requests.{Element, EraseRun, Window, Behaviour, Crossings, Equal, Room}
 use Rattle.bn_words.specs.Words.{AreNoDriveSteps, IsNoCount, IsNoNumberFromOne, IsNumber}
 use Rattle.bn_network.specs.declared.limits.TheConstants.{MOST_DRIVE_STEPS}
 
@@ -94,6 +94,8 @@ no_length words a b c k d e f g (Behaviour m n (Some names)) h = k (ap length h.
 no_length words a b c k d e f g (Crossings m n None) h = c (ap length h.words_are)
 no_length words a b c k d e f g (Crossings m n (Some names)) h = k (ap length h.words_are)
 no_length words a b c k d e f g (Equal q r) h = c (ap length h.words_are)
+no_length words a b c k d e f g (Room (One w) n) h = c (ap length h.words_are)
+no_length words a b c k d e f g (Room (Three u v w) n) h = k (ap length h.words_are)
 no_length words a b c k d e f g r h = a (ap length h.words_are)
 
 module _ {S : Type 0} (text : S → List ℕ) where

@@ -57,6 +57,8 @@ pub data Request : Type 0 where
   Behaviour : ℕ → ℕ → Option PortNames → Request
   Crossings : ℕ → ℕ → Option PortNames → Request
   Equal : ℕ → ℕ → Request
+  Room : TapeWords → ℕ → Request
+  Walk : Request
 
 -- ---- its words
 
@@ -125,6 +127,8 @@ words_of (Window word n) = codes "window" ∷ (61 ∷ word) ∷ decimal n ∷ []
 words_of (Behaviour n e names) = codes "behaviour" ∷ decimal n ∷ decimal e ∷ port_arguments names
 words_of (Crossings n e names) = codes "crossings" ∷ decimal n ∷ decimal e ∷ port_arguments names
 words_of (Equal q r) = codes "equal" ∷ decimal q ∷ decimal r ∷ []
+words_of (Room words n) = codes "room" ∷ tape_arguments words (decimal n ∷ [])
+words_of Walk = codes "walk" ∷ []
 
 -- ---- its limits
 
@@ -163,6 +167,7 @@ IsAllowed (Window word n) = n ≤ MOST_COUNT
 IsAllowed (Behaviour n e names) = IsFromOneTo MOST_STATES n × IsFromOneTo greatest e
 IsAllowed (Crossings n e names) = IsFromOneTo MOST_STATES n × IsFromOneTo greatest e
 IsAllowed (Equal q r) = IsOrdinal q × IsOrdinal r
+IsAllowed (Room words n) = n ≤ MOST_COUNT
 IsAllowed _ = Unit {0}
 
 -- ---- words and requests
@@ -218,6 +223,8 @@ of_whole whole.Erase = Erase
 of_whole (whole.EraseRun word n) = EraseRun word.now n
 of_whole (whole.Window word n) = Window word.now n
 of_whole (whole.Equal q r) = Equal q r
+of_whole (whole.Room words n) = Room (tape_words_of words) n
+of_whole whole.Walk = Walk
 
 abbrev pub request_of : declared.Request → Request
 request_of (variants.OnConfiguration asked) = of_configuration asked

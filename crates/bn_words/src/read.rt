@@ -102,6 +102,7 @@ fn read_name(name: &str) -> Option<Request<'_>>
         "mirror" => Some(Request::OnConfiguration(ConfigurationRequest::Mirror)),
         "farm" => Some(Request::OnWhole(WholeRequest::Farm)),
         "erase" => Some(Request::OnWhole(WholeRequest::Erase)),
+        "walk" => Some(Request::OnWhole(WholeRequest::Walk)),
         _ => None,
     }
 }
@@ -137,6 +138,7 @@ fn read_pair<'a>(name: &str, first: &'a str, second: &str) -> Option<Request<'a>
         "element" => read_element(first, second),
         "behaviour" => read_behaviour(first, second, None),
         "crossings" => read_crossings(first, second, None),
+        "room" => read_room(first, second),
         _ => read_word_and_count(name, first, second),
     }
 }
@@ -160,6 +162,7 @@ fn read_word_and_count<'a>(name: &str, first: &'a str, second: &str) -> Option<R
     requires element { name.now ≢ codes "element" }
     requires behaviour { name.now ≢ codes "behaviour" }
     requires crossings { name.now ≢ codes "crossings" }
+    requires room { name.now ≢ codes "room" }
     ensures { AreRead (name.now ∷ first.now ∷ second.now ∷ []) result }
 {
     let word = letters_of(first)?;
@@ -172,6 +175,15 @@ fn read_word_and_count<'a>(name: &str, first: &'a str, second: &str) -> Option<R
         "window" => Some(Request::OnWhole(WholeRequest::Window { word, most_steps })),
         _ => None,
     }
+}
+
+// The form of `room` with a word on tape 1.
+fn read_room<'a>(word: &'a str, most_steps: &str) -> Option<Request<'a>>
+    ensures { AreRead (codes "room" ∷ word.now ∷ most_steps.now ∷ []) result }
+{
+    let words = TapeWords::One(tape_word(word)?);
+    let most_steps = count_of(most_steps)?;
+    Some(Request::OnWhole(WholeRequest::Room { words, most_steps }))
 }
 
 // The form of `realise`.
@@ -249,6 +261,7 @@ fn read_four<'a>(
 {
     match name {
         "moments" => read_three_moments(first, second, third, fourth),
+        "room" => read_three_room(first, second, third, fourth),
         "behaviour" => read_behaviour(first, second, Some(port_names(third, fourth)?)),
         "crossings" => read_crossings(first, second, Some(port_names(third, fourth)?)),
         _ => None,
@@ -274,6 +287,20 @@ fn read_three_moments<'a>(
         third,
         most_steps,
     }))
+}
+
+// The form of `room` with a word on each tape.
+fn read_three_room<'a>(
+    first: &'a str,
+    second: &'a str,
+    third: &'a str,
+    most_steps: &str,
+) -> Option<Request<'a>>
+    ensures { AreRead (codes "room" ∷ first.now ∷ second.now ∷ third.now ∷ most_steps.now ∷ []) result }
+{
+    let words = TapeWords::Three(tape_word(first)?, tape_word(second)?, tape_word(third)?);
+    let most_steps = count_of(most_steps)?;
+    Some(Request::OnWhole(WholeRequest::Room { words, most_steps }))
 }
 
 // The forms of a name, a word and a window.

@@ -222,6 +222,16 @@ pub enum WholeRequest<'a> {
         /// The greatest number of steps.
         most_steps: u32,
     },
+    /// `room W n` and `room W1 W2 W3 n`: the least window in which the circuit of a uniform machine of quadruples ends
+    /// as the machine does from these words, after at most n steps.
+    Room {
+        /// The words on the tapes.
+        words: TapeWords<'a>,
+        /// The greatest number of steps.
+        most_steps: u32,
+    },
+    /// `walk`: a script, which follows a configuration text and a line `%`, run on that circuit.
+    Walk,
     /// `equal Q R`: whether two sequential machines answer alike, from a state of each.
     Equal {
         /// The state of the first machine, counted from 1.

@@ -212,3 +212,21 @@ returns-in-Equal-clause-ends g c =
     (g.K.Sink.faults c.give_reply-in-Equal.new.sink)
     c.reply_equal.result (g.W.Watch.told c.args.watch.now) c.reply_equal.ensures
     c.give_reply-in-Equal.ensures.ends
+
+pub returns-in-Room-clause-ends : goal.returns-in-Room-clause-ends
+returns-in-Room-clause-ends g c =
+    silently c.args.asked.now _ c.in-Room.is c.args.bytes.now c.give_reply-in-Room.result
+    (g.K.Sink.taken c.args.sink.now)
+    (g.K.Sink.taken c.give_reply-in-Room.new.sink) (g.K.Sink.faults c.args.sink.now)
+    (g.K.Sink.faults c.give_reply-in-Room.new.sink)
+    c.reply_room.result (g.W.Watch.told c.args.watch.now) c.reply_room.ensures
+    c.give_reply-in-Room.ensures.ends
+
+pub returns-in-Walk-clause-ends : goal.returns-in-Walk-clause-ends
+returns-in-Walk-clause-ends g c =
+    silently c.args.asked.now _ c.in-Walk.is c.args.bytes.now c.give_reply-in-Walk.result
+    (g.K.Sink.taken c.args.sink.now)
+    (g.K.Sink.taken c.give_reply-in-Walk.new.sink) (g.K.Sink.faults c.args.sink.now)
+    (g.K.Sink.faults c.give_reply-in-Walk.new.sink)
+    c.reply_walk.result (g.W.Watch.told c.args.watch.now) c.reply_walk.ensures
+    c.give_reply-in-Walk.ensures.ends
