@@ -1,5 +1,5 @@
 // Circuits of rotary elements by their configuration texts: each call asks the program by `answer`.
-import {Refused, linesOf, spelled} from "./values.mjs";
+import {Refused, linesOf, readWalk, spelled} from "./values.mjs";
 
 const HEAD = /^rotary ([12])\nelements (\d+)\nstart (\S+)\nend (\S+)\nsteps (\d+)\n(at|left) (\S+)\n/;
 const MOST_ELEMENT_STEPS = 2n ** 62n;
@@ -75,6 +75,12 @@ export function circuitClasses(answer, sequential) {
 
     back(steps = 1) {
       return new Circuit(this.ask(["back", spelled(steps)]));
+    }
+
+    // The answers to a script on this circuit: its commands as a sequence, or as one text.
+    walk(script) {
+      const lines = typeof script === "string" ? script : Array.from(script, line => `${line}\n`).join("");
+      return [...readWalk(asked(["walk"], `${this.text}%\n${lines}`))];
     }
 
     // The inverse circuit: its steps are the steps back of this one.

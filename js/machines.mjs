@@ -30,7 +30,7 @@ function entriesOf(table) {
 
 const quoted = field => /[",\r\n]/.test(field) ? `"${field.replaceAll('"', '""')}"` : String(field);
 
-// The window of a line of `window`.
+// The window of a line of `window` or `room`.
 const readWindow = text => linesOf(text)[0].split(" ").slice(1).map(Number);
 
 // The classes of machines whose calls this `answer` answers.
@@ -201,6 +201,12 @@ export function machineClasses(answer) {
       const list = typeof words === "string" ? [words] : [...words];
       if (list.length !== 1 && list.length !== 3) throw new TypeError(`a run begins with one word, or three, and not ${list.length}`);
       return new Trace(this.ask(["moments", ...list.map(lettered), spelled(steps)], [DONE, STUCK, INSIDE]));
+    }
+
+    // The least window, [l1, r1, r2, r3], in which the machine's circuit ends as the machine does. Refused with status 12 where it
+    // doesn't end in so many steps, and with status 11 where no window has room for its run.
+    leastWindow(words, steps = MOST_STEPS) {
+      return readWindow(this.ask(["room", ...tapeWords(words), spelled(steps)]));
     }
 
     build(words, window) {

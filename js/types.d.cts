@@ -152,6 +152,17 @@ export interface View extends Look {
   readonly machine: string;
 }
 
+/** What a walk shows of a circuit. */
+export interface WalkView {
+  /** The input that the signal is about to enter, or the output by which it has left. */
+  readonly place: string;
+  readonly hasLeft: boolean;
+  readonly steps: number;
+  /** The numbers of the elements whose bars differ from those of the circuit with which the walk began. */
+  readonly turned: readonly number[];
+  readonly text: string;
+}
+
 /** A rotary element: its bar, `H` or `V`, and for each output the input, as `3.n`, to which it leads. */
 export interface Element {
   readonly number: number;
@@ -214,6 +225,8 @@ export interface Circuit extends Iterable<Element> {
   /** The circuit after, or before, at most so many element steps. */
   step(steps?: Count): Circuit;
   back(steps?: Count): Circuit;
+  /** The answers to a script of steps and breakpoints on this circuit. */
+  walk(script: string | Iterable<string>): (WalkView | string)[];
   /** The inverse circuit. */
   mirror(): Circuit;
   /** The same in version 2. */
@@ -299,6 +312,8 @@ export interface ReversibleMachine extends Table<Quadruple> {
   inverse(): ReversibleMachine;
   /** The moments of its run from a word on tape 1, or from three words. */
   moments(words: string | Iterable<string>, steps?: Count): Trace;
+  /** The least window l1, r1, r2, r3 in which the machine's circuit ends as the machine does. */
+  leastWindow(words: Word | Iterable<Word>, steps?: Count): Window;
   /** Its circuit at the start, in a window l1, r1, r2, r3. */
   build(words: Word | Iterable<Word>, window: Iterable<Count>): Circuit;
   /** The run of that circuit, to its exit or of at most so many element steps. */

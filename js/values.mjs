@@ -2,6 +2,7 @@
 // parts. hithwelor.mjs and client.mjs stand on this, and so does machines.mjs.
 const STATUSES = {
   2: "usage", 3: "text", 4: "machine", 5: "word", 6: "size", 7: "read fault", 8: "write fault", 9: "no memory",
+  11: "window", 12: "inside",
 };
 const BLANK = "_";
 const coder = new TextEncoder();
@@ -242,11 +243,23 @@ export function readView(lines) {
           machine: cut < 0 ? "" : layer.slice(cut + 1), text: lines.map(line => `${line}\n`).join("")};
 }
 
+const WALK_PLACE = /^(at|left) (\S+)$/;
+
+// What a walk shows: where the signal is, and which elements have turned since the circuit that was given.
+export function readWalkView(lines) {
+  const place = WALK_PLACE.exec(lines[0]), [steps, turned] = lines.slice(1).map(line => line.split(" ").slice(1));
+  return {place: place[2], hasLeft: place[1] === "left", steps: counted(steps[0]), turned: turned.map(Number),
+          text: lines.map(line => `${line}\n`).join("")};
+}
+
+// The answers to a walk's script.
+export const readWalk = text => readSession(text, 3, readWalkView, line => WALK_PLACE.test(line));
+
 // The answers to a script, one an entry, in order, read as they are asked for; `read` reads so many lines as are shown.
-export function* readSession(text, count, read) {
+export function* readSession(text, count, read, begins = line => line.startsWith("element ")) {
   const lines = linesOf(text);
   for (let at = 0; at < lines.length; at++) {
-    if (!lines[at].startsWith("element ")) yield lines[at];
+    if (!begins(lines[at])) yield lines[at];
     else {
       yield read(lines.slice(at, at + count));
       at += count - 1;

@@ -119,12 +119,14 @@ FORMS = {
         INSIDE: rf"running {N}\n",
     },
     "window": {DONE: rf"window {N} {N} {N} {N}\n", INSIDE: rf"running {N}\n"},
+    "room": {DONE: rf"room {N} {N} {N} {N}\n", WINDOW: r"none [23]\n", INSIDE: rf"running {N}\n"},
     "behaviour": {DONE: rf"(?:{N},{N},{N},{N}\n)+", INSIDE: rf"(?:more|running) {N} {N}\n"},
     "crossings": {
         DONE: rf"(?:state {N} in {PLACE} next {N} out {PLACE} steps {N}\n)+",
         INSIDE: rf"(?:more|running) {N} {N}\n",
     },
     "equal": {DONE: rf"equal\n|differ(?: {N})+\nfirst (?:{N}|-)\nsecond (?:{N}|-)\n"},
+    "walk": {DONE: PLAYED % rf"(?:at|left) {PLACE}\nsteps {N}\nturned(?: {N})*\n"},
     "farm": {DONE: rf"(?:{TEXT}%\n)*(?:[+-] {N} {N}\n)*"},
 }
 TEXT_COMMANDS = ["step", "back", "migrate", "mirror", "plan", "behaviour", "crossings"]
@@ -146,6 +148,7 @@ TABLE_COMMANDS = [
     "inverse",
     "realise",
     "window",
+    "room",
 ]
 
 
@@ -162,6 +165,7 @@ OF_TWO_PARTS = {
     "play": "adder-session.txt",
     "erase": "not-twice.txt",
     "farm": "two-boards.txt",
+    "walk": "two-elements-walk.txt",
     "equal": None,
 }
 ARE_TEXTS = [data for data in EXAMPLES.values() if data.startswith(b"rotary") and b"%" not in data]
@@ -287,6 +291,7 @@ def drawn_words(draw, name):
         "moments": [word, number(0, 1, 7, 40)],
         "realise": [number(1, 2, 3), number(1, 2)],
         "window": [word, number(0, 1, 7, 40)],
+        "room": [*tapes, number(0, 1, 7, 40)],
         "behaviour": [number(1, 2, 50), number(1, 9, 1000)],
         "crossings": [number(1, 2, 50), number(1, 9, 1000)],
         "equal": [number(1, 2, 3), number(1, 2)],
@@ -328,10 +333,10 @@ def drawn_case(draw):
             draw.choice([*ARE_TABLES, drawn_table(draw), drawn_table(draw)]),
             ARE_TABLES,
         )
-        if name in ("moments", "build", "drive", "look", "reversible", "inverse"):
+        if name in ("moments", "room", "build", "drive", "look", "reversible", "inverse"):
             base = draw.choice([base, drawn_quadruples(draw), drawn_quadruples(draw)])
     else:
-        name = draw.choice(["session", "play", "erase", "farm", "equal"])
+        name = draw.choice(["session", "play", "erase", "farm", "equal", "walk"])
         base, others = (
             draw.choice(
                 [
@@ -340,6 +345,7 @@ def drawn_case(draw):
                     else drawn_moves(draw) + b"%\n" + drawn_moves(draw),
                     drawn_table(draw) + b"%\n" + drawn_table(draw),
                     drawn_text(draw) + b"%\n+ 1 3\n- 1 1\n",
+                    drawn_text(draw) + b"%\nbreak a element 1\nbreak b line 0.w\ngo 99\nview\ndrop a\nrev 99\nview\n",
                     drawn_quadruples(draw) + b"%\nbreak a state A\ngo 9999\nview\nrev 99\nview\n",
                 ]
             ),
@@ -373,6 +379,13 @@ HOSTILE = [
     ("session = 0 2 2 1", b"%\n", 3, "text: empty"),
     ("session = 0 2 2 1", LEAST, 3, "text: no script"),
     ("session = 0 2 2 1", LEAST + b"%\nview \n", 3, "text: script line 1 form"),
+    ("walk", ELEMENT, 3, "text: no script"),
+    ("walk", ELEMENT + b"\n%\n", 3, "text: line 8 syntax"),
+    ("walk", ELEMENT + b"%\nbreak a state A1\n", 3, "text: script line 1 form"),
+    ("walk", ELEMENT + b"%\nbreak a line 0.n\nbreak a line 0.n\n", 3, "text: script line 2 same break"),
+    ("walk", ELEMENT + b"%\nbreak a line 4611686018427387905.n\n", 3, "text: script line 1 form"),
+    ("walk", ELEMENT + b"%\nbreak " + b"a" * 70000 + b" element 0\n", 3, "text: script line 1 form"),
+    ("walk 1", ELEMENT, 2, "usage"),
     ("erase", LEAST, 3, "text: no second"),
     ("erase", LEAST + b"%\n", 3, "text: second empty"),
     ("farm", ELEMENT, 3, "text: no schedule"),
@@ -393,6 +406,10 @@ HOSTILE = [
     ("drive = = :a" + ",a" * 40000 + " 0 2 2 1 5", QUADRUPLES_LEAST, 5, "word: 3 1"),
     ("drive = 0 2 2 1 2305843009213693953", QUADRUPLES_LEAST, 2, "usage"),
     ("drive = 0 2 2 1 5", b"S,/,/,/,0,0,0,F\n", 4, "machine: silent 1"),
+    ("room = 1048576", b"S,/,/,/,0,0,0,F\n", 4, "machine: silent 1"),
+    ("room = 1048577", QUADRUPLES_LEAST, 2, "usage"),
+    ("room = = :a" + ",a" * 40000 + " 9", QUADRUPLES_LEAST, 5, "word: 3 1"),
+    ("room =", QUADRUPLES_LEAST, 2, "usage"),
     ("look = 0 2 2 1 5", LEAST, 3, "text: record 1 fields"),
     ("look = = = 0 2 2 1 4611686018427387905", QUADRUPLES_LEAST, 2, "usage"),
     ("look = = :a" + ",a" * 40000 + " 0 2 2 1 5", QUADRUPLES_LEAST, 5, "word: 3 1"),
@@ -420,12 +437,14 @@ CUT = [
     ("build =11 =110 = 0 3 4 3", "adder.csv"),
     ("drive =11 :1,1,0 = 0 3 4 3 1000", "adder.csv"),
     ("look =11 :1,1,0 = 0 3 4 3 1000", "adder.csv"),
+    ("room =11 :1,1,0 = 1000", "adder.csv"),
     ("play =11 =110 = 0 3 4 3", "adder-session.txt"),
     ("run = 0 2 2 1", "least.csv"),
     ("view = 0 2 2 1 6539", "least.csv"),
     ("session = 0 2 2 1", "least-session.txt"),
     ("erase =1 40", "not-twice.txt"),
     ("farm", "two-boards.txt"),
+    ("walk", "two-elements-walk.txt"),
 ]
 
 

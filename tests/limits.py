@@ -19,7 +19,7 @@ from generate import EXPECTED, expected_lines
 from run import increments
 
 # The statuses of an answer.
-DONE, USAGE, TEXT, WORD, SIZE, STUCK, INSIDE = 0, 2, 3, 5, 6, 10, 12
+DONE, USAGE, TEXT, WORD, SIZE, STUCK, WINDOW, INSIDE = 0, 2, 3, 5, 6, 10, 11, 12
 
 MOST_INPUT = 256 << 20
 MOST_STEPS = 1 << 62
@@ -572,6 +572,35 @@ def a_session_of_many_lines(by):
 
 
 @case
+def walks_of_many_lines_and_many_elements(by):
+    text = ring(list(range(RING_IN_TWO)), 2)
+    script = f"break e element {RING_IN_TWO - 1}\ngo {MOST_STEPS}\nrev {MOST_STEPS}\nview\n"
+    by.expect(
+        "a breakpoint on the last element of a ring",
+        ["walk"],
+        text + b"%\n" + script.encode(),
+        lambda lines: lines[1].startswith(f"at {RING_IN_TWO - 1}.")
+        and lines[1].endswith(" break e")
+        and lines[2].endswith(" steps 0")
+        and lines[3:] == [lines[2].removesuffix(" steps 0"), "steps 0", "turned"],
+    )
+    lines = "".join(f"break L{number} line {number}.n\n" for number in range(1000)) + "step 1\nback 1\n" * 50_000
+    by.expect(
+        "a script of 101,000 lines",
+        ["walk"],
+        one_element() + b"%\n" + lines.encode(),
+        lambda lines: len(lines) == 101_000,
+    )
+    by.expect(
+        "a step beyond 2^62",
+        ["walk"],
+        one_element() + b"%\ngo 4611686018427387905\n",
+        ["text: script line 1 form"],
+        TEXT,
+    )
+
+
+@case
 def generated_increments(by):
     for rounds in EXPECTED:
         by.expect(
@@ -645,6 +674,20 @@ def least_windows(by):
     by.expect(
         "the longest word", ["window", "=" + "1" * 100_000, "300000"], increments(1), ["window 1 100001 200004 100002"]
     )
+
+
+@case
+def least_windows_of_quadruples(by):
+    running = b"A,/,/,/,+,+,0,B\nB,_,/,/,_,0,0,C\nC,/,/,/,-,-,0,D\nD,_,/,/,_,0,0,E\nE,/,/,/,+,0,0,F\n"
+    by.expect("five steps", ["room", "=", "5"], running, ["room 0 1 1 0"])
+    by.expect("one step too few", ["room", "=", "4"], running, ["running 4"], INSIDE)
+    endless = b"S,_,/,/,1,0,0,R\nR,/,/,/,+,0,0,A\nA,_,/,/,_,0,0,R\nC,_,/,/,_,0,0,F\n"
+    most = str(MOST_MACHINE_STEPS)
+    by.expect("a machine that runs on", ["room", "=", most], endless, [f"running {most}"], INSIDE)
+    going = ["=" + "a" * 26_000, ":" + ",".join("a" * 26_000), "=" + "a" * 26_000]
+    by.expect("long words", ["room", *going, most], GOING, ["room 0 26001 26001 26001"])
+    by.expect("a step beyond", ["room", "=", str(MOST_MACHINE_STEPS + 1)], GOING, ["usage"], USAGE)
+    by.expect("to the left", ["room", "=", "9"], b"S,/,/,/,+,0,-,F\n", ["none 3"], WINDOW)
 
 
 # ---- windows that the program finds, up to the first circuit that is too large

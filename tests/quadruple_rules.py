@@ -179,6 +179,23 @@ def ended(rows, words, window, most):
     return None
 
 
+def room(rows, words, most):
+    """The status and the text of `room`, for a machine that `build` takes and words of its symbols."""
+    machine = Machine(rows, words, (most + 1, *(len(word) + most + 1 for word in words)))
+    left, rights = 0, [len(word) for word in words]
+    while True:
+        made = machine.steps
+        exit = machine.step()
+        if exit and not exit.startswith("exit window"):
+            return 0, f"room {left} {rights[0]} {rights[1]} {rights[2]}\n"
+        if made == most:
+            return 12, f"running {most}\n"
+        if exit:
+            return 11, f"none {exit.split()[2]}\n"
+        left = max(left, -machine.heads[0])
+        rights = [max(right, head) for right, head in zip(rights, machine.heads)]
+
+
 def tape_lines(tapes, window):
     """The lines of the three tapes, as `run` has them."""
     found = []

@@ -188,6 +188,8 @@ def test_inputs_of_two_parts_are_files(ask, tmp_path):
     )
     with open(example("two-elements.txt"), "rb") as file:
         circuit = file.read()
+    script = written(tmp_path, b"go 9\r\nview", "walk.txt")
+    assert called("walk", example("two-elements.txt"), script)[:2] == ask(["walk"], circuit + b"%\ngo 9\nview\n")
     schedule = written(tmp_path, b"+ 1 2\n- 2 1\n", "schedule.txt")
     exact = ask(["farm"], circuit + b"%\n" + circuit + b"%\n+ 1 2\n- 2 1\n")
     assert called("farm", example("two-elements.txt"), example("two-elements.txt"), schedule)[:2] == exact
@@ -303,6 +305,7 @@ WHOLE = [
     ("session", "least-session.txt", ["", "--window", "0,2,2,1"]),
     ("erase", "not-twice.txt", []),
     ("farm", "two-boards.txt", []),
+    ("walk", "two-elements-walk.txt", []),
 ]
 
 

@@ -91,6 +91,16 @@ def hold_looking_up(program):
     held(seconds, MOST_OF_LOOKING_UP_SECONDS * limits.slowness(), "`moments` with the most quadruples, seconds")
 
 
+def hold_rooms(program):
+    """`room` of as many steps as may be, by the most quadruples: its text is a line, and it has no circuit."""
+    count = limits.MOST_QUADRUPLES - 4
+    passed = "".join(f"U{number},_,/,/,_,0,0,U{number + 1}\n" for number in range(1, count + 1))
+    table = f"S,_,/,/,1,0,0,R\nR,/,/,/,+,0,0,A\n{passed}A,_,/,/,_,0,0,R\nC,_,/,/,_,0,0,F\n".encode()
+    _, seconds, _, out = launched(program, ["room", "=", str(limits.MOST_MACHINE_STEPS)], table, limits.INSIDE)
+    assert out == f"running {limits.MOST_MACHINE_STEPS}\n".encode()
+    held(seconds, MOST_OF_LOOKING_UP_SECONDS * limits.slowness(), "`room` with the most quadruples, seconds")
+
+
 def hold_leaping(program):
     """`run`, and `drive` of the same machine, of five thousand million element steps."""
     table = places.text_of("examples/increment.csv").encode()
@@ -113,7 +123,7 @@ def hold_tracing(program):
     held(memory, MOST_OF_TRACING, "`trace` of many steps, bytes")
 
 
-HOLDS = [hold_reading, hold_writing, hold_looking_up, hold_leaping, hold_tracing]
+HOLDS = [hold_reading, hold_writing, hold_looking_up, hold_rooms, hold_leaping, hold_tracing]
 
 
 @pytest.mark.parametrize("hold", HOLDS, ids=lambda it: it.__name__)

@@ -11,6 +11,7 @@ from places import TOP
 pytestmark = pytest.mark.usefixtures("answering")
 CIRCUIT = b"rotary 1\r\nelements 1\r\nstart 0.n\r\nend 0.w\r\nsteps 0\r\nat 0.n\r\ne 0 H - - - -\r\n"
 LEAST = b"S,_,_,+,T\nT,_,_,0,F\n"
+ELEMENT = b"rotary 1\nelements 1\nstart 0.n\nend 0.s\nsteps 0\nat 0.n\ne 0 V - - - -\n"
 MOVES = b"S,_,_,R,T\nT,1,1,L,T\nT,_,_,N,F\n"
 HEADER = b"state,read,write,move,next\n" + LEAST
 TWICE = b"S,_,_,+,A\n\nA,0,0,+,A\nA,_,_,0,H\nA,0,1,+,A\n"
@@ -243,6 +244,8 @@ def test_how_a_run_ended_is_told(put):
     assert status == 10 and f"nothing is for state Go and 1; hithwelor trace {path} 1 prints the way there" in err
     status, _, err = called("run", example("increment.csv"), "1011", "--history", "9")
     assert status == 11 and "the head of tape 2 left the window to the right; --history gives more cells" in err
+    status, out, err = called("room", put(b"S,_,/,/,_,-,0,F\n"), "")
+    assert (status, out) == (11, b"none 2\n") and "the head of tape 2 goes left of its start" in err
 
 
 def test_standard_is_named_where_it_takes_the_machine():
@@ -278,12 +281,19 @@ EXPLAINED = [
     (["session", "=", "0", "2", "2", "1"], LEAST + b"%\nbreak a state S\n", "a state that the machine does not have"),
     (["session", "=", "0", "2", "2", "1"], LEAST + b"%\ndrop b\n", "a label that is not set"),
     (["erase"], LEAST, "no second table is given"),
+    (["walk"], ELEMENT, "hithwelor walk CIRCUIT SCRIPT"),
+    (["walk"], ELEMENT + b"%\nbreak a state S\n", "break LABEL line E.L"),
+    (["walk"], ELEMENT.replace(b"steps 0", b"steps 00") + b"%\n", "line 5: `steps 00`"),
     (["erase"], LEAST + b"%\nS,_,_,+\n", "4 fields"),
     (["farm"], b"", "no schedule is given"),
     (["realise", "9", "1"], b"1,1,1,1\n", "has no state 9"),
     (["realise", "1", "7"], b"1,1,1,1\n1,2,2,2\n", "its input lines are 1 to 2"),
     (["realise", "1", "1"], b"1,1,1,1\n1,1,2,2\n", "entries 1 and 2 have the same state and input line"),
-    (["equal", "1", "1"], b"1,1,1,1\n%\n1,1,1,1\n2,1,1,1\n", "entries 1 and 2 have the same next state and output line"),
+    (
+        ["equal", "1", "1"],
+        b"1,1,1,1\n%\n1,1,1,1\n2,1,1,1\n",
+        "entries 1 and 2 have the same next state and output line",
+    ),
     (["equal", "1", "2"], b"1,1,1,1\n%\n1,1,1,1\n", "it has state 1 alone"),
     (["equal", "1", "1"], b"1,1,1,1\n%\n1,1,1,x\n", "line 1: field 4, `x`, is not a number from 1"),
     (["moments", "=", "5"], b"S,_,/,/,_,0,0,F\nS,_,/,/,_,0,0,F\n", "not deterministic"),
@@ -324,7 +334,9 @@ def test_a_column_that_is_not_one_entry():
     for command in ("step", "migrate"):
         refused(command, example("refused/spelled-out.txt"), status=3, told=told)
     told = ["line 10: `e 3 V 5.e - 4.n -`: begins a column"]
-    by_the_exact_form("migrate", status=3, text=b"text: line 10 spelling\n", data=read("refused/spelled-out.txt"), told=told)
+    by_the_exact_form(
+        "migrate", status=3, text=b"text: line 10 spelling\n", data=read("refused/spelled-out.txt"), told=told
+    )
 
 
 @pytest.mark.parametrize("number, line, told", CIRCUIT_FAULTS, ids=[told for _, _, told in CIRCUIT_FAULTS])
@@ -337,9 +349,13 @@ def test_a_fault_of_a_circuit_says_which_field(put, number, line, told):
 
 
 def test_a_difference_of_two_machines_is_put_into_words():
-    told = "after the input lines 1 1 the first machine answers by output line 2, and the second answers by output line 1"
+    told = (
+        "after the input lines 1 1 the first machine answers by output line 2, and the second answers by output line 1"
+    )
     toggle, reflector = (f"examples/circuits/{it}.csv" for it in ("toggle", "reflector"))
-    assert answered("equal", os.path.join(TOP, toggle), os.path.join(TOP, reflector), note=told).startswith(b"differ 1 1\n")
+    assert answered("equal", os.path.join(TOP, toggle), os.path.join(TOP, reflector), note=told).startswith(
+        b"differ 1 1\n"
+    )
 
 
 @pytest.mark.parametrize("words, data, told", EXPLAINED, ids=[told for _, _, told in EXPLAINED])

@@ -96,6 +96,8 @@ def drawn():
         "drive",
         "look",
         "play",
+        "room",
+        "walk",
     ]
     numbers = lambda k: [str(draw.choice([0, 1, 2, 3, 5, 8, 13, 40])) for _ in range(k)]
     word = lambda: "=" + "".join(draw.choice("01") for _ in range(draw.randrange(6)))
@@ -126,6 +128,7 @@ def drawn():
             *numbers(4),
             str(draw.randrange(100_000)),
         ],
+        "room": lambda: [*(tape_word() for _ in range(draw.choice([1, 3]))), str(draw.randrange(200))],
         "play": lambda: [*(tape_word() for _ in range(draw.choice([1, 3]))), *numbers(4)],
     }
     found = []

@@ -66,6 +66,7 @@ SMALL = [
     ("generate 1", None),
     ("element 4 289", None),
     ("window =1011 40", "increment.csv"),
+    ("room =11 :1,1,0 = 1000", "adder.csv"),
     ("behaviour 9 99", "two-elements.txt"),
     ("behaviour 9 99 :0.w :0.s,0.w", "circuits/toggle.txt"),
     ("crossings 9 99 :0.n,1.e :1.e,0.n", "two-elements.txt"),
@@ -73,6 +74,7 @@ SMALL = [
     ("erase", "least-twice.txt"),
     ("erase =1 40", "not-twice.txt"),
     ("farm", "two-boards.txt"),
+    ("walk", "two-elements-walk.txt"),
     ("Step 1", None),
 ]
 # The same on larger inputs, for --every.

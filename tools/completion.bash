@@ -15,6 +15,7 @@ _hithwelor_options() {
     layout) echo "--window --left --right --history --output --steps --names --as --blank --halt --json --verbose --help -h" ;;
     step) echo "--as --json --verbose --help -h" ;;
     back) echo "--as --json --verbose --help -h" ;;
+    walk) echo "--as --json --verbose --help -h" ;;
     mirror) echo "--as --json --verbose --help -h" ;;
     migrate) echo "--as --json --verbose --help -h" ;;
     behaviour) echo "--inputs --outputs --states --element-steps --as --json --verbose --help -h" ;;
@@ -35,6 +36,7 @@ _hithwelor_options() {
     look) echo "--at --window --left --right --history --output --steps --names --as --blank --halt --json --verbose --help -h" ;;
     play) echo "--interactive -i --window --left --right --history --output --steps --names --as --blank --halt --json --verbose --help -h" ;;
     moments) echo "--steps --names --as --blank --halt --json --verbose --help -h" ;;
+    room) echo "--steps --names --as --blank --halt --json --verbose --help -h" ;;
     build) echo "--window --left --right --history --output --steps --names --as --blank --halt --json --verbose --help -h" ;;
     esac
 }
@@ -43,7 +45,7 @@ _hithwelor() {
     local word=${COMP_WORDS[COMP_CWORD]} command=${COMP_WORDS[1]-} list=""
     COMPREPLY=()
     if [ "$COMP_CWORD" = 1 ] || { [ "$COMP_CWORD" = 2 ] && [ "$command" = help ]; }; then
-        list="back behaviour bennett build check compile crossings drive element equal erase farm generate help inverse layout look machine migrate mirror moments plan play realise reversible run session standard step trace view window"
+        list="back behaviour bennett build check compile crossings drive element equal erase farm generate help inverse layout look machine migrate mirror moments plan play realise reversible room run session standard step trace view walk window"
         [[ ${COMP_WORDS[0]##*/} = hithwelor ]] && list+=" sweep plot"
     elif [ "${COMP_WORDS[COMP_CWORD - 1]}" = --as ]; then
         list="quintuples quadruples sequential circuit jflap yaml morphett bbchallenge"

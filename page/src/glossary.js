@@ -86,6 +86,8 @@ export const GLOSSARY = [
     "The word to the right of the head when a machine has halted. Bennett's machine leaves it on tape 3."],
   ["overlap",
     "Two quadruples overlap in domain if both can apply to one configuration, and in range if both can lead to one configuration (Bennett 1973)."],
+  ["own run",
+    "The run of a machine by itself, without a circuit. In a window, for run: the one-tape machine, with its tape from -l1 to r1, at most n steps, and an output that fits r3 cells with the blank after it. For drive: the machine of quadruples, on three tapes that have only the window's cells."],
   ["port",
     "Where a signal enters or leaves: n, e, s, w of an element. A module has ports too; the program's texts call each a line."],
   ["quadruple",

@@ -4,7 +4,6 @@
 // rules and the lines of a text are counted from 1, as the program counts them.
 
 declare module "*.wasm" { const bytes: Uint8Array; export default bytes; }
-declare module "*.z" { const bytes: Uint8Array; export default bytes; }
 declare module "*.txt" { const text: string; export default text; }
 
 // ---- files of other programs

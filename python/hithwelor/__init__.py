@@ -23,7 +23,7 @@ from .machine import (
     generate,
 )
 from .tables import read_table
-from .texts import Exit, Look, Outcome, Refused, Run, Session, Tape, View
+from .texts import Exit, Look, Outcome, Refused, Run, Session, Tape, View, WalkView
 from .traces import Moment, Trace
 
 __version__: str
@@ -59,6 +59,7 @@ __all__ = [
     "Trace",
     "Unavailable",
     "View",
+    "WalkView",
     "Window",
     "Wire",
     "__version__",

@@ -10,7 +10,7 @@ from typing import TYPE_CHECKING, Any, NamedTuple, SupportsIndex
 from .answers import answer
 from .arguments import MOST_ELEMENT_STEPS, text_of, whole
 from .optional import needs
-from .texts import checked, matched
+from .texts import Session, WalkView, checked, matched
 
 if TYPE_CHECKING:
     import networkx
@@ -125,6 +125,13 @@ class Circuit:
     def back(self, steps: SupportsIndex = 1) -> Circuit:
         """The circuit before so many element steps, or at its start."""
         return Circuit(self.ask(["back", whole(steps, "steps", MOST_ELEMENT_STEPS)]))
+
+    def walk(self, script: str | Iterable[str]) -> Session[WalkView]:
+        """The answers to a script on this circuit, its commands as a sequence or as one text: `step E`, `back E`, `go E`,
+        `rev E`, `break LABEL element K`, `break LABEL line E.L`, `drop LABEL`, `view`. A faulty command is Refused, with
+        status 3 and its number."""
+        lines = script if isinstance(script, str) else "".join(f"{line}\n" for line in script)
+        return Session.read(checked(*answer(["walk"], f"{self.text}%\n{lines}"), 0), WalkView)
 
     def mirror(self) -> Circuit:
         """The inverse circuit: its steps are the steps back of this one."""

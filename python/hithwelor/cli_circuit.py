@@ -39,7 +39,10 @@ def missing(lines: list[str], number: int) -> tuple[str, str]:
     count = re.fullmatch(r"elements (\d+)", lines[1])
     has = number - 1 - len(HEAD)
     if count and has < int(count[1]):
-        return f"the text ends after {has} of {count[1]} elements", "write a line for each element, or correct `elements`"
+        return (
+            f"the text ends after {has} of {count[1]} elements",
+            "write a line for each element, or correct `elements`",
+        )
     return "the line is empty", "nothing follows the last element"
 
 

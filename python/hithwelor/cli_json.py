@@ -7,7 +7,7 @@ import re
 from typing import Any
 
 from .forms import statuses
-from .texts import Exit, Look, Outcome, Run, Session, Tape, View
+from .texts import Exit, Look, Outcome, Run, Session, Tape, View, WalkView
 
 TABLES = {"standard": "quintuples", "bennett": "quadruples", "inverse": "quadruples", "erase": "quadruples"}
 CIRCUITS = ("compile", "build", "step", "back", "mirror", "migrate", "realise")
@@ -103,12 +103,13 @@ def window(lines: list[str]) -> dict[str, Any]:
     return {"window": list(map(int, lines[0].split(" ")[1:]))}
 
 
-STOPPED = ("more", "running")
+STOPPED = ("more", "none", "running")
 OF_CIRCUITS = {
     "behaviour": moves,
     "crossings": crossings,
     "equal": difference,
     "window": window,
+    "room": window,
 }
 
 
@@ -127,6 +128,8 @@ def parts(words: list[str], text: str) -> dict[str, Any]:
         return seen
     if command in ("session", "play"):
         return {"answers": plain(Session.read(text, View if command == "session" else Look).answers)}
+    if command == "walk":
+        return {"answers": plain(Session.read(text, WalkView).answers)}
     if command == "check":
         numbers = re.findall(r"\d+", text)
         return dict(zip(("states", "symbols", "quintuples"), map(int, numbers)))

@@ -79,6 +79,11 @@ def tell_ending(status: int, text: bytes, arguments: Arguments) -> None:
         given = [f"--{it} {arguments.given[it]}" for it in ("as", "blank", "halt") if it in arguments.given]
         way = " ".join(["trace", *arguments.files(), *(it or "''" for it in arguments.named.get("WORD", [])), *given])
         say(f"stuck: nothing is for state {state} and {told}; hithwelor {way} prints the way there")
+    none = re.fullmatch(r"none (\d)\n", text.decode(errors="replace"))
+    if none:
+        say(
+            f"the head of tape {none[1]} goes left of its start, and every window begins there: none has room for this run"
+        )
     room = re.search(r"^exit window (\d) (left|right)$", text.decode(errors="replace"), flags=re.M)
     if room:
         option = {"1 left": "--left", "1 right": "--right", "2 right": "--history", "3 right": "--output"}

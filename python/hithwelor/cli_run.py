@@ -80,7 +80,8 @@ class Translation:
         """Reads the files, and brings each to what the command takes."""
         paths = self.arguments.files()
         data = cli_input.read_bytes(paths[0]) if paths else b""
-        parts = cli_input.split_parts(data) if self.arguments.use.kind != "circuit" else None
+        has_parts = self.arguments.use.kind != "circuit" or self.command == "walk"
+        parts = cli_input.split_parts(data) if has_parts else None
         pieces = [(path, None if number else data) for number, path in enumerate(paths)]
         if parts:
             pieces[0] = (paths[0], parts[0])

@@ -1,5 +1,6 @@
 """The window of a run: the least one in which the circuit ends as the machine does, by the command `window`, and for quadruples by
-`moments`. Of a run that has not ended after so many steps, the window of these steps."""
+`room`. Of a run that has not ended after so many steps, or that no window has room for, the window of these steps, by `trace` and
+`moments`."""
 from __future__ import annotations
 
 import csv
@@ -10,7 +11,7 @@ from typing import Callable
 
 from .cli_engine import Ask
 
-DONE, STUCK, INSIDE = 0, 10, 12
+DONE, STUCK, WINDOW, INSIDE = 0, 10, 11, 12
 # A circuit of more steps than this has too many elements, whatever the machine: the history alone has 90 a step.
 MOST_TRACED = 46_603
 FIRST_MOMENTS = 256
@@ -74,7 +75,7 @@ def window_of_quintuples(ask: Ask, table: bytes, word: str, steps: int) -> Found
 
 
 def window_in(line: bytes) -> Window:
-    """The window of a line of `window`."""
+    """The window of a line of `window` or `room`."""
     left, right, history, output = map(int, line.split()[1:])
     return left, right, history, output
 
@@ -112,7 +113,18 @@ def is_move(row: list[str], at: int) -> bool:
 
 
 def window_of_quadruples(ask: Ask, table: bytes, words: list[str], steps: int, say: Say) -> Found:
-    """The window of the circuit of quadruples: where the heads come on each tape, and the words."""
+    """The window of the circuit of quadruples."""
+    exact = ["room", *words, str(steps)]
+    status, line = ask(exact, table)
+    if status == DONE:
+        return Found(window_in(line), f"over after at most {steps:,} steps", True)
+    if status not in (WINDOW, INSIDE):
+        raise Refusal(exact, status, line)
+    return window_of_moments(ask, table, words, steps, say)
+
+
+def window_of_moments(ask: Ask, table: bytes, words: list[str], steps: int, say: Say) -> Found:
+    """The window of the steps of a machine of quadruples: where the heads come on each tape, and the words."""
     limit, lengths = min(FIRST_MOMENTS, steps), lengths_of(words)
     table, words = spelled(table, words)
     while True:

@@ -323,6 +323,12 @@ class ReversibleMachine(Table):
         asked = [f"={letters(word, 'a word')}" for word in words]
         return Trace(self.ask(["moments", *asked, whole(steps, "steps", MOST_STEPS)], DONE, STUCK, INSIDE))
 
+    def least_window(self, words: Word | Iterable[Word], steps: SupportsIndex = MOST_STEPS) -> Window:
+        """The least window (l1, r1, r2, r3) in which the machine's circuit ends as the machine does, halted or stuck. Where it
+        doesn't end in so many steps, it is Refused with status 12; where the head of tape 2 or 3 goes left of its start, so
+        that no window has room for the run, with status 11 and the text `none t`."""
+        return least(self.ask(["room", *spelled(words), whole(steps, "steps", MOST_STEPS)]))
+
     def build(self, words: Word | Iterable[Word], window: Iterable[SupportsIndex]) -> Circuit:
         """Its circuit at the start, in a window (l1, r1, r2, r3)."""
         return Circuit(self.ask(["build", *spelled(words), *window_of(window)]))
@@ -437,6 +443,6 @@ def generate(increments: SupportsIndex) -> Run:
 
 
 def least(told: str) -> Window:
-    """The window of a line of `window`."""
+    """The window of a line of `window` or `room`."""
     left, right, history, output = map(int, told.split(" ")[1:])
     return left, right, history, output

@@ -9,7 +9,7 @@ import operator
 import re
 from collections.abc import Iterable, Iterator, Sequence
 from dataclasses import dataclass, field
-from typing import Any, ClassVar, Generic, TypeVar, overload
+from typing import Any, ClassVar, Generic, TypeVar, Union, overload
 
 from .arguments import Window
 
@@ -240,6 +240,11 @@ class Look:
 
     LINES: ClassVar[int] = 6
 
+    @staticmethod
+    def begins(line: str) -> bool:
+        """Whether this line of a session is the first of what is shown."""
+        return line.startswith("element ")
+
     @classmethod
     def read(cls, lines: Sequence[str]) -> Look:
         if len(lines) < cls.LINES:
@@ -301,13 +306,44 @@ class View(Look):
         return [self.stage, self.machine, *super()._told()]
 
 
-Shown = TypeVar("Shown", bound=Look)
+@dataclass(frozen=True)
+class WalkView:
+    """A circuit on a walk: `place` is the input that the signal is about to enter (as `12.w`), or the output by which it has
+    left, where `has_left`; then the element `steps` and the numbers of the elements that are `turned`, whose bars differ from
+    those of the circuit with which the walk began, in rising order."""
+
+    place: str
+    has_left: bool
+    steps: int
+    turned: tuple[int, ...]
+    text: str = field(repr=False)
+
+    LINES: ClassVar[int] = 3
+    PLACE: ClassVar[re.Pattern[str]] = re.compile(r"(at|left) (\S+)")
+
+    @classmethod
+    def begins(cls, line: str) -> bool:
+        """Whether this line of a walk is the first of what is shown."""
+        return cls.PLACE.fullmatch(line) is not None
+
+    @classmethod
+    def read(cls, lines: Sequence[str]) -> WalkView:
+        place = matched(cls.PLACE.fullmatch(lines[0]), lines[0], "a place")
+        steps, turned = (line.split(" ")[1:] for line in lines[1:])
+        text = "".join(f"{line}\n" for line in lines)
+        return cls(place[2], place[1] == "left", int(steps[0]), tuple(map(int, turned)), text)
+
+    def _repr_html_(self) -> str:
+        return f"<p>{' &middot; '.join(map(html.escape, self.text.splitlines()))}</p>"
+
+
+Shown = TypeVar("Shown", bound=Union[Look, WalkView])
 
 
 @dataclass(frozen=True)
 class Session(Generic[Shown]):
-    """The answers to a script, one an entry: for `view` what is shown, a View, or a Look of a machine of quadruples;
-    else the line that was answered."""
+    """The answers to a script, one an entry: for `view` what is shown, a View, a Look of a machine of quadruples, or a
+    WalkView of a circuit; else the line that was answered."""
 
     answers: tuple[Shown | str, ...]
     text: str = field(default="", repr=False)
@@ -323,11 +359,11 @@ class Session(Generic[Shown]):
         ...
 
     @classmethod
-    def read(cls, text: str, kind: type[Look] = View) -> Session[Any]:
+    def read(cls, text: str, kind: type[Any] = View) -> Session[Any]:
         lines, at = text.splitlines(), 0
-        answers: list[Look | str] = []
+        answers: list[Look | WalkView | str] = []
         while at < len(lines):
-            if lines[at].startswith("element "):
+            if kind.begins(lines[at]):
                 answers.append(kind.read(lines[at : at + kind.LINES]))
                 at += kind.LINES
             else:
