@@ -17,7 +17,7 @@ from .cli_run import REFUSALS, answer, debugged
 from .cli_usage import fault_of, forms_shown, looks_exact
 from .faults import STOPPED, Stop
 from .forms import commands, is_exact, options, uses
-from .cli_help import exact_help, help_of, option_help, summary
+from .cli_help import exact_help, help_of, option_help, summary, topic_help, topics
 
 OWN = {"sweep": "hithwelor.sweep.command", "plot": "hithwelor.plot"}
 HELPING = ("--help", "-h", "help")
@@ -71,6 +71,8 @@ def help_for(names: list[str]) -> str:
         return summary(version())
     if names[0] == "exact":
         return exact_help()
+    if names[0] in topics():
+        return topic_help(names[0])
     if names[0] in OWN:
         return f"hithwelor {names[0]} --help prints its options\n"
     if names[0].lstrip("-") in options() and names[0] not in uses():

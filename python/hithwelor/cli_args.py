@@ -143,7 +143,7 @@ def matched(use: Use, names: list[str], given: list[str]) -> dict[str, list[str]
     if len(given) < least:
         missing = [it.strip("[].") for it in names if not it.startswith("[")][len(given)]
         raise Stop(
-            f"{use.command}: {missing} is missing: {meaning_of(use, missing)}{hint_of(missing)}", usage=use.command
+            f"{use.command}: {missing} is missing: {meaning_of(use, missing)}{hint_of(use, missing)}", usage=use.command
         )
     if len(given) > len(names) and not repeated:
         raise Stop(f"{use.command}: `{given[len(names)]}` is surplus", usage=use.command)
@@ -164,8 +164,11 @@ def meaning_of(use: Use, name: str) -> str:
     return MEANINGS.get(f"{use.command} {name}") or MEANINGS[name]
 
 
-def hint_of(missing: str) -> str:
-    hints = {"WORD": "; '' is the empty word", "SCRIPT": "; -i debugs without one"}
+def hint_of(use: Use, missing: str) -> str:
+    """What helps where an argument is missing."""
+    hints = {"WORD": "; '' is the empty word"}
+    if "interactive" in use.options:
+        hints["SCRIPT"] = "; -i debugs without one"
     return hints.get(missing, "")
 
 

@@ -88,11 +88,14 @@ def wrong_kind(use: Use, it: Input) -> Stop:
         remedy = "tables are CSV" if looks_like(it) else RECORDS.get(use.kind, "--as KIND says what it is")
         return Stop(f"{it.name}: {what}; {use.command} takes {wanted}", 3, remedy)
     fitting = [name for name, other in uses().items() if other.kind == it.kind]
-    fitting += [name for name in twins() if it.kind == "quadruples"]
+    fitting += [name for name in twins() if it.kind == "quadruples"] + (["inverse"] if it.kind == "quintuples" else [])
     circuit = "hithwelor session FILE WORD -i steps a machine forward and back; hithwelor compile FILE WORD prints its circuit"
     twin = {"reversible": "hithwelor bennett FILE | hithwelor reversible -", "step": circuit, "back": circuit}.get(
         use.command, ""
     )
+    of_quintuples = next((name for name, other in twins().items() if other == use.command), "")
+    if of_quintuples:
+        twin = f"hithwelor {of_quintuples} takes quintuples; hithwelor bennett FILE prints the quadruples of its reversible machine"
     remedy = (
         twin
         if it.kind == "quintuples" and twin
@@ -218,6 +221,14 @@ def circuit_line(found: re.Match[str], question: Question, cause: str, remedy: s
     return f"{it.name}, line {number}: {shown}{why}", remedy
 
 
+def script_line(found: re.Match[str], question: Question, cause: str, remedy: str) -> tuple[str, str]:
+    """A line of a script that is no command: the line as it is."""
+    lines = text_of((b"\n" + question.data).partition(b"\n%\n")[2]).split("\n")
+    number = int(found[1])
+    shown = f", `{lines[number - 1][:60]}`," if number <= len(lines) and lines[number - 1] else ""
+    return f"line {number} of the script{shown} is not a command", remedy
+
+
 def two_entries(found: re.Match[str], question: Question, cause: str, remedy: str) -> tuple[str, str]:
     """Two entries of a table that don't go together, printed with their lines."""
     it = table_of(found, question)
@@ -286,11 +297,11 @@ def letter(found: re.Match[str], question: Question, cause: str, remedy: str) ->
     letters = alphabet(question, tape)
     where = f"place {place} of the word" + (f" on tape {tape}" if found[2] else "")
     told = (
-        f"letter `{symbol}` ({where}) is the blank"
+        f"letter `{symbol}` ({where}) is the blank, which a word does not have; the letters are"
         if symbol == "_"
-        else f"letter `{symbol}` ({where}) is not in the table's alphabet"
+        else f"letter `{symbol}` ({where}) is not in the table's alphabet:"
     )
-    return f"{told}: {' '.join(letters)}", ""
+    return f"{told} {' '.join(letters)}", ""
 
 
 def alphabet(question: Question, tape: int) -> list[str]:
@@ -362,6 +373,7 @@ MORE: list[tuple[str, More]] = [
     (r"text: (second )?record (\d+) field (\d+) shift", shift),
     (r"text: (second )?record (\d+) field (\d+) (name|symbol|number)", one_field),
     (r"text: line (\d+) (.*)", circuit_line),
+    (r"text: script line (\d+) form", script_line),
     (r"machine: (second )?S[1-5](?: (\d+))?(?: (\d+))?", standard),
     (r"machine: halting (\d+)", halting),
     (r"machine: (?:second )?(?:domain|range|reads|writes|silent|initial|final) (\d+)(?: (\d+))?", two_entries),

@@ -44,6 +44,7 @@ def summary(version: str) -> str:
         "FILE is - for standard input; its kind is recognised by its content.",
         "",
         "  hithwelor help COMMAND   the usage, options, examples and exit statuses of a command",
+        f"  hithwelor help TOPIC     how files are written: {', '.join(topics())}",
         "  hithwelor help exact     the exact forms, which scripts use",
         "  hithwelor --version      the version",
         "",
@@ -142,6 +143,16 @@ def exact_help(command: str = "") -> str:
         "",
     ]
     return "\n".join(lines)
+
+
+def topics() -> list[str]:
+    """The forms of files that the help explains."""
+    return list(dict.fromkeys(name for name, _ in parts_of("topic")))
+
+
+def topic_help(name: str) -> str:
+    """How a file of one form is written."""
+    return "".join(wrapped(text[:1].upper() + text[1:], 2) + "\n" for topic, text in parts_of("topic") if topic == name)
 
 
 def option_help(name: str) -> str:

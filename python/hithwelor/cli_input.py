@@ -10,6 +10,7 @@ import difflib
 import io
 import os
 import re
+import shlex
 import sys
 from collections import Counter
 from dataclasses import dataclass, field
@@ -337,7 +338,7 @@ def convert_blank(it: Input, blank: str) -> None:
         raise Stop(
             f"{it.name}: the blank is `_` here, and the table has none; its letters are {' '.join(used)}",
             MACHINE,
-            f"name the letter that stands for the blank: --blank {likely}; where the blank isn't used, --blank _",
+            f"name the letter that stands for the blank: --blank {shlex.quote(likely)}; where the blank isn't used, --blank _",
         )
 
 

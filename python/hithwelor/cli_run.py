@@ -10,6 +10,7 @@ from dataclasses import dataclass, field
 
 from . import cli_errors, cli_input
 from .cli_args import Arguments, whole
+from .cli_errors import base
 from .cli_engine import Ask, Progress
 from .cli_input import Input, Wanted, open_input
 from .cli_json import as_json
@@ -272,6 +273,9 @@ def to_standard_form(it: Input, ask: Ask) -> None:
         raise Refusal(["standard"], made, table)
     demand = text.decode(errors="replace").strip().removeprefix("machine: ")
     it.notes.append(f"brought into standard form ({demand}) by `standard`: the machine starts on the first letter")
+    if not demand.startswith("S2"):
+        cause, remedy = base(f"machine: {demand}", "check")
+        it.notes.append(f"if it starts on the blank before the word, its fault is this: {cause}; {remedy}")
     it.data = with_names(table.decode(), it).encode()
 
 
