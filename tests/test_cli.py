@@ -38,7 +38,7 @@ def test_exact_arguments_are_those_that_the_program_takes(ask, pytestconfig):
     draw, number = draws(pytestconfig)
     for _ in range(20 * number):
         words = inputs.drawn_words(draw, draw.choice(commands()))
-        if draw.random() < 0.2:
+        if words and draw.random() < 0.2:
             words[draw.randrange(len(words))] = draw.choice(
                 ["", "=", "auto", "00", "1048577", str(2**62), "-1", ":a"]
             )

@@ -277,7 +277,7 @@ EXPLAINED = [
     ),
     (["step", "1"], b"", "is empty"),
     (["check"], b"\n\n", "blank lines alone"),
-    (["session", "=", "0", "2", "2", "1"], LEAST + b"%\ngo\n", "line 1 of the script is not a command"),
+    (["session", "=", "0", "2", "2", "1"], LEAST + b"%\ngo\n", "line 1 of the script, `go`, is not a command"),
     (["session", "=", "0", "2", "2", "1"], LEAST + b"%\nbreak a state S\n", "a state that the machine does not have"),
     (["session", "=", "0", "2", "2", "1"], LEAST + b"%\ndrop b\n", "a label that is not set"),
     (["erase"], LEAST, "no second table is given"),
