@@ -9,7 +9,7 @@ from sweeping import PACKAGES
 import hithwelor
 
 # What a reader doesn't call: what reads a text, and what a table has for its own calls.
-INNER = {"read", "beside", "with_script"}
+INNER = {"begins", "read", "beside", "with_script"}
 # The engines' own calls, and what their page names in words.
 WORDS = {"read_table", "version"}
 
