@@ -30,7 +30,13 @@ def through_the_package(shared_library, tmp_path_factory):
     """A script that answers by the package of Python through the shared library."""
     script = str(tmp_path_factory.mktemp("package") / "through-the-package")
     variables = f"PYTHONDONTWRITEBYTECODE=1 HITHWELOR_LIBRARY='{shared_library}' PYTHONPATH='{places.TOP}/python'"
-    places.write(script, f'#!/bin/sh\n{variables} exec {sys.executable} -m hithwelor "$@"\n', is_run=True)
+    # The arguments are taken as they are: the command of the package would guess what a refused form means.
+    code = (
+        "import sys; from hithwelor import answers; "
+        "status, text = answers.answer(sys.argv[1:], sys.stdin.buffer.read()); "
+        "sys.stdout.buffer.write(text); sys.exit(status)"
+    )
+    places.write(script, f"#!/bin/sh\n{variables} exec {sys.executable} -c '{code}' \"$@\"\n", is_run=True)
     return script
 
 
