@@ -14,10 +14,10 @@ use Rattle.bn_circuits.specs.declared.line.Wire.{Wire}
 use Rattle.bn_circuits.proofs.WiringsLemmas.{apart-IsOneToOne}
 use Rattle.bn_circuits.proofs.WireListLemmas.{line_tells}
 use Rattle.bn_rsm.specs.Machines.{Machine}
-use Rattle.bn_assembly.specs.Parts.{Part, IsPart, part_table}
-use Rattle.bn_assembly.specs.Laws.{AreParts}
-use Rattle.bn_assembly.proofs.PartLemmas.{part-reversible, part-square}
-use Rattle.bn_assembly.proofs.PlaceLemmas.{part-of, table-of, input_table}
+use Rattle.bn_mixed_networks.specs.Parts.{Part, IsPart, part_table}
+use Rattle.bn_mixed_networks.specs.Laws.{AreParts}
+use Rattle.bn_mixed_networks.proofs.PartLemmas.{part-reversible, part-square}
+use Rattle.bn_mixed_networks.proofs.PlaceLemmas.{part-of, table-of, input_table}
 use Rattle.bn_network_text.specs.Entries.{Port, ModuleLine}
 use Rattle.bn_network_text.specs.Saying.{said}
 use Rattle.bn_network_text.specs.Lines.{Page, IsPage}

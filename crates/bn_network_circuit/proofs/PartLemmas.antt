@@ -5,7 +5,7 @@ use Rattle.std.specs.Prelude.{option_map}
 use Rattle.std.proofs.Common.{zero, suc, arith, sym, ap, subst, ◌∙◌, inl, inr}
 use Rattle.std.proofs.lemmas.Bool.Decides.{eqb_tells, nat_tests}
 use Rattle.bn_rsm.specs.Machines.{Machine, machine_table, machine_table-IsReversible}
-use Rattle.bn_assembly.specs.Parts.{Part, Bank, IsPart, part_table}
+use Rattle.bn_mixed_networks.specs.Parts.{Part, Bank, IsPart, part_table}
 use Rattle.bn_network_text.specs.Entries.{ModuleLine}
 use Rattle.bn_network_text.specs.Faults.{head_fault, is_count, kind_fault, ports_of, state_fault}
 use Rattle.bn_network_text.specs.Networks.{module_of}

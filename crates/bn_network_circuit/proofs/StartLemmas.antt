@@ -11,8 +11,8 @@ use Rattle.bn_element.specs.Rotary.{horizontal, vertical}
 use Rattle.bn_realise.specs.Banks.{column_at, bottom_at}
 use Rattle.bn_realise.proofs.StartLemmas.{resting-IsResting}
 use Rattle.bn_realise.proofs.BankCrossingLemmas.{later_column}
-use Rattle.bn_assembly.specs.Parts.{Part, Bank, Single, part_table, part_size, part_bars, bars_of, base, size}
-use Rattle.bn_assembly.specs.Parts.{IsPartResting, input_place}
+use Rattle.bn_mixed_networks.specs.Parts.{Part, Bank, Single, part_table, part_size, part_bars, bars_of, base, size}
+use Rattle.bn_mixed_networks.specs.Parts.{IsPartResting, input_place}
 use Rattle.bn_network_circuit.specs.Realised.{parts_of, part_of, states_of, state_of, input_by}
 use Rattle.bn_network_circuit.specs.Laws.{StartsAreRepresented}
 

@@ -1,7 +1,7 @@
 -- The laws of this crate, each a named field. `Laws` is the contract of `network_circuit_laws`.
 use Rattle.std.specs.Prelude.{ℕ, List}
 use Rattle.bn_rsm.specs.Machines.{Machine}
-use Rattle.bn_assembly.specs.Parts.{Represents}
+use Rattle.bn_mixed_networks.specs.Parts.{Represents}
 use Rattle.bn_network_text.specs.Networks.{Drawing, Spells}
 use Rattle.bn_network_circuit.specs.Realised.{shapes_of, parts_of, network_start, circuit_start}
 use Rattle.bn_network_circuit.specs.Soundness.{AreTables, IsSound}

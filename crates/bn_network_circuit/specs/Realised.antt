@@ -12,7 +12,8 @@ use Rattle.bn_network_text.specs.Networks.{Drawing}
 use Rattle.bn_network_text.specs.declared.module.Module.{Module}
 use Rattle.bn_network_text.specs.declared.module.Module.TheVariants.{Machine as MachineModule, Rotary}
 use Rattle.bn_network_text.specs.declared.shape.Shape.{Shape}
-use Rattle.bn_assembly.specs.Parts.{Part, Bank, Single, IsAssemblyWire, bars_of, base, part_input, part_output, size}
+use Rattle.bn_mixed_networks.specs.Parts.{Part, Bank, Single, IsAssemblyWire, bars_of, base, part_input, part_output}
+use Rattle.bn_mixed_networks.specs.Parts.{size}
 
 -- the numbers of states and ports of these machines
 abbrev pub shape_of : Machine → Shape

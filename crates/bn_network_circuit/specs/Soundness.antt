@@ -3,8 +3,8 @@ use Rattle.std.specs.Prelude.{◌≡◌, ℕ, ◌<◌, ◌≤◌, List, length, 
 use Rattle.bn_base.specs.declared.limits.TheConstants.{MOST_COUNT}
 use Rattle.bn_circuits.specs.Circuits.{IsInputOf, IsOutputOf, target, source}
 use Rattle.bn_rsm.specs.Machines.{Machine}
-use Rattle.bn_assembly.specs.Parts.{network, part_table}
-use Rattle.bn_assembly.specs.Laws.{AreParts}
+use Rattle.bn_mixed_networks.specs.Parts.{network, part_table}
+use Rattle.bn_mixed_networks.specs.Laws.{AreParts}
 use Rattle.bn_network_text.specs.Networks.{Drawing}
 use Rattle.bn_network_text.specs.declared.module.Module.{Module}
 use Rattle.bn_network_text.specs.declared.module.TheConstants.{MOST_MODULES}

@@ -6,7 +6,7 @@ use Rattle.std.proofs.lemmas.Bool.{cases_lt}
 use Rattle.std.specs.Option.{option_map_or}
 use Rattle.bn_element.specs.Tables.{Table}
 use Rattle.bn_circuits.specs.Circuits.{inputs_of, outputs_of}
-use Rattle.bn_assembly.specs.Parts.{Part, part_table, part_size, base, size}
+use Rattle.bn_mixed_networks.specs.Parts.{Part, part_table, part_size, base, size}
 
 pub before-later : (ps : List Part) (m e : ℕ) (p : Part) → slice_get ps m ≡ Some p → m < e
     → base ps m + part_size p ≤ base ps e

@@ -16,15 +16,16 @@ use Rattle.bn_circuits.specs.declared.line.Wire.{Wire}
 use Rattle.bn_circuits.specs.declared.place.Place.TheVariants.{Enter}
 use Rattle.bn_circuits.specs.declared.config.Config.{Config}
 use Rattle.bn_circuits.specs.Situations.{Situation, Turns}
-use Rattle.bn_assembly.specs.Parts.{Part, IsPart, IsAssembly, IsAssemblyWire, own, between, Represents, network}
-use Rattle.bn_assembly.specs.Parts.{part_table}
-use Rattle.bn_assembly.specs.Parts.{part_size, part_input, part_output, part_cost, place_in, input_place, output_place}
-use Rattle.bn_assembly.specs.Parts.{IsPartResting, IsPartWire, move_cost, place_cost, base, size}
-use Rattle.bn_assembly.specs.Laws.{AreParts, OneMove, AssembliesFollow, no_move, move}
-use Rattle.bn_assembly.proofs.PartLemmas.{IsPartIn, HasMoved, part-reversible, part-square, part-output-in}
-use Rattle.bn_assembly.proofs.PartLemmas.{part-wire-within, part-wire-no_output, part-output-once, part-moves}
-use Rattle.bn_assembly.proofs.PartLemmas.{part-kept}
-use Rattle.bn_assembly.proofs.PlaceLemmas.{base-within, parts-beside, parts-apart, one-part, table-of, part-of}
+use Rattle.bn_mixed_networks.specs.Parts.{Part, IsPart, IsAssembly, IsAssemblyWire, own, between, Represents, network}
+use Rattle.bn_mixed_networks.specs.Parts.{part_table}
+use Rattle.bn_mixed_networks.specs.Parts.{part_size, part_input, part_output, part_cost, place_in, input_place}
+use Rattle.bn_mixed_networks.specs.Parts.{output_place}
+use Rattle.bn_mixed_networks.specs.Parts.{IsPartResting, IsPartWire, move_cost, place_cost, base, size}
+use Rattle.bn_mixed_networks.specs.Laws.{AreParts, OneMove, AssembliesFollow, no_move, move}
+use Rattle.bn_mixed_networks.proofs.PartLemmas.{IsPartIn, HasMoved, part-reversible, part-square, part-output-in}
+use Rattle.bn_mixed_networks.proofs.PartLemmas.{part-wire-within, part-wire-no_output, part-output-once, part-moves}
+use Rattle.bn_mixed_networks.proofs.PartLemmas.{part-kept}
+use Rattle.bn_mixed_networks.proofs.PlaceLemmas.{base-within, parts-beside, parts-apart, one-part, table-of, part-of}
 
 all_rotary : (n e : ℕ) → e < n → slice_get (replicate n rotary) e ≡ Some rotary
 all_rotary zero e h = absurd (omega arith)

@@ -15,14 +15,15 @@ use Rattle.bn_circuits.proofs.WireListLemmas.{line_tells}
 use Rattle.bn_circuits.specs.declared.line.Line.{Line}
 use Rattle.bn_circuits.specs.declared.line.Wire.{Wire}
 use Rattle.bn_realise.proofs.BankListsLemmas.{bank_list}
-use Rattle.bn_assembly.specs.Parts.{Part, Bank, Single, IsPart, IsAssemblyWire, own, between, part_table}
-use Rattle.bn_assembly.specs.Parts.{part_size, part_input, part_output, IsPartWire, base, size}
-use Rattle.bn_assembly.specs.Laws.{AreParts}
-use Rattle.bn_assembly.specs.Drawing.{IsOwnBelow, IsWiredBelow, IsMapped}
-use Rattle.bn_assembly.proofs.PartLemmas.{IsIn, part-square, part-input-in, part-output-in, part-wire-within}
-use Rattle.bn_assembly.proofs.PartLemmas.{part-wire-no_input, part-wire-no_output, part-input-once, part-output-once}
-use Rattle.bn_assembly.proofs.PlaceLemmas.{base-within, parts-apart, one-part, part-of, found, input_table}
-use Rattle.bn_assembly.proofs.PlaceLemmas.{output_table}
+use Rattle.bn_mixed_networks.specs.Parts.{Part, Bank, Single, IsPart, IsAssemblyWire, own, between, part_table}
+use Rattle.bn_mixed_networks.specs.Parts.{part_size, part_input, part_output, IsPartWire, base, size}
+use Rattle.bn_mixed_networks.specs.Laws.{AreParts}
+use Rattle.bn_mixed_networks.specs.Drawing.{IsOwnBelow, IsWiredBelow, IsMapped}
+use Rattle.bn_mixed_networks.proofs.PartLemmas.{IsIn, part-square, part-input-in, part-output-in, part-wire-within}
+use Rattle.bn_mixed_networks.proofs.PartLemmas.{part-wire-no_input, part-wire-no_output, part-input-once}
+use Rattle.bn_mixed_networks.proofs.PartLemmas.{part-output-once}
+use Rattle.bn_mixed_networks.proofs.PlaceLemmas.{base-within, parts-apart, one-part, part-of, found, input_table}
+use Rattle.bn_mixed_networks.proofs.PlaceLemmas.{output_table}
 
 -- ---- each wire of the network occurs once
 

@@ -6,10 +6,10 @@ use Rattle.bn_element.specs.Rotary.{rotary}
 use Rattle.bn_circuits.specs.Circuits.{Circuit}
 use Rattle.bn_circuits.proofs.WiringsLemmas.{apart-IsOneToOne, rotary-outputs, rotary-inputs}
 use Rattle.bn_element.specs.Reversible.{rotary-IsReversible}
-use Rattle.bn_assembly.specs.Parts.{size}
-use Rattle.bn_assembly.specs.Laws.{RealisationsAgree, EqualModulesBehaveAlike, AssembliesAreThere}
-use Rattle.bn_assembly.proofs.MovedLemmas.{follow}
-use Rattle.bn_assembly.proofs.WireLemmas.{all_wires, wire-within}
+use Rattle.bn_mixed_networks.specs.Parts.{size}
+use Rattle.bn_mixed_networks.specs.Laws.{RealisationsAgree, EqualModulesBehaveAlike, AssembliesAreThere}
+use Rattle.bn_mixed_networks.proofs.MovedLemmas.{follow}
+use Rattle.bn_mixed_networks.proofs.WireLemmas.{all_wires, wire-within}
 
 pub agree : RealisationsAgree
 agree ps qs ws same = ap (λ (ts : List Table). record { tables = ts; wires = ws }) same

@@ -1,6 +1,6 @@
-use Rattle.bn_assembly.proofs.MovedLemmas.{follow, one-move}
-use Rattle.bn_assembly.proofs.LawLemmas.{agree, alike, there}
-use Rattle.bn_assembly.proofs.laws.assembly_laws.Goals as goal
+use Rattle.bn_mixed_networks.proofs.MovedLemmas.{follow, one-move}
+use Rattle.bn_mixed_networks.proofs.LawLemmas.{agree, alike, there}
+use Rattle.bn_mixed_networks.proofs.laws.mixed_networks_laws.Goals as goal
 
 pub returns : goal.returns
 returns c = record {

@@ -19,8 +19,8 @@ use Rattle.bn_realise.specs.Banks.{IsBank, IsBankEntering, IsResting, IsBesideBa
 use Rattle.bn_realise.specs.Banks.{moved, mark_after, states_after, exit_after}
 use Rattle.bn_realise.proofs.BankCrossingLemmas.{later_column, bank_crosses, moved-IsResting, moved-beside}
 use Rattle.bn_realise.proofs.BankWiresLemmas.{bank_wire-IsWithinLines, bank_wire-no_input, output-no_wire}
-use Rattle.bn_assembly.specs.Parts.{Part, Bank, Single, IsPart, part_table, part_size, part_input, part_output}
-use Rattle.bn_assembly.specs.Parts.{IsPartWire, IsPartResting, part_cost}
+use Rattle.bn_mixed_networks.specs.Parts.{Part, Bank, Single, IsPart, part_table, part_size, part_input, part_output}
+use Rattle.bn_mixed_networks.specs.Parts.{IsPartWire, IsPartResting, part_cost}
 
 -- ---- the table of a part
 

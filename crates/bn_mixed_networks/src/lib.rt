@@ -3,4 +3,4 @@
 
 mod laws;
 
-pub use laws::assembly_laws;
+pub use laws::mixed_networks_laws;

@@ -1,4 +1,4 @@
--- The laws of this crate, each a named field. `Laws` is the contract of `assembly_laws`.
+-- The laws of this crate, each a named field. `Laws` is the contract of `mixed_networks_laws`.
 use Rattle.std.specs.Prelude.{◌≡◌, ℕ, zero, suc, ◌+◌, ◌≤◌, List, map, Some, slice_get}
 use Rattle.bn_lists.specs.Runs.{Reaches}
 use Rattle.bn_circuits.specs.Circuits.{Circuit, IsCircuit, clock, Goes}
@@ -6,7 +6,7 @@ use Rattle.bn_circuits.specs.Wirings.{AreApart}
 use Rattle.bn_circuits.specs.declared.line.Wire.{Wire}
 use Rattle.bn_circuits.specs.declared.config.Config.{Config}
 use Rattle.bn_circuits.specs.Situations.{Situation, Turns}
-use Rattle.bn_assembly.specs.Parts.{Part, IsPart, IsAssembly, Represents, network, part_table, move_cost}
+use Rattle.bn_mixed_networks.specs.Parts.{Part, IsPart, IsAssembly, Represents, network, part_table, move_cost}
 
 -- parts of a network: each can be a module, and the wires, each of which occurs once, lead one to one between their
 -- ports

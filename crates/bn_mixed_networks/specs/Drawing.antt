@@ -3,7 +3,7 @@
 use Rattle.std.specs.Prelude.{◌≡◌, ℕ, ◌<◌, List, length, Some, slice_get, ◌⊎◌}
 use Rattle.bn_circuits.specs.declared.line.Line.{Line}
 use Rattle.bn_circuits.specs.declared.line.Wire.{Wire}
-use Rattle.bn_assembly.specs.Parts.{Part, IsPartWire, base, part_input, part_output}
+use Rattle.bn_mixed_networks.specs.Parts.{Part, IsPartWire, base, part_input, part_output}
 
 -- an own wire of one of the first parts
 pub record IsOwnBelow (ps : List Part) (c : ℕ) (from to : Line) : Type 0 where
